@@ -1,0 +1,12 @@
+pub mod Lists
+pub mod Order
+pub mod Sorting
+pub mod Rank
+pub mod Layers
+pub mod Undamaged
+pub mod Paths
+pub mod Children
+pub mod Groups
+pub mod Insert
+pub mod Words
+pub mod Tables
