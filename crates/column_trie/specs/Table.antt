@@ -1,0 +1,101 @@
+-- A table in the pool: its header, the layers that its words hold, and when it is undamaged.
+use Prim.Native.Nat.{ℕ, _+_, _*_, _-_, _≤_, _<_}
+use mathlib.Core.Path.{_≡_}
+use mathlib.Core.Bool.{Bool, _&&_, _||_}
+use mathlib.Core.List.{List, _++_, map}
+use lib.ListN.{length, take, getD, replicate}
+use lib.Dec.{ltb, leb, eqb}
+use Rattle.relation.specs.Tests.{every}
+use Rattle.relation.specs.Order.{Row}
+use Rattle.relation.specs.Layers.{Layer, layersOf}
+use Rattle.relation.specs.Undamaged as layers
+use Rattle.relation.specs.Paths.{rowsOf}
+use Rattle.column_trie.specs.Limits.{maxArity, maxCapacity}
+use Rattle.column_trie.specs.Pool.{reads}
+use Rattle.column_trie.specs.declared.ColumnTrie.{ColumnTrie}
+
+-- a header's two lengths at depth d
+abbrev pub dataLen : ColumnTrie → ℕ → ℕ
+dataLen t d = getD (t .«data_len») d 0
+
+abbrev pub intervalLen : ColumnTrie → ℕ → ℕ
+intervalLen t d = getD (t .«interval_len») d 0
+
+-- one length for each depth, 0 past the last
+abbrev pub padded : List ℕ → List ℕ
+padded ns = ns ++ replicate (maxArity - length ns) 0
+
+-- the header of a table that holds these layers and this many rows
+abbrev pub header : ℕ → ℕ → ℕ → List Layer → ℕ → ColumnTrie
+header start arity capacity ls count =
+    record {
+      start = start;
+      arity = arity;
+      capacity = capacity;
+      «data_len» = padded (map (λ l. length (l .keys)) ls);
+      «interval_len» = padded (map (λ l. length (l .intervals)) ls);
+      «tuple_count» = count;
+    }
+
+-- of a table that holds the layers of these rows
+abbrev pub tableOf : ℕ → ℕ → ℕ → List Row → ColumnTrie
+tableOf start arity capacity rows = header start arity capacity (layersOf arity rows) (length rows)
+
+abbrev pub emptyTable : ℕ → ℕ → ℕ → ColumnTrie
+emptyTable start arity capacity =
+    record {
+      start = start;
+      arity = arity;
+      capacity = capacity;
+      «data_len» = replicate maxArity 0;
+      «interval_len» = replicate maxArity 0;
+      «tuple_count» = 0;
+    }
+
+-- the layers of a table in the pool, as long as its header says, and the rows that they hold
+abbrev pub layersIn : List ℕ → ColumnTrie → List Layer
+layersIn pool t = reads (t .start) (t .capacity) (take (t .arity) (t .«data_len»)) (take (t .arity) (t .«interval_len»)) pool
+
+abbrev pub rowsIn : List ℕ → ColumnTrie → List Row
+rowsIn pool t = rowsOf (layersIn pool t)
+
+-- ---- undamaged, as a record and as a test
+
+pub record Undamaged (pool : List ℕ) (t : ColumnTrie) : Type 0 where
+  -- "it fits limits and pool, no length exceeds c, those past the arity are 0, and the count is the last layer's data length"
+  pub arity : (0 < t .arity) × (t .arity ≤ maxArity)
+  pub capacity : (0 < t .capacity) × (t .capacity ≤ maxCapacity)
+  pub fits : t .start + 2 * t .arity * t .capacity ≤ length pool
+  pub within : (d : ℕ) → d < maxArity → (dataLen t d ≤ t .capacity) × (intervalLen t d ≤ t .capacity)
+  pub past : (d : ℕ) → t .arity ≤ d → d < maxArity → (dataLen t d ≡ 0) × (intervalLen t d ≡ 0)
+  -- the count, the two shapes, and the order of intervals and keys
+  pub layers : layers.Undamaged (t .arity) (t .capacity) (layersIn pool t) (t .«tuple_count»)
+
+abbrev pub arityOk : ℕ → Bool
+arityOk arity = ltb 0 arity && leb arity maxArity
+
+abbrev pub capacityOk : ℕ → Bool
+capacityOk capacity = ltb 0 capacity && leb capacity maxCapacity
+
+-- the 2ac words from the start lie in a pool of len words
+abbrev pub liesIn : ℕ → ℕ → ℕ → ℕ → Bool
+liesIn len start arity capacity = leb (start + 2 * arity * capacity) len
+
+-- no length exceeds the capacity
+abbrev pub withinAt : ColumnTrie → ℕ → Bool
+withinAt t d = leb (dataLen t d) (t .capacity) && leb (intervalLen t d) (t .capacity)
+
+-- what a cursor asks of a header: arity, capacity, pool range and lengths
+abbrev pub headerSound : ℕ → ColumnTrie → Bool
+headerSound len t = arityOk (t .arity) && (capacityOk (t .capacity) && (liesIn len (t .start) (t .arity) (t .capacity) && every maxArity (withinAt t)))
+
+-- no length past the arity
+abbrev pub pastAt : ColumnTrie → ℕ → Bool
+pastAt t d = ltb d (t .arity) || (eqb (dataLen t d) 0 && eqb (intervalLen t d) 0)
+
+-- interval i is the place j
+abbrev pub startsGroup : List ℕ → ℕ → ℕ → Bool
+startsGroup ints i j = ltb i (length ints) && eqb (getD ints i 0) j
+
+unfoldable pub undamaged : List ℕ → ColumnTrie → Bool
+undamaged pool t = headerSound (length pool) t && (every maxArity (pastAt t) && layers.undamaged (t .arity) (t .capacity) (layersIn pool t) (t .«tuple_count»))

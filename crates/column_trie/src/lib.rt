@@ -1,0 +1,136 @@
+// A table's header, and the check that a table in the pool is undamaged.
+ghost use mathlib.Core.Path.{_≡_};
+ghost use mathlib.Core.Bool.{true};
+ghost use Prim.Native.Nat.{_+_, _*_, _≤_, _<_, _^_};
+ghost use lib.ListN.{length};
+ghost use Rattle.relation.specs.Tests.{every};
+ghost use Rattle.relation.specs.Undamaged.{sound};
+ghost use Rattle.column_trie.specs.Limits.{maxArity};
+ghost use Rattle.column_trie.specs.Pool.{spot};
+ghost use Rattle.column_trie.specs.Table.{emptyTable, arityOk, capacityOk, liesIn, withinAt, headerSound, pastAt, startsGroup, undamaged};
+
+pub struct ColumnTrie {
+    pub start: usize,
+    pub arity: usize,
+    pub capacity: usize,
+    pub data_len: [usize; ColumnTrie::MAX_ARITY],
+    pub interval_len: [usize; ColumnTrie::MAX_ARITY],
+    pub tuple_count: usize,
+}
+
+impl ColumnTrie {
+    pub const MAX_ARITY: usize = 8;
+
+    pub const MAX_CAPACITY: usize = 4096;
+
+    // The header of a table without rows.
+    pub fn empty(start: usize, arity: usize, capacity: usize) -> Self
+        ensures { λ r. ⌜ r ≡ emptyTable start arity capacity ⌝ }
+    {
+        Self {
+            start,
+            arity,
+            capacity,
+            data_len: [0usize; ColumnTrie::MAX_ARITY],
+            interval_len: [0usize; ColumnTrie::MAX_ARITY],
+            tuple_count: 0,
+        }
+    }
+}
+
+pub fn arity_ok(arity: usize) -> bool
+    ensures { λ r. ⌜ r ≡ arityOk arity ⌝ }
+{
+    0 < arity && arity <= ColumnTrie::MAX_ARITY
+}
+
+pub fn capacity_ok(capacity: usize) -> bool
+    ensures { λ r. ⌜ r ≡ capacityOk capacity ⌝ }
+{
+    0 < capacity && capacity <= ColumnTrie::MAX_CAPACITY
+}
+
+// Whether the table's words lie in a pool of `len` words. Asked without forming the table's end, which could wrap.
+pub fn lies_in(len: usize, start: usize, arity: usize, capacity: usize) -> bool
+    requires { ⌜ (arityOk arity ≡ true) × (capacityOk capacity ≡ true) ⌝ }
+    ensures { λ r. ⌜ r ≡ liesIn len start arity capacity ⌝ }
+{
+    start <= len && 2 * arity * capacity <= len - start
+}
+
+// No length exceeds the capacity.
+fn lengths_within(t: ColumnTrie) -> bool
+    ensures { λ r. ⌜ r ≡ every maxArity (withinAt t) ⌝ }
+{
+    let mut d = 0;
+    while d < ColumnTrie::MAX_ARITY {
+        if t.capacity < t.data_len[d] || t.capacity < t.interval_len[d] {
+            return false;
+        }
+        d += 1;
+    }
+    true
+}
+
+// Past the arity both lengths are 0.
+fn past_arity(t: ColumnTrie) -> bool
+    ensures { λ r. ⌜ r ≡ every maxArity (pastAt t) ⌝ }
+{
+    let mut d = t.arity;
+    while d < ColumnTrie::MAX_ARITY {
+        if t.data_len[d] != 0 || t.interval_len[d] != 0 {
+            return false;
+        }
+        d += 1;
+    }
+    true
+}
+
+// What a cursor asks of a header, of a pool of `len` words.
+pub fn header_sound(len: usize, t: ColumnTrie) -> bool
+    ensures { λ r. ⌜ r ≡ headerSound len t ⌝ }
+{
+    if !arity_ok(t.arity) {
+        return false;
+    }
+    if !capacity_ok(t.capacity) {
+        return false;
+    }
+    if !lies_in(len, t.start, t.arity, t.capacity) {
+        return false;
+    }
+    lengths_within(t)
+}
+
+// Whether interval i is where the key at place j stands: a group starts there.
+fn starts_group(interval: &[u64], i: usize, j: usize) -> bool
+    ensures { λ r. ⌜ r ≡ startsGroup (now (interval .entry)) i j ⌝ }
+{
+    i < interval.len() && interval[i] == j as u64
+}
+
+// One walk over a layer's keys: each starts a group or is above the key before it, and every interval is met on the way.
+fn layer_sound(interval: &[u64], data: &[u64]) -> bool
+    ensures { λ r. ⌜ r ≡ sound (now (interval .entry)) (now («data» .entry)) ⌝ }
+{
+    if data.len() == 0 {
+        return interval.len() == 0;
+    }
+    if !starts_group(interval, 0, 0) {
+        return false;
+    }
+    let mut i = 1;
+    let mut j = 1;
+    while j < data.len() {
+        if starts_group(interval, i, j) {
+            i += 1;
+            j += 1;
+        } else {
+            if data[j] <= data[j - 1] {
+                return false;
+            }
+            j += 1;
+        }
+    }
+    i == interval.len()
+}
