@@ -1,3 +1,5 @@
+pub mod Damage
 pub mod Header
+pub mod Layers
 pub mod Pool
 mod Walks

@@ -3,7 +3,7 @@ use Prim.Native.Nat.{ℕ, _+_, _*_, _-_, _≤_, _<_}
 use mathlib.Core.Path.{_≡_}
 use mathlib.Core.Bool.{Bool, _&&_, _||_}
 use mathlib.Core.List.{List, _++_, map}
-use lib.ListN.{length, take, getD, replicate}
+use lib.ListN.{length, take, drop, getD, replicate}
 use lib.Dec.{ltb, leb, eqb}
 use Rattle.relation.specs.Tests.{every}
 use Rattle.relation.specs.Order.{Row}
@@ -11,7 +11,7 @@ use Rattle.relation.specs.Layers.{Layer, layersOf}
 use Rattle.relation.specs.Undamaged as layers
 use Rattle.relation.specs.Paths.{rowsOf}
 use Rattle.column_trie.specs.Limits.{maxArity, maxCapacity}
-use Rattle.column_trie.specs.Pool.{reads}
+use Rattle.column_trie.specs.Pool.{spot, reads}
 use Rattle.column_trie.specs.declared.ColumnTrie.{ColumnTrie}
 
 -- a header's two lengths at depth d
@@ -56,6 +56,14 @@ emptyTable start arity capacity =
 abbrev pub layersIn : List ℕ → ColumnTrie → List Layer
 layersIn pool t = reads (t .start) (t .capacity) (take (t .arity) (t .«data_len»)) (take (t .arity) (t .«interval_len»)) pool
 
+-- the layer at one depth
+abbrev pub layerIn : List ℕ → ColumnTrie → ℕ → Layer
+layerIn pool t d =
+    record {
+      keys = take (dataLen t d) (drop (spot (t .start) (t .capacity) d) pool);
+      intervals = take (intervalLen t d) (drop (spot (t .start) (t .capacity) d + t .capacity) pool);
+    }
+
 abbrev pub rowsIn : List ℕ → ColumnTrie → List Row
 rowsIn pool t = rowsOf (layersIn pool t)
 
@@ -97,5 +105,6 @@ pastAt t d = ltb d (t .arity) || (eqb (dataLen t d) 0 && eqb (intervalLen t d) 0
 abbrev pub startsGroup : List ℕ → ℕ → ℕ → Bool
 startsGroup ints i j = ltb i (length ints) && eqb (getD ints i 0) j
 
+-- the header's tests, then those of the layers that it describes
 unfoldable pub undamaged : List ℕ → ColumnTrie → Bool
 undamaged pool t = headerSound (length pool) t && (every maxArity (pastAt t) && layers.undamaged (t .arity) (t .capacity) (layersIn pool t) (t .«tuple_count»))

@@ -1,13 +1,13 @@
 // A table's header, and the check that a table in the pool is undamaged.
 ghost use mathlib.Core.Path.{_≡_};
-ghost use mathlib.Core.Bool.{true};
+ghost use mathlib.Core.Bool.{true, _||_};
 ghost use Prim.Native.Nat.{_+_, _*_, _≤_, _<_, _^_};
 ghost use lib.ListN.{length};
 ghost use Rattle.relation.specs.Tests.{every};
-ghost use Rattle.relation.specs.Undamaged.{sound};
-ghost use Rattle.column_trie.specs.Limits.{maxArity};
+ghost use Rattle.relation.specs.Undamaged.{sound, chain, linked};
+ghost use Rattle.column_trie.specs.Limits.{maxArity, maxCapacity};
 ghost use Rattle.column_trie.specs.Pool.{spot};
-ghost use Rattle.column_trie.specs.Table.{emptyTable, arityOk, capacityOk, liesIn, withinAt, headerSound, pastAt, startsGroup, undamaged};
+ghost use Rattle.column_trie.specs.Table.{emptyTable, arityOk, capacityOk, liesIn, withinAt, headerSound, pastAt, startsGroup, layersIn, layerIn, undamaged};
 
 pub struct ColumnTrie {
     pub start: usize,
@@ -133,4 +133,64 @@ fn layer_sound(interval: &[u64], data: &[u64]) -> bool
         }
     }
     i == interval.len()
+}
+
+// Where the data of layer d starts; its intervals start `capacity` words further.
+pub fn layer_at(t: ColumnTrie, d: usize) -> usize
+    requires { ⌜ (t .start < 2 ^ 62) × (t .capacity ≤ maxCapacity) × (d < maxArity) ⌝ }
+    ensures { λ r. ⌜ r ≡ spot (t .start) (t .capacity) d ⌝ }
+{
+    t.start + 2 * t.capacity * d
+}
+
+// Whether layer d has `above` intervals, one for each key above it, and is sound.
+fn layer_linked(pool: &[u64], t: ColumnTrie, d: usize, above: usize) -> bool
+    requires { ⌜ (headerSound (length (now pool)) t ≡ true) × (d < t .arity) ⌝ }
+    ensures { λ r. ⌜ r ≡ linked above (layerIn (now (pool .entry)) t d) ⌝ }
+{
+    if t.interval_len[d] != above {
+        return false;
+    }
+    let data_from = layer_at(t, d);
+    let data_to = data_from + t.data_len[d];
+    let interval_from = data_from + t.capacity;
+    let interval_to = interval_from + t.interval_len[d];
+    layer_sound(&pool[interval_from..interval_to], &pool[data_from..data_to])
+}
+
+// Layer 0 has one interval, or none in a table without keys; each lower layer has one for each key above.
+fn layers_linked(pool: &[u64], t: ColumnTrie) -> bool
+    requires { ⌜ headerSound (length (now pool)) t ≡ true ⌝ }
+    ensures { λ r. ⌜ r ≡ (chain 0 (layersIn (now (pool .entry)) t) || chain 1 (layersIn (now (pool .entry)) t)) ⌝ }
+{
+    let mut above = 1;
+    if t.data_len[0] == 0 {
+        above = 0;
+    }
+    let mut d = 0;
+    while d < t.arity {
+        if !layer_linked(pool, t, d, above) {
+            return false;
+        }
+        above = t.data_len[d];
+        d += 1;
+    }
+    true
+}
+
+// Whether the table is undamaged. It reads the table's used words once each, and nothing else of the pool.
+pub fn undamaged(pool: &[u64], t: ColumnTrie) -> bool
+    ensures { λ r. ⌜ r ≡ undamaged (now (pool .entry)) t ⌝ }
+{
+    if !header_sound(pool.len(), t) {
+        return false;
+    }
+    if !past_arity(t) {
+        return false;
+    }
+    let last = t.arity - 1;
+    if t.tuple_count != t.data_len[last] {
+        return false;
+    }
+    layers_linked(pool, t)
 }

@@ -12,7 +12,7 @@ use native.Mathlib.Nat.{le-of-eq}
 use lib.Seq.{drop-cons}
 use Rattle.relation.specs.Order.{pick}
 use Rattle.relation.specs.Layers.{Layer, layer}
-use Rattle.relation.specs.Undamaged.{Ordered, Undamaged, walk, sound, chain, rooms, undamaged}
+use Rattle.relation.specs.Undamaged.{linked, Ordered, Undamaged, walk, sound, chain, rooms, undamaged}
 use Rattle.relation.proofs.Order.{pick-true, pick-false, test}
 
 pub data Walk : ℕ → ℕ → List ℕ → List ℕ → Type 0 where
@@ -287,9 +287,9 @@ pub chain→ : (n : ℕ) (ls : List Layer) → T (chain n ls) → Chain n ls
 unfolding chain
 chain→ n [] t = cend
 chain→ n (l ∷ ls) t =
-    let v = both (eqb (length (l .intervals)) n) (sound (l .intervals) (l .keys) && chain (length (l .keys)) ls) t in
-    let w = both (sound (l .intervals) (l .keys)) (chain (length (l .keys)) ls) (v .1) in
-    cnext (eqb→eq (length (l .intervals)) n (v .0)) (sound→ (l .intervals) (l .keys) (w .0)) (chain→ (length (l .keys)) ls (w .1))
+    let v = both (linked n l) (chain (length (l .keys)) ls) t in
+    let w = both (eqb (length (l .intervals)) n) (sound (l .intervals) (l .keys)) (v .0) in
+    cnext (eqb→eq (length (l .intervals)) n (w .0)) (sound→ (l .intervals) (l .keys) (w .1)) (chain→ (length (l .keys)) ls (v .1))
 
 pub eq→eqb : (m n : ℕ) → m ≡ n → T (eqb m n)
 eq→eqb m n e = subst (λ (z : ℕ). T (eqb m z)) e (eqb-refl m)
@@ -298,8 +298,7 @@ pub →chain : {n : ℕ} {ls : List Layer} → Chain n ls → T (chain n ls)
 unfolding chain
 →chain cend = tt
 →chain (cnext {n} {l} {ls} e s c) =
-    both-and (eqb (length (l .intervals)) n) (sound (l .intervals) (l .keys) && chain (length (l .keys)) ls) (eq→eqb (length (l .intervals)) n e)
-    (both-and (sound (l .intervals) (l .keys)) (chain (length (l .keys)) ls) (→sound s) (→chain c))
+    both-and (linked n l) (chain (length (l .keys)) ls) (both-and (eqb (length (l .intervals)) n) (sound (l .intervals) (l .keys)) (eq→eqb (length (l .intervals)) n e) (→sound s)) (→chain c)
 
 pub rooms→ : (c : ℕ) (ls : List Layer) → T (rooms c ls) → (d : ℕ) → d < length ls → (length (layer ls d .keys) ≤ c) × (length (layer ls d .intervals) ≤ c)
 unfolding rooms

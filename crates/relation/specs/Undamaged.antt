@@ -41,10 +41,15 @@ sound [] (k ∷ ks) = false
 sound (s ∷ ss) [] = false
 sound (s ∷ ss) (k ∷ ks) = eqb s 0 && walk 1 k ss ks
 
+-- a layer under n keys: an interval for each of them, and sound
+abbrev pub linked : ℕ → Layer → Bool
+linked n l = eqb (length (l .intervals)) n && sound (l .intervals) (l .keys)
+
+-- layers that hang together, n keys above the first
 unfoldable pub chain : ℕ → List Layer → Bool
 unfolding sound
 chain n [] = true
-chain n (l ∷ ls) = eqb (length (l .intervals)) n && (sound (l .intervals) (l .keys) && chain (length (l .keys)) ls)
+chain n (l ∷ ls) = linked n l && chain (length (l .keys)) ls
 
 unfoldable pub rooms : ℕ → List Layer → Bool
 rooms c [] = true
