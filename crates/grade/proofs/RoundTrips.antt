@@ -1,6 +1,6 @@
 -- A grade and its word: each is had back from the other, over the whole signed range and over every word, so no two grades share a word.
 -- Callers need these laws and the names `wordOf` and `gradeOf`, and nothing of how a word is made.
-use Prim.Native.Nat.{ℕ, suc, _-_, _^_, _≤_, _<_}
+use Prim.Native.Nat.{ℕ, suc, _-_, _^_, _<_}
 use mathlib.Core.Path.{_≡_, refl, sym, ap, _∙_}
 use mathlib.Core.Bool.{Bool, true, false}
 use native.Mathlib.Omega.{arith}
@@ -10,7 +10,7 @@ use lib.IntN.{ℤ, pos, negsuc}
 use mir.Syntax.{w64}
 use mir.Val.{Fits, SFits}
 use Rattle.grade.specs.Word.{wordOf, gradeOf}
-use Rattle.grade.proofs.Twos.{low-half, high-half}
+use Rattle.grade.proofs.Halves.{low-half, high-half}
 
 -- a grade's word is a word ..
 pub word-fits : (g : ℤ) → SFits w64 g → Fits w64 (wordOf g)

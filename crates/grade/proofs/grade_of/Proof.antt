@@ -2,7 +2,8 @@
 use Prim.Native.Nat.{suc, _-_, _<_, _≤_, _^_}
 use mathlib.Core.Path.{_≡_, sym, ap, _∙_}
 use lib.IntN.{negsuc}
-use Rattle.grade.proofs.Twos.{low-half, high-half, up-fits, up-back}
+use Rattle.grade.proofs.Mirror.{up-fits, up-back}
+use Rattle.grade.proofs.Halves.{low-half, high-half}
 use native.Mathlib.Omega.{arith}
 use mir.Syntax.{w64}
 use mir.Facts.{toZ-pos}
