@@ -51,15 +51,16 @@ fn report(label: &[u8], strategy: SeekStrategy, column: &[u64], target: u64) {
     let found = seek::partition_point(strategy, column, target);
     let offset = found.offset;
     text(label);
+    text(b"probes ");
     number(found.probes as u64);
-    text(b" probes, to ");
+    text(b", ");
     if offset < column.len() {
-        text(b"offset ");
+        text(b"at offset ");
         number(offset as u64);
         text(b": ");
         key(column[offset]);
     } else {
-        text(b"the end: no band reaches that far");
+        text(b"at the end: no band reaches that far");
     }
     text(b"\n");
 }
