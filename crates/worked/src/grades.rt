@@ -1,5 +1,5 @@
 // The grades: zero, minus one and both ends of the signed range, both ways.
-use crate::print::number;
+use crate::print::labelled;
 use crate::print::signed;
 use crate::print::text;
 use crate::print::verdict;
@@ -8,18 +8,15 @@ fn word(grade: i64, expected: u64) {
     let came = grade::word_of(grade);
     text(b"word of grade ");
     signed(grade);
-    text(b": ");
-    number(came);
-    text(b" (expected ");
-    number(expected);
+    labelled(b": ", came);
+    labelled(b" (expected ", expected);
     text(b")");
     verdict(came == expected);
 }
 
 fn grade(word: u64, expected: i64) {
     let came = grade::grade_of(word);
-    text(b"grade of word ");
-    number(word);
+    labelled(b"grade of word ", word);
     text(b": ");
     signed(came);
     text(b" (expected ");

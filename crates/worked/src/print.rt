@@ -9,6 +9,12 @@ pub fn number(n: u64) {
     io::print_decimal(STDOUT_FILENO, n);
 }
 
+// Words, and a number behind them.
+pub fn labelled(words: &[u8], n: u64) {
+    text(words);
+    number(n);
+}
+
 pub fn signed(n: i64) {
     if n >= 0 {
         number(n as u64);
