@@ -1,8 +1,8 @@
 // Seeks the first key that is not below a target in a run of words: the port of kermit-ds/src/seek.rs of the Rust.
 //
 // The public call is `partition_point`. For any run and any target its answer is the one that the rules of specs/Seek.antt give, offset
-// and probes. On a run whose keys don't fall the offset is the number of keys below the target, under each of the three strategies, and
-// the probes stay within bounds: proofs/Laws.antt has these laws. Nothing is asked of the run, and it is only read.
+// and probes. On a run whose keys don't fall the offset is the number of keys below the target, under each of the three strategies. On
+// any run the probes stay within the strategy's bound. proofs/Laws.antt has these laws. Nothing is asked of the run, and it is only read.
 //
 // The Rust's type parameter is an enum here, so that no fourth strategy can be passed. Its test on a key is the comparison with the
 // target. Its library search is the halving rule of `halve`, which is ours, and the count of probes is ours too.
