@@ -1,20 +1,14 @@
-use Prim.Native.Nat.{ℕ, _+_, _-_, suc}
-use mathlib.Core.Path.{_≡_, refl}
+-- The word of a grade and the grade of a word.
+use Prim.Native.Nat.{ℕ, suc, _-_, _^_}
+use mathlib.Core.Bool.{true, false}
+use lib.Dec.{ltb}
 use lib.IntN.{ℤ, pos, negsuc}
 
--- two's complement, 64 bits. `negsuc n` is -(n + 1)
-abbrev pub wordOf : ℤ → ℕ
+-- the number itself from 0 up, and 2^64 plus the number below 0; `negsuc n` is the number -(n + 1)
+unfoldable pub wordOf : ℤ → ℕ
 wordOf (pos n) = n
-wordOf (negsuc n) = 18446744073709551616 - suc n
+wordOf (negsuc n) = 2 ^ 64 - suc n
 
-at-zero : wordOf (pos 0) ≡ 0
-at-zero = refl
-
-at-minus-one : wordOf (negsuc 0) ≡ 18446744073709551615
-at-minus-one = refl
-
-at-least : wordOf (negsuc 9223372036854775807) ≡ 9223372036854775808
-at-least = refl
-
-at-most : wordOf (pos 9223372036854775807) ≡ 9223372036854775807
-at-most = refl
+-- the reverse: a word of the lower half is the number itself, any other is the number plus 2^64
+unfoldable pub gradeOf : ℕ → ℤ
+gradeOf w = elim (ltb w (2 ^ 63)) [ true ↦ pos w | false ↦ negsuc (2 ^ 64 - suc w) ]

@@ -1,8 +1,7 @@
 -- The rules of seeking, executable, for any run.
--- Assumes nothing.
 use Prim.Native.Nat.{ℕ, zero, suc, _+_, _-_, _*_, _/_, min}
 use mathlib.Core.List.{List, [], _∷_}
-use mathlib.Core.Bool.{Bool, true, false}
+use mathlib.Core.Bool.{true, false}
 use lib.ListN.{length, getD}
 use lib.Dec.{ltb}
 use Rattle.seek.specs.declared.Sought.{Sought}

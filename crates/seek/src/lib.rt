@@ -1,10 +1,17 @@
-// Seeks the first key that is not below a target in a run of words, by one of three strategies that count their probes.
+// Seeks the first key that is not below a target in a run of words: the port of kermit-ds/src/seek.rs of the Rust.
+//
+// The public call is `partition_point`. For any run and any target its answer is the one that the rules of specs/Seek.antt give, offset
+// and probes. On a run whose keys don't fall the offset is the number of keys below the target, under each of the three strategies. On
+// any run the probes stay within the strategy's bound. proofs/Laws.antt has these laws. Nothing is asked of the run, and it is only read.
+//
+// The Rust's type parameter is an enum here, so that no fourth strategy can be passed. Its test on a key is the comparison with the
+// target. Its library search is the halving rule of `halve`, which is ours, and the count of probes is ours too.
 ghost use mathlib.Core.Path.{_≡_};
 ghost use Prim.Native.Nat.{_≤_, _^_};
 ghost use lib.ListN.{length};
 ghost use Rattle.seek.specs.Seek.{halving, linearOf, binaryOf, gallopingOf, seekOf};
 
-// How the run is probed.
+// How the run is probed: key by key from the front, by halves, or at doubling distances and then by halves.
 pub enum SeekStrategy {
     Linear,
     Binary,
@@ -17,7 +24,8 @@ pub struct Sought {
     pub probes: usize,
 }
 
-// The halving rule on from..to, after `spent` probes.
+// The halving rule on from..to, after `spent` probes. It is the rule that crates of this project share and no public call: the caller sees
+// to it that from..to lies in the run. With `spent` at most 2^62 the count of probes can't wrap.
 pub fn halve(run: &[u64], target: u64, from: usize, to: usize, spent: usize) -> Sought
     requires { ⌜ (from ≤ to) × (to ≤ length (now run)) × (spent ≤ 2 ^ 62) ⌝ }
     ensures { λ r. ⌜ r ≡ halving (now (run .entry)) target from to spent ⌝ }
@@ -37,7 +45,7 @@ pub fn halve(run: &[u64], target: u64, from: usize, to: usize, spent: usize) -> 
     Sought { offset: lo, probes }
 }
 
-// Probes from the front.
+// Probes from the front and stops at the first key that is not below.
 fn linear(run: &[u64], target: u64) -> Sought
     ensures { λ r. ⌜ r ≡ linearOf (now (run .entry)) target ⌝ }
 {

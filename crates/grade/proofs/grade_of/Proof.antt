@@ -1,40 +1,40 @@
-use Rattle.grade.proofs.Twos.{up-fits, up-word}
-use Rattle.grade.specs.Word.{wordOf}
-use Prim.Native.Nat.{ℕ, _-_, _<_, _^_}
-use mathlib.Core.Path.{_≡_, ap, _∙_}
+-- `grade::grade_of` meets its contract: each arm is its half of the words. In the upper one m is below 2^63, so -1 - m is in the range.
+use Prim.Native.Nat.{suc, _-_, _<_, _≤_, _^_}
+use mathlib.Core.Path.{_≡_, sym, ap, _∙_}
+use lib.IntN.{negsuc}
+use Rattle.grade.proofs.Mirror.{up-fits, up-back}
+use Rattle.grade.proofs.Halves.{low-half, high-half}
 use native.Mathlib.Omega.{arith}
 use mir.Syntax.{w64}
 use mir.Facts.{toZ-pos}
 use borrow.Author.Needs.{needs}
 use Rattle.grade.proofs.grade_of.Statement.{statement}
 use Rattle.grade.proofs.grade_of.Tie as tie
-use Rattle.grade.proofs.grade_of.Reads as reads
-use Rattle.grade.proofs.grade_of.Lts as lts
 
--- src/lib.rt:24:9
 cast-result : tie.Need-cast-result
 cast-result c = search needs
 
--- src/lib.rt:26:17
 sub-m : tie.Need-sub-m
 sub-m c = search needs
 
--- src/lib.rt:27:15
 cast-result-2 : tie.Need-cast-result-2
 cast-result-2 c = search needs
 
--- src/lib.rt:27:9
 sub-result : tie.Need-sub-result
-sub-result c = let m = 18446744073709551615 - c .before .args .word in let h : m < 2 ^ 63 = omega (arith, c .if1 .left) in up-fits m h
+sub-result c = up-fits (18446744073709551615 - c .before .args .word) (omega (arith, c .if1 .left))
 
--- src/lib.rt:20:1
 returns : tie.Need-returns
-returns c = let h : c .before .args .word < 2 ^ 63 = omega (arith, c .if1 .taken) in ap wordOf (toZ-pos w64 h)
+returns c = let h : c .before .args .word < 2 ^ 63 = omega (arith, c .if1 .taken) in
+    toZ-pos w64 h ∙ sym (low-half (c .before .args .word) h)
 
--- src/lib.rt:20:1
 returns-2 : tie.Need-returns-2
-returns-2 c = let m = 18446744073709551615 - c .before .args .word in let h : m < 2 ^ 63 = omega (arith, c .if1 .left) in
-    up-word m h ∙ omega arith
+returns-2 c =
+    let w = c .before .args .word in
+    let m = 18446744073709551615 - w in
+    let h : m < 2 ^ 63 = omega (arith, c .if1 .left) in
+    let l : 2 ^ 63 ≤ w = omega (arith, c .if1 .left) in
+    let e : m ≡ 2 ^ 64 - suc w = omega arith in
+    up-back m h ∙ ap negsuc e ∙ sym (high-half w l)
 
 pub grade-of-spec : {M : Type 1} → statement M
 grade-of-spec = tie.close (tie.spec cast-result sub-m cast-result-2 sub-result returns returns-2)

@@ -1,32 +1,27 @@
-use Rattle.grade.proofs.Twos.{cast-up, low-at, low-back, returns-up}
+-- `grade::word_of` meets its contract: from 0 up the cast is the number, and below 0 m = -1 - grade stands in for it (`Mirror`).
+use native.Mathlib.Omega.{arith}
+use Rattle.grade.proofs.Mirror.{cast-up, mirror-at, mirror-back}
+use Rattle.grade.proofs.Halves.{word-from-0, word-below-0}
 use Rattle.grade.proofs.word_of.Statement.{statement}
 use Rattle.grade.proofs.word_of.Tie as tie
-use Rattle.grade.proofs.word_of.Reads as reads
-use Rattle.grade.proofs.word_of.Lts as lts
 
--- src/lib.rt:11:9
 cast-result : tie.Need-cast-result
 cast-result c = cast-up (c .before .args .grade) (c .before .fits .grade) (c .if1 .taken)
 
--- src/lib.rt:14:17
 sub-m : tie.Need-sub-m
-sub-m c = low-at (c .before .args .grade) (c .before .fits .grade) (c .if1 .left) .sfits
+sub-m c = mirror-at (c .before .args .grade) (c .before .fits .grade) (c .if1 .left) .sfits
 
--- src/lib.rt:15:33
 cast-result-2 : tie.Need-cast-result-2
-cast-result-2 c = low-back (c .before .args .grade) (c .before .fits .grade) (c .if1 .left) .cast
+cast-result-2 c = mirror-back (c .before .args .grade) (c .before .fits .grade) (c .if1 .left) .cast
 
--- src/lib.rt:15:9
 sub-result : tie.Need-sub-result
-sub-result c = low-back (c .before .args .grade) (c .before .fits .grade) (c .if1 .left) .small
+sub-result c = omega (arith, mirror-back (c .before .args .grade) (c .before .fits .grade) (c .if1 .left) .small)
 
--- src/lib.rt:7:1
 returns : tie.Need-returns
-returns c = returns-up (c .before .args .grade) (c .before .fits .grade) (c .if1 .taken)
+returns c = word-from-0 (c .before .args .grade) (c .before .fits .grade) (c .if1 .taken)
 
--- src/lib.rt:7:1
 returns-2 : tie.Need-returns-2
-returns-2 c = low-back (c .before .args .grade) (c .before .fits .grade) (c .if1 .left) .word
+returns-2 c = word-below-0 (c .before .args .grade) (c .before .fits .grade) (c .if1 .left)
 
 pub word-of-spec : {M : Type 1} → statement M
 word-of-spec = tie.close (tie.spec cast-result sub-m cast-result-2 sub-result returns returns-2)

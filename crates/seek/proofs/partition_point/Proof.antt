@@ -1,12 +1,7 @@
--- `seek::partition_point` meets its contract: each arm is its callee's answer. Assumes nothing.
+-- `seek::partition_point` meets its contract: each arm is its callee's answer.
 use borrow.Author.Needs.{needs}
 use Rattle.seek.proofs.partition_point.Statement.{statement}
 use Rattle.seek.proofs.partition_point.Tie as tie
-use Rattle.seek.proofs.partition_point.Reads as reads
-use Rattle.seek.proofs.partition_point.Lts as lts
-use Rattle.seek.proofs.linear.Reads as linear-reads
-use Rattle.seek.proofs.binary.Reads as binary-reads
-use Rattle.seek.proofs.galloping.Reads as galloping-reads
 
 enum-told : tie.Need-enum-told
 enum-told c = search needs

@@ -1,0 +1,37 @@
+// What a line is made of.
+use libc::STDOUT_FILENO;
+
+pub fn text(words: &[u8]) {
+    io::write_all(STDOUT_FILENO, words);
+}
+
+pub fn number(n: u64) {
+    io::print_decimal(STDOUT_FILENO, n);
+}
+
+// Words, and a number behind them.
+pub fn labelled(words: &[u8], n: u64) {
+    text(words);
+    number(n);
+}
+
+pub fn signed(n: i64) {
+    if n >= 0 {
+        number(n as u64);
+    } else {
+        // by way of -1 - n, since the least i64 has no negative
+        let m = -1 - n;
+        let size = (m as u64) + 1;
+        text(b"-");
+        number(size);
+    }
+}
+
+// ` ok` or ` WRONG`, and the line's end.
+pub fn verdict(same: bool) {
+    if same {
+        text(b" ok\n");
+    } else {
+        text(b" WRONG\n");
+    }
+}
