@@ -2,4 +2,6 @@ pub mod Damage
 pub mod Header
 pub mod Layers
 pub mod Pool
+pub mod Stored
+pub mod Tables
 mod Walks
