@@ -5,3 +5,4 @@ pub mod Pool
 pub mod Stored
 pub mod Tables
 mod Walks
+pub mod Words
