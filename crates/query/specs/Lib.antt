@@ -1,0 +1,2 @@
+pub mod Meet
+pub mod Ring
