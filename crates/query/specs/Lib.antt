@@ -1,2 +1,5 @@
+pub mod Meaning
 pub mod Meet
 pub mod Ring
+pub mod Solve
+pub mod Window
