@@ -6,3 +6,6 @@ pub mod Perm
 pub mod Unique
 pub mod Solved
 pub mod Listed
+pub mod Window
+pub mod Descend
+pub mod Engine

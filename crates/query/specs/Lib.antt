@@ -3,3 +3,4 @@ pub mod Meet
 pub mod Ring
 pub mod Solve
 pub mod Window
+pub mod Descend

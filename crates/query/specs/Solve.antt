@@ -1,6 +1,6 @@
 -- The listing computed by descent. At each variable of the order the atoms whose list is headed by it take part. Of an atom there stands what is
 -- left of its list, and the rows that begin with the words given so far, with these dropped.
-use Prim.Native.Nat.{ℕ}
+use Prim.Native.Nat.{ℕ, suc}
 use mathlib.Core.Bool.{Bool, true, false}
 use mathlib.Core.List.{List, [], _∷_, map, flatMap}
 use lib.ListN.{length, set, take, drop, replicate}
@@ -34,6 +34,16 @@ unfoldable pub runs : ℕ → List Atom → List (List ℕ)
 unfolding headed keysUnder
 runs v [] = []
 runs v (a ∷ l) = pick (headed v (a .vars)) (keysUnder [] (a .rows) ∷ runs v l) (runs v l)
+
+-- the atoms that take part at v, by number
+unfoldable pub holders : ℕ → List Atom → List ℕ
+unfolding headed
+holders v [] = []
+holders v (a ∷ l) = pick (headed v (a .vars)) (0 ∷ map suc (holders v l)) (map suc (holders v l))
+
+-- where an atom is looked up by a number that none has
+abbrev pub nobody : Atom
+nobody = record { vars = []; rows = [] }
 
 -- the rows that complete `row`, whose first n words are the variables', by words for the variables vs, in the sequence found
 unfoldable pub extend : ℕ → List ℕ → List Atom → Row → List Row
