@@ -9,3 +9,4 @@ pub mod Listed
 pub mod Window
 pub mod Descend
 pub mod Engine
+pub mod Under
