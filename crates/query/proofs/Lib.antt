@@ -10,3 +10,4 @@ pub mod Window
 pub mod Descend
 pub mod Engine
 pub mod Under
+pub mod Checks

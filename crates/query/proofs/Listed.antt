@@ -97,7 +97,7 @@ module _ {n : ℕ} {order : List ℕ} {atoms : List Atom} (q : Passes n order at
       ascending = q .tables a i .ascending;
       filled = λ e. absurd (omega (arith, q .tables a i .some, ap (length {A = ℕ}) e));
     };
-    covered = q .covered;
+    covered = λ x m. q .covered x (q .permutation .below x m);
     single = q .permutation .single;
   }
 

@@ -43,7 +43,7 @@ along-part (y ∷ vs) (x ∷ xs) v e = go (along-part vs xs v) (along-part vs (x
     go i j true q e = ap₂ {C = Row} (λ k l. k ∷ l) (ap (λ (z : ℕ). getD v z 0) (sym (eqb-true x y q))) (i e)
     go i j false q e = j e
 
-follow-in : (vs xs : List ℕ) {x : ℕ} → follows vs xs ≡ true → x ∈ xs → x ∈ vs
+pub follow-in : (vs xs : List ℕ) {x : ℕ} → follows vs xs ≡ true → x ∈ xs → x ∈ vs
 unfolding follows
 follow-in vs [] e m = absurd (not-in-nil m)
 follow-in [] (y ∷ xs) e m = absurd (false≢true e)

@@ -4,3 +4,4 @@ pub mod Ring
 pub mod Solve
 pub mod Window
 pub mod Descend
+pub mod Checks

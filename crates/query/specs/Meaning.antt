@@ -66,6 +66,6 @@ pub record Passes (n : ℕ) (order : List ℕ) (atoms : List Atom) : Type 0 wher
   -- not 10
   pub follow : (a : Atom) → a ∈ atoms → follows order (a .vars) ≡ true
   -- not 11: each variable is in some atom
-  pub covered : (x : ℕ) → x ∈ order → (a : Atom) × (a ∈ atoms) × (x ∈ a .vars)
+  pub covered : (x : ℕ) → x < n → (a : Atom) × (a ∈ atoms) × (x ∈ a .vars)
   -- not 6
   pub tables : (a : Atom) → a ∈ atoms → Table a
