@@ -11,3 +11,4 @@ pub mod Descend
 pub mod Engine
 pub mod Under
 pub mod Checks
+pub mod Worked

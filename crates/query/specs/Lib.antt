@@ -5,3 +5,4 @@ pub mod Solve
 pub mod Window
 pub mod Descend
 pub mod Checks
+pub mod Worked
