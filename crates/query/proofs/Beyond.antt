@@ -1,17 +1,16 @@
 -- The keys that go on from a row, the rows beyond it, and lists made key by key.
 -- Idea: k is among the keys under p exactly when p, k and something more is a row; r is beyond p exactly when p and r is a row. Ascending lists with
 -- the same members are equal.
-use Prim.Native.Nat.{ℕ, zero, suc, _+_, _-_, _≤_, _<_}
+use Prim.Native.Nat.{ℕ, suc, _-_, _<_}
 use native.Mathlib.Omega.{arith}
 use mathlib.Core.Path.{_≡_, refl, sym, subst, ap, _∙_}
-use mathlib.Core.Logic.{_⊎_, inl, inr, ⊎-elim}
+use mathlib.Core.Logic.{⊎-elim}
 use mathlib.Core.Bool.{Bool, true, false}
-use mathlib.Core.List.{List, [], _∷_, _++_, map, flatMap, append-assoc, append-nil, List·Memᴰ·append-cases, Memᴰ·append-left, Memᴰ·append-right, Memᴰ·map, Memᴰ·of-map}
+use mathlib.Core.List.{List, [], _∷_, _++_, map, flatMap, append-assoc, List·Memᴰ·append-cases, Memᴰ·append-left, Memᴰ·append-right, Memᴰ·map, Memᴰ·of-map}
 use lib.ListN.{length, take, drop, getD, length-append, take-append-drop}
 use lib.Seq.{take-at, drop-at}
-use lib.Dec.{T}
-use Rattle.relation.specs.Order.{Row, pick, _≺_, nil≺, word≺, rest≺}
-use Rattle.relation.specs.Lists.{_∈_, hd, tl, not-in-nil, in-cons, Ascends, anone, amore}
+use Rattle.relation.specs.Order.{Row, pick, _≺_, word≺, rest≺}
+use Rattle.relation.specs.Lists.{_∈_, hd, tl, not-in-nil, Ascends, anone, amore}
 use Rattle.relation.specs.Rows.{Asc, Width, same}
 use Rattle.relation.specs.Layers.{prefixes, under, keysUnder}
 use Rattle.relation.proofs.Lists.{ascends-append, ascends-map}

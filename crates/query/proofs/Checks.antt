@@ -4,17 +4,15 @@ use Prim.Native.Nat.{ℕ, zero, suc, _≤_, _<_}
 use native.Mathlib.Omega.{arith}
 use native.Mathlib.Nat.{le-of-suc-le-suc}
 use native.Mathlib.Decide.{decLt, ℕ-discrete}
-use mathlib.Core.Path.{_≡_, refl, sym, subst, ap, _∙_}
-use mathlib.Core.Logic.{_⊎_, inl, inr, ⊎-elim}
+use mathlib.Core.Path.{_≡_, refl, sym, ap, _∙_}
+use mathlib.Core.Logic.{⊎-elim}
 use mathlib.Core.Bool.{Bool, true, false, _&&_, _||_, not, false≢true}
 use mathlib.Core.List.{List, [], _∷_, map, Memᴰ·cast, Memᴰ·map, Memᴰ·of-map}
 use lib.ListN.{length, getD, drop, drop-of-length-le}
 use lib.Seq.{drop-cons}
 use lib.Dec.{eqb, ltb}
 use borrow.Author.Tests.{eqb-true, eq-eqb, ne-eqb, ltb-true, lt-ltb}
-use Rattle.relation.specs.Order.{pick}
 use Rattle.relation.specs.Lists.{_∈_, hd, tl, not-in-nil, in-cons, anone, amore}
-use Rattle.relation.proofs.Lists.{ascends-head, ascends-tail}
 use Rattle.query.specs.Meaning.{Atom, Distinct, Permutation, follows, Table, Passes}
 use Rattle.query.specs.Meet.{has}
 use Rattle.query.specs.Checks.{every, some, single, permutes, listed, covers}

@@ -2,17 +2,18 @@
 -- Idea: the loop's invariant says that to emit the rows of the keys left, from where the window stands, ends where the whole depth ends; a key's call
 -- takes the first of them away.
 use Prim.Native.Nat.{ℕ, _*_, _≤_}
-use native.Mathlib.Omega.{arith}
 use mathlib.Core.Path.{_≡_, refl, sym, subst, ap, _∙_}
 use mathlib.Core.Bool.{true}
 use mathlib.Core.List.{List, [], _∷_, map, flatMap}
 use lib.ListN.{length, take, set}
 use Rattle.relation.specs.Order.{Row}
+use Rattle.relation.specs.Lists.{_∈_, hd, tl}
 use Rattle.query.specs.Meaning.{Atom, Passes}
 use Rattle.query.specs.Meet.{meet}
 use Rattle.query.specs.Solve.{bind, runs, extend, listing}
 use Rattle.query.specs.Window.{Progress, begin, emit, emits, windowed}
 use Rattle.query.specs.Descend.{Descends}
+use Rattle.query.proofs.Solved.{Ready, ready-bind}
 use Rattle.query.proofs.Listed.{extend-root, extend-wide, listing-listing}
 use Rattle.query.proofs.Window.{emits-append, emits-full, emits-length, emits-fits, emits-windowed}
 
@@ -39,14 +40,20 @@ module _ (n v : ℕ) (vs : List ℕ) (atoms : List Atom) (row : Row) (s₀ : Pro
   abbrev rowsAt : ℕ → List Row
   rowsAt k = extend n vs (map (bind v k) atoms) (set row v k)
 
-  -- the keys `left` are not yet passed, and the window stands at s
+  -- the loop's invariant: the keys `left` are not yet passed, and the window stands at s
   pub record ToGo (left : List ℕ) (s : Progress) : Type 0 where
     pub ends : emits n s (flatMap rowsAt left) ≡ emits n s₀ (extend n (v ∷ vs) atoms row)
+    pub among : (k : ℕ) → k ∈ left → k ∈ meet (runs v atoms)
 
   pub to-go-start : ToGo (meet (runs v atoms)) s₀
   unfolding extend
-  to-go-start = record { ends = refl }
+  to-go-start = record { ends = refl; among = λ k m. m }
 
+  -- a search keeps the keys left
+  pub to-go-same : {left now : List ℕ} {s : Progress} → left ≡ now → ToGo left s → ToGo now s
+  to-go-same {s = s} e i = subst (λ (l : List ℕ). ToGo l s) e i
+
+  -- the call for the first of them is made
   pub to-go-key : {k : ℕ} {left : List ℕ} {s t : Progress} → ToGo (k ∷ left) s → Descends n vs (map (bind v k) atoms) (set row v k) s t → ToGo left t
   unfolding flatMap
   to-go-key {k} {left} {s} i d = record {
@@ -54,11 +61,18 @@ module _ (n v : ℕ) (vs : List ℕ) (atoms : List Atom) (row : Row) (s₀ : Pro
         ap (λ (x : Progress). emits n x (flatMap rowsAt left)) (d .exit) ∙
         sym (emits-append n s (rowsAt k) (flatMap rowsAt left)) ∙
         i .ends;
+    among = λ j m. i .among j (tl m);
   }
 
+  -- none is left: so ends the depth
   pub to-go-none : {s : Progress} → ToGo [] s → Descends n (v ∷ vs) atoms row s₀ s
   unfolding flatMap emits
   to-go-none i = record { exit = i .ends }
 
+  -- and where the window is full
   pub to-go-full : {left : List ℕ} {s : Progress} → ToGo left s → s .full ≡ true → Descends n (v ∷ vs) atoms row s₀ s
   to-go-full {left} {s} i e = record { exit = sym (emits-full n s (flatMap rowsAt left) e) ∙ i .ends }
+
+  -- the first key left is common, so its call finds the atoms ready
+  pub to-go-ready : {k : ℕ} {left : List ℕ} {s : Progress} → Ready (v ∷ vs) atoms → ToGo (k ∷ left) s → Ready vs (map (bind v k) atoms)
+  to-go-ready {k} c i = ready-bind v vs atoms c (i .among k (hd refl))

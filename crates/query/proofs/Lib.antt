@@ -8,7 +8,7 @@ pub mod Solved
 pub mod Listed
 pub mod Window
 pub mod Descend
-pub mod Engine
+pub mod Holders
 pub mod Under
 pub mod Checks
 pub mod Worked

@@ -1,14 +1,14 @@
 -- The computed listing is the listing of every query that passes the checks.
 -- Idea: the descent's rows are the words found, laid over a row by variable number; read in the order they are the words found again, and a row of
 -- n words is determined by how it reads in a permutation of its places.
-use Prim.Native.Nat.{ℕ, suc, _≤_, _<_}
+use Prim.Native.Nat.{ℕ, _≤_, _<_}
 use native.Mathlib.Omega.{arith}
 use mathlib.Core.Path.{_≡_, refl, sym, subst, ap, ap₂, _∙_}
 use mathlib.Core.List.{List, [], _∷_, _++_, map, flatMap, map-append, map-map, Memᴰ·cast, Memᴰ·map, Memᴰ·of-map}
 use lib.ListN.{length, getD, set, take, replicate, length-set, length-take, length-map, length-replicate}
 use lib.Seq.{getD-set-same, getD-set-other, getD-take, ext-getD}
-use Rattle.relation.specs.Order.{Row, _≺_}
-use Rattle.relation.specs.Lists.{_∈_, hd, tl, Ascends, anone, amore}
+use Rattle.relation.specs.Order.{Row}
+use Rattle.relation.specs.Lists.{_∈_, hd, tl, anone, amore}
 use Rattle.relation.specs.Rows.{Width}
 use Rattle.relation.proofs.Lists.{ascends-map}
 use Rattle.query.specs.Meaning.{Atom, part, Distinct, Listing, Permutation, Passes}

@@ -1,5 +1,5 @@
 -- The ring of a leapfrog: keys do not fall from place p round. Idea: the least key, put past all the others, leaves a ring that starts at the next place.
-use mathlib.Core.Path.{_≡_, refl, sym, subst, ap, _∙_}
+use mathlib.Core.Path.{_≡_, sym, subst}
 use mathlib.Core.Logic.{_⊎_, inl, inr, ⊎-elim}
 use Prim.Native.Nat.{ℕ, zero, suc, _+_, _-_, _<_, _≤_}
 use native.Mathlib.Nat.{eq-or-lt-of-le, eq-zero-or-pos, le-refl}

@@ -4,7 +4,7 @@
 use Prim.Native.Nat.{ℕ, suc, _<_}
 use native.Mathlib.Omega.{arith}
 use mathlib.Core.Path.{_≡_, refl, sym, subst, ap, ap₂, _∙_}
-use mathlib.Core.Logic.{_⊎_, inl, inr, ⊎-elim}
+use mathlib.Core.Logic.{⊎-elim}
 use mathlib.Core.Bool.{Bool, true, false, false≢true}
 use mathlib.Core.List.{List, [], _∷_, map, flatMap, List·Memᴰ·eq-of-singleton, Memᴰ·cast, Memᴰ·map, Memᴰ·of-map}
 use lib.ListN.{length, getD, drop, length-drop}
@@ -17,7 +17,7 @@ use Rattle.relation.specs.Layers.{keysUnder}
 use Rattle.relation.proofs.Lists.{ascends-head, ascends-tail}
 use Rattle.query.specs.Meaning.{Atom, part, Distinct, follows}
 use Rattle.query.specs.Meet.{meet}
-use Rattle.query.specs.Solve.{beyond, standing, headed, bind, runs}
+use Rattle.query.specs.Solve.{standing, headed, bind, runs}
 use Rattle.query.proofs.Meet.{meet-all, all-meet, meet-ascends}
 use Rattle.query.proofs.Beyond.{no-words, in-beyond, beyond-in, beyond-asc, beyond-width, in-keys, keys-in, keys-ascend, in-flatMap, flatMap-in, headedBy, flatMap-asc}
 

@@ -6,25 +6,24 @@ use Prim.Native.Nat.{ℕ, zero, suc, _+_, _≤_, _<_}
 use native.Mathlib.Omega.{arith}
 use native.Mathlib.Decide.{decLt}
 use mathlib.Core.Path.{_≡_, refl, sym, subst, ap, ap₂, _∙_}
-use mathlib.Core.Logic.{⊎-elim}
 use mathlib.Core.Bool.{Bool, true, false, false≢true}
-use mathlib.Core.List.{List, [], _∷_, _++_, map, map-append, Memᴰ·map, Memᴰ·of-map}
-use lib.ListN.{length, getD, drop, length-append, length-map, drop-of-length-le, List·getD-eq-default}
+use mathlib.Core.List.{List, [], _∷_, _++_, map}
+use lib.ListN.{length, getD, drop, length-append, drop-of-length-le, List·getD-eq-default}
 use lib.Seq.{drop-cons, drop-drop, slice}
 use lib.Dec.{eqb}
 use Rattle.relation.specs.Order.{Row, pick}
-use Rattle.relation.specs.Lists.{_∈_, hd, tl, not-in-nil, in-cons}
+use Rattle.relation.specs.Lists.{_∈_, hd, tl}
 use Rattle.relation.specs.Rows.{Asc, Width}
 use Rattle.relation.specs.Layers.{Layer, layer, prefixes, under, keysUnder, layerAt, layersOf}
-use Rattle.relation.proofs.Layers.{keysAt, intervalsAt, rankedAt, length-keys, length-intervals, parent-in, prefixes-asc, prefixes-width, prefix-of, prefix-in}
+use Rattle.relation.proofs.Layers.{keysAt, rankedAt, length-keys, length-intervals, parent-in, prefixes-asc, prefixes-width, prefix-of, prefix-in}
 use Rattle.relation.proofs.Paths.{layer-from}
 use Rattle.relation.proofs.Children.{in-getD, group-row, key-at, begin-is, end-is, end-le, group-keys}
 use Rattle.relation.proofs.Tables.{ranked, ranked-at}
 use Rattle.query.specs.Meaning.{Atom, Table}
-use Rattle.query.specs.Solve.{beyond, standing, standings, headed, bind, runs, holders, nobody, prefixAt}
+use Rattle.query.specs.Solve.{standing, standings, headed, bind, runs, holders, nobody, prefixAt}
 use Rattle.query.proofs.Meet.{getD-in, in-getD as in-index}
-use Rattle.query.proofs.Beyond.{beyond-none, beyond-append, beyond-asc, keys-beyond}
-use Rattle.query.proofs.Engine.{runs-holders}
+use Rattle.query.proofs.Beyond.{beyond-none, beyond-append, keys-beyond}
+use Rattle.query.proofs.Holders.{in-holders, runs-holders}
 
 -- ---- one atom
 
@@ -105,49 +104,9 @@ standings-bind v k f g (a ∷ l) s e =
     (bind-standing v k (f 0) (g 0) a (s a (hd refl)) (e 0 (omega arith)))
     (standings-bind v k (λ i. f (suc i)) (λ i. g (suc i)) l (λ b m. s b (tl m)) (λ i h. e (suc i) (omega arith)))
 
--- ---- the atoms that take part, by number
+-- ---- the runs of those that take part
 
-pub in-holders : (v : ℕ) (atoms : List Atom) {i : ℕ} → i ∈ holders v atoms → (i < length atoms) × (headed v (getD atoms i nobody .vars) ≡ true)
-unfolding holders
-in-holders v [] m = absurd (not-in-nil m)
-in-holders v (a ∷ l) {i} m = go (λ j n. in-holders v l {i = j} n) (headed v (a .vars)) refl m
-  where
-    Holds : List Atom → ℕ → Type 0
-    Holds l j = (j < length l) × (headed v (getD l j nobody .vars) ≡ true)
-
-    later : ((j : ℕ) → j ∈ holders v l → Holds l j) → i ∈ map suc (holders v l) → Holds (a ∷ l) i
-    later ih n =
-        let t = Memᴰ·of-map suc (holders v l) n in
-        let u = ih (t .0) (t .1) in
-        subst (Holds (a ∷ l)) (t .2) (omega (arith, u .0), u .1)
-
-    go : ((j : ℕ) → j ∈ holders v l → Holds l j) → (b : Bool) → headed v (a .vars) ≡ b → i ∈ pick b (0 ∷ map suc (holders v l)) (map suc (holders v l)) → Holds (a ∷ l) i
-    go ih true e n = ⊎-elim (λ (d : i ≡ 0). subst (Holds (a ∷ l)) (sym d) (omega arith, e)) (λ (n′ : i ∈ map suc (holders v l)). later ih n′) (in-cons n)
-    go ih false e n = later ih n
-
-pub holders-in : (v : ℕ) (atoms : List Atom) (i : ℕ) → i < length atoms → headed v (getD atoms i nobody .vars) ≡ true → i ∈ holders v atoms
-unfolding holders
-holders-in v [] i h e = absurd (omega arith)
-holders-in v (a ∷ l) zero h e = rw e (hd refl)
-holders-in v (a ∷ l) (suc i) h e = go (headed v (a .vars)) (Memᴰ·map suc (holders-in v l i (omega arith) e))
-  where
-    go : (b : Bool) → suc i ∈ map suc (holders v l) → suc i ∈ pick b (0 ∷ map suc (holders v l)) (map suc (holders v l))
-    go true m = tl m
-    go false m = m
-
--- the numbers found so far, and one atom more
-pub holders-snoc : (v : ℕ) (l : List Atom) (a : Atom) → holders v (l ++ a ∷ []) ≡ pick (headed v (a .vars)) (holders v l ++ length l ∷ []) (holders v l)
-unfolding holders
-holders-snoc v [] a = refl
-holders-snoc v (c ∷ l) a = go (headed v (c .vars)) (headed v (a .vars)) (holders-snoc v l a)
-  where
-    go : (b d : Bool) → holders v (l ++ a ∷ []) ≡ pick d (holders v l ++ length l ∷ []) (holders v l) → pick b (0 ∷ map suc (holders v (l ++ a ∷ []))) (map suc (holders v (l ++ a ∷ []))) ≡ pick d (pick b (0 ∷ map suc (holders v l)) (map suc (holders v l)) ++ suc (length l) ∷ []) (pick b (0 ∷ map suc (holders v l)) (map suc (holders v l)))
-    go true true e = ap (λ (m : List ℕ). 0 ∷ map suc m) e ∙ ap (λ (m : List ℕ). 0 ∷ m) (map-append suc (holders v l) (length l ∷ []))
-    go true false e = ap (λ (m : List ℕ). 0 ∷ map suc m) e
-    go false true e = ap (map suc) e ∙ map-append suc (holders v l) (length l ∷ [])
-    go false false e = ap (map suc) e
-
--- their runs: the keys under the words that each has
+-- the keys under the words that each has
 pub standings-runs : (v : ℕ) (f : ℕ → Row) (atoms : List Atom) → ((a : Atom) → a ∈ atoms → Table a) → runs v (standings f atoms) ≡ map (λ (i : ℕ). keysUnder (f i) (getD atoms i nobody .rows)) (holders v (standings f atoms))
 standings-runs v f atoms t =
     runs-holders v (standings f atoms) ∙

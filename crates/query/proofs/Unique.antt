@@ -1,9 +1,9 @@
 -- A query has one listing, and it lists each row once. Idea: an ascending list is determined by its members, and a listing's are the answers.
 use Prim.Native.Nat.{ℕ}
 use mathlib.Core.Path.{_≡_}
-use mathlib.Core.List.{List, [], _∷_}
+use mathlib.Core.List.{List}
 use Rattle.relation.specs.Order.{Row, _≺_}
-use Rattle.relation.specs.Lists.{_∈_, Ascends, anone, amore}
+use Rattle.relation.specs.Lists.{Ascends, anone, amore}
 use Rattle.relation.proofs.Lists.{same-members}
 use Rattle.relation.proofs.Order.{asym, irrefl}
 use Rattle.query.specs.Meaning.{Atom, part, Listing}

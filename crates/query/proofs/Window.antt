@@ -11,7 +11,7 @@ use lib.Seq.{paste, take-at, drop-drop, drop-append-add}
 use lib.Dec.{leb, ltb, leb·suc-suc}
 use borrow.Author.Tests.{leb-true, leb-false, le-leb, lt-leb, lt-ltb}
 use Rattle.relation.specs.Order.{Row, pick}
-use Rattle.relation.specs.Lists.{_∈_, hd, tl}
+use Rattle.relation.specs.Lists.{hd, tl}
 use Rattle.relation.specs.Rows.{Width, flat}
 use Rattle.query.specs.Window.{Progress, fit, windowed, pasted, begin, emit, emits}
 

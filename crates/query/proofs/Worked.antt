@@ -1,11 +1,11 @@
 -- Document 01's worked join cases come out as they must, and two of them by the meaning itself: the triangle's three rows are its listing, so what is
 -- proved of queries that pass is not empty, and "no atoms and no variables give one empty row".
 -- Idea: all is computed; rows that are their own set ascend.
-use Prim.Native.Nat.{ℕ, _<_}
+use Prim.Native.Nat.{_<_}
 use native.Mathlib.Omega.{arith}
-use mathlib.Core.Path.{_≡_, refl, sym, subst}
+use mathlib.Core.Path.{_≡_, refl, subst}
 use mathlib.Core.Bool.{true}
-use mathlib.Core.List.{List, [], _∷_, map}
+use mathlib.Core.List.{[], _∷_, map}
 use lib.ListN.{length}
 use lib.Dec.{eqb}
 use borrow.Author.Tests.{eqb-true}

@@ -1,7 +1,7 @@
 -- The listing computed by descent. At each variable of the order the atoms whose list is headed by it take part. Of an atom there stands what is
 -- left of its list, and the rows that begin with the words given so far, with these dropped.
 use Prim.Native.Nat.{ℕ, suc}
-use mathlib.Core.Bool.{Bool, true, false}
+use mathlib.Core.Bool.{Bool, false}
 use mathlib.Core.List.{List, [], _∷_, map, flatMap}
 use lib.ListN.{length, getD, set, take, drop, replicate}
 use lib.Dec.{eqb}

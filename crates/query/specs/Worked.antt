@@ -1,12 +1,12 @@
 -- The join cases that document 01 works on the bench, as a table of what is asked and what must come.
 use Prim.Native.Nat.{ℕ}
-use mathlib.Core.Bool.{Bool, true, false, not}
+use mathlib.Core.Bool.{not}
 use mathlib.Core.List.{List, [], _∷_, map}
 use lib.ListN.{length}
-use Rattle.relation.specs.Order.{Row, pick}
+use Rattle.relation.specs.Order.{pick}
 use Rattle.query.specs.Meaning.{Atom}
 use Rattle.query.specs.Solve.{listing}
-use Rattle.query.specs.Window.{Progress, begin, windowed}
+use Rattle.query.specs.Window.{Progress, windowed}
 use Rattle.query.specs.Checks.{every, permutes, listed, covers}
 
 -- a query over relations, and the words of the window
