@@ -5,13 +5,14 @@ use native.Mathlib.Omega.{arith}
 use native.Mathlib.Nat.{le-of-suc-le-suc}
 use native.Mathlib.Decide.{decLt, ℕ-discrete}
 use mathlib.Core.Path.{_≡_, refl, sym, ap, _∙_}
-use mathlib.Core.Logic.{⊎-elim}
+use mathlib.Core.Logic.{_⊎_, inl, inr, ⊎-elim}
 use mathlib.Core.Bool.{Bool, true, false, _&&_, _||_, not, false≢true}
-use mathlib.Core.List.{List, [], _∷_, map, Memᴰ·cast, Memᴰ·map, Memᴰ·of-map}
+use mathlib.Core.List.{List, [], _∷_, map, cons-ne-nil, Memᴰ·cast, Memᴰ·map, Memᴰ·of-map, Sublistᴰ, Sublistᴰ·cons, Sublistᴰ·cons-cons, Sublistᴰ·nil-sublist, Sublistᴰ·refl, Sublistᴰ·trans, Sublistᴰ·eq-nil, Sublistᴰ·cases-cons-cons}
 use lib.ListN.{length, getD, drop, drop-of-length-le}
 use lib.Seq.{drop-cons}
 use lib.Dec.{eqb, ltb}
-use borrow.Author.Tests.{eqb-true, eq-eqb, ne-eqb, ltb-true, lt-ltb}
+use borrow.Author.Tests.{eqb-true, eqb-false, eq-eqb, ne-eqb, ltb-true, lt-ltb}
+use Rattle.relation.specs.Order.{pick}
 use Rattle.relation.specs.Lists.{_∈_, hd, tl, not-in-nil, in-cons, anone, amore}
 use Rattle.query.specs.Meaning.{Atom, Distinct, Permutation, follows, Table, Passes}
 use Rattle.query.specs.Meet.{has}
@@ -46,6 +47,9 @@ module _ {A : Type 0} (p : A → Bool) where
   unfolding every
   in-every [] f = refl
   in-every (y ∷ l) f = both-and (p y) (every p l) (f y (hd refl)) (in-every l (λ x m. f x (tl m)))
+
+  pub every-false : {x : A} {l : List A} → x ∈ l → p x ≡ false → every p l ≡ false
+  every-false {x} {l} m e = refuted (every p l) (every-in l) (λ f. false≢true (sym e ∙ f x m))
 
   pub some-in : (l : List A) → some p l ≡ true → (x : A) × (x ∈ l) × (p x ≡ true)
   unfolding some
@@ -138,6 +142,29 @@ unfolding listed
 listed-true n order arity vars e =
     let t = both (eqb (length vars) arity) (every (λ (x : ℕ). ltb x n) vars && follows order vars) e in
     (eqb-true (length vars) arity (t .0), both (every (λ (x : ℕ). ltb x n) vars) (follows order vars) (t .1) .1)
+
+-- what follows the order is the order with some variables left out, and the other way round
+pub follows-sublist : (order vars : List ℕ) → follows order vars ≡ true → Sublistᴰ vars order
+unfolding follows
+follows-sublist order [] e = Sublistᴰ·nil-sublist order
+follows-sublist [] (x ∷ xs) e = absurd (false≢true e)
+follows-sublist (v ∷ vs) (x ∷ xs) e = go (follows-sublist vs xs) (follows-sublist vs (x ∷ xs)) (eqb x v) refl e
+  where
+    go : (follows vs xs ≡ true → Sublistᴰ xs vs) → (follows vs (x ∷ xs) ≡ true → Sublistᴰ (x ∷ xs) vs) → (b : Bool) → eqb x v ≡ b → pick b (follows vs xs) (follows vs (x ∷ xs)) ≡ true → Sublistᴰ (x ∷ xs) (v ∷ vs)
+    go f g true q e = Sublistᴰ·cons-cons (eqb-true x v q) (f e)
+    go f g false q e = Sublistᴰ·cons (g e)
+
+pub sublist-follows : (order vars : List ℕ) → Sublistᴰ vars order → follows order vars ≡ true
+unfolding follows
+sublist-follows order [] s = refl
+sublist-follows [] (x ∷ xs) s = absurd (cons-ne-nil x xs (Sublistᴰ·eq-nil s))
+sublist-follows (v ∷ vs) (x ∷ xs) s = go (sublist-follows vs xs) (sublist-follows vs (x ∷ xs)) (eqb x v) refl (Sublistᴰ·cases-cons-cons s)
+  where
+    go : (Sublistᴰ xs vs → follows vs xs ≡ true) → (Sublistᴰ (x ∷ xs) vs → follows vs (x ∷ xs) ≡ true) → (b : Bool) → eqb x v ≡ b → Sublistᴰ (x ∷ xs) vs ⊎ ((x ≡ v) × Sublistᴰ xs vs) → pick b (follows vs xs) (follows vs (x ∷ xs)) ≡ true
+    go f g true q (inl t) = f (Sublistᴰ·trans (Sublistᴰ·cons (Sublistᴰ·refl xs)) t)
+    go f g true q (inr t) = f (t .1)
+    go f g false q (inl t) = g t
+    go f g false q (inr t) = absurd (eqb-false x v q (t .0))
 
 -- one walk over the order: place t of it, place j of the list
 module _ (order vars : List ℕ) (t j : ℕ) where

@@ -12,8 +12,8 @@ use Rattle.query.specs.Meaning.{Atom, Passes}
 use Rattle.query.specs.Meet.{meet}
 use Rattle.query.specs.Solve.{bind, runs, extend, listing}
 use Rattle.query.specs.Window.{Progress, begin, emit, emits, windowed}
-use Rattle.query.specs.Descend.{Descends}
-use Rattle.query.proofs.Solved.{Ready, ready-bind}
+use Rattle.query.specs.Descend.{Joinable, Descends}
+use Rattle.query.proofs.Solved.{joinable-bind}
 use Rattle.query.proofs.Listed.{extend-root, extend-wide, listing-listing}
 use Rattle.query.proofs.Window.{emits-append, emits-full, emits-length, emits-fits, emits-windowed}
 
@@ -73,6 +73,6 @@ module _ (n v : ℕ) (vs : List ℕ) (atoms : List Atom) (row : Row) (s₀ : Pro
   pub to-go-full : {left : List ℕ} {s : Progress} → ToGo left s → s .full ≡ true → Descends n (v ∷ vs) atoms row s₀ s
   to-go-full {left} {s} i e = record { exit = sym (emits-full n s (flatMap rowsAt left) e) ∙ i .ends }
 
-  -- the first key left is common, so its call finds the atoms ready
-  pub to-go-ready : {k : ℕ} {left : List ℕ} {s : Progress} → Ready (v ∷ vs) atoms → ToGo (k ∷ left) s → Ready vs (map (bind v k) atoms)
-  to-go-ready {k} c i = ready-bind v vs atoms c (i .among k (hd refl))
+  -- the first key left is common, so for its call the atoms are joinable
+  pub to-go-joinable : {k : ℕ} {left : List ℕ} {s : Progress} → Joinable (v ∷ vs) atoms → ToGo (k ∷ left) s → Joinable vs (map (bind v k) atoms)
+  to-go-joinable {k} c i = joinable-bind v vs atoms c (i .among k (hd refl))

@@ -1,16 +1,20 @@
 -- The atoms that take part at a variable, by number: which they are, their runs, and how a loop over the atoms comes by them.
-use Prim.Native.Nat.{ℕ, zero, suc, _<_}
+use Prim.Native.Nat.{ℕ, zero, suc, _≤_, _<_}
 use native.Mathlib.Omega.{arith}
 use mathlib.Core.Path.{_≡_, refl, sym, subst, ap, _∙_}
 use mathlib.Core.Logic.{⊎-elim}
 use mathlib.Core.Bool.{Bool, true, false}
 use mathlib.Core.List.{List, [], _∷_, _++_, map, map-append, map-map, Memᴰ·map, Memᴰ·of-map}
-use lib.ListN.{length, getD}
+use lib.ListN.{length, getD, length-map}
 use Rattle.relation.specs.Order.{pick}
-use Rattle.relation.specs.Lists.{_∈_, hd, tl, not-in-nil, in-cons}
+use Rattle.relation.specs.Lists.{_∈_, hd, tl, not-in-nil, in-cons, Ascends, anone, amore}
 use Rattle.relation.specs.Layers.{keysUnder}
+use Rattle.relation.proofs.Lists.{ascends-map}
 use Rattle.query.specs.Meaning.{Atom}
-use Rattle.query.specs.Solve.{headed, runs, nobody, holders}
+use Rattle.query.specs.Solve.{headed, runs}
+use Rattle.query.specs.Descend.{nobody, holders, Joinable}
+use Rattle.query.proofs.Meet.{in-getD}
+use Rattle.query.proofs.Solved.{takes-part}
 
 pub in-holders : (v : ℕ) (atoms : List Atom) {i : ℕ} → i ∈ holders v atoms → (i < length atoms) × (headed v (getD atoms i nobody .vars) ≡ true)
 unfolding holders
@@ -39,6 +43,31 @@ holders-in v (a ∷ l) (suc i) h e = go (headed v (a .vars)) (Memᴰ·map suc (h
     go : (b : Bool) → suc i ∈ map suc (holders v l) → suc i ∈ pick b (0 ∷ map suc (holders v l)) (map suc (holders v l))
     go true m = tl m
     go false m = m
+
+-- in atom order, no more than there are, and at least one where the variable is the first left
+pub holders-ascend : (v : ℕ) (atoms : List Atom) → Ascends _<_ (holders v atoms)
+unfolding holders
+holders-ascend v [] = anone
+holders-ascend v (a ∷ l) = go (headed v (a .vars)) (ascends-map suc (λ i j m n h. omega arith) (holders-ascend v l))
+  where
+    go : (b : Bool) → Ascends _<_ (map suc (holders v l)) → Ascends _<_ (pick b (0 ∷ map suc (holders v l)) (map suc (holders v l)))
+    go true s = amore {r = 0} {rs = map suc (holders v l)} (λ i m. let t = Memᴰ·of-map suc (holders v l) m in omega (arith, t .2)) s
+    go false s = s
+
+pub holders-few : (v : ℕ) (atoms : List Atom) → length (holders v atoms) ≤ length atoms
+unfolding holders
+holders-few v [] = omega arith
+holders-few v (a ∷ l) = go (headed v (a .vars)) (holders-few v l)
+  where
+    go : (b : Bool) → length (holders v l) ≤ length l → length (pick b (0 ∷ map suc (holders v l)) (map suc (holders v l))) ≤ suc (length l)
+    go true h = omega (arith, length-map (holders v l) suc)
+    go false h = omega (arith, length-map (holders v l) suc)
+
+pub holders-some : (v : ℕ) (vs : List ℕ) (atoms : List Atom) → Joinable (v ∷ vs) atoms → 0 < length (holders v atoms)
+holders-some v vs atoms c =
+    let t = takes-part v vs atoms c in
+    let i = in-getD nobody (t .1) in
+    omega (arith, in-getD 0 (holders-in v atoms (i .0) (i .1) (rw (i .2) (t .2))) .1)
 
 -- the numbers found so far, and one atom more
 pub holders-snoc : (v : ℕ) (l : List Atom) (a : Atom) → holders v (l ++ a ∷ []) ≡ pick (headed v (a .vars)) (holders v l ++ length l ∷ []) (holders v l)

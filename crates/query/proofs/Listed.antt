@@ -14,10 +14,11 @@ use Rattle.relation.proofs.Lists.{ascends-map}
 use Rattle.query.specs.Meaning.{Atom, part, Distinct, Listing, Permutation, Passes}
 use Rattle.query.specs.Meet.{meet}
 use Rattle.query.specs.Solve.{bind, runs, extend, listing}
+use Rattle.query.specs.Descend.{Joinable}
 use Rattle.query.proofs.Beyond.{headedBy}
 use Rattle.query.proofs.Perm.{cover}
 use Rattle.query.proofs.Unique.{unique}
-use Rattle.query.proofs.Solved.{solve, along, along-part, Ready, solve-sound, solve-complete, solve-ascends}
+use Rattle.query.proofs.Solved.{solve, along, along-part, solve-sound, solve-complete, solve-ascends}
 
 -- ---- words laid over a row
 
@@ -89,9 +90,9 @@ same-row q u v d e p = ext-getD 0 u v (omega arith) (λ i lt. part-at u v p (cov
 -- ---- the theorem, from any row of n words or more
 
 module _ {n : ℕ} {order : List ℕ} {atoms : List Atom} (q : Passes n order atoms) where
-  pub ready : Ready order atoms
-  ready = record {
-    good = λ a i. record {
+  pub joinable : Joinable order atoms
+  joinable = record {
+    partway = λ a i. record {
       follow = q .follow a i;
       wide = q .tables a i .wide;
       ascending = q .tables a i .ascending;
@@ -122,16 +123,16 @@ module _ {n : ℕ} {order : List ℕ} {atoms : List Atom} (q : Passes n order at
       wide = λ v m. let t = Memᴰ·of-map found (solve order atoms) m in subst (λ (v : Row). length v ≡ n) (t .2) (found-length (t .0));
       sound = λ v m a i.
           let t = Memᴰ·of-map found (solve order atoms) m in
-          let s = solve-sound order atoms ready (t .1) in
+          let s = solve-sound order atoms joinable (t .1) in
           let e : part order v ≡ t .0 = ap (part order) (sym (t .2)) ∙ found-part (t .0) (s .0) in
           Memᴰ·cast (sym (along-part order (a .vars) v (q .follow a i)) ∙ ap (λ (w : Row). along order w (a .vars)) e) (s .1 a i);
       complete = λ v e f.
-          let m : part order v ∈ solve order atoms = solve-complete order atoms ready (part order v) (long v) (λ a i. Memᴰ·cast (along-part order (a .vars) v (q .follow a i)) (f a i)) in
+          let m : part order v ∈ solve order atoms = solve-complete order atoms joinable (part order v) (long v) (λ a i. Memᴰ·cast (along-part order (a .vars) v (q .follow a i)) (f a i)) in
           Memᴰ·cast (same-row (q .permutation) v (found (part order v)) e (found-length (part order v)) (sym (found-part (part order v) (long v)))) (Memᴰ·map found m);
       ascending =
           ascends-map found
-          (λ a b i j p. rw (found-part a (solve-sound order atoms ready i .0), found-part b (solve-sound order atoms ready j .0)) p)
-          (solve-ascends order atoms ready);
+          (λ a b i j p. rw (found-part a (solve-sound order atoms joinable i .0), found-part b (solve-sound order atoms joinable j .0)) p)
+          (solve-ascends order atoms joinable);
     }
 
     extend-listing : Listing n order atoms (extend n order atoms row)

@@ -33,6 +33,13 @@ in-has {k} (tl {x = x} {xs = xs} m) = go (eqb x k) (in-has m)
     go true e = refl
     go false e = e
 
+pub has-not : (xs : List ℕ) (k : ℕ) → (k ∈ xs → ⊥) → has xs k ≡ false
+has-not xs k n = go (has xs k) refl
+  where
+    go : (b : Bool) → has xs k ≡ b → b ≡ false
+    go true e = absurd (n (has-in xs k e))
+    go false e = refl
+
 pub in-keep : (p : ℕ → Bool) (xs : List ℕ) {k : ℕ} → k ∈ keep p xs → (k ∈ xs) × (p k ≡ true)
 unfolding keep
 in-keep p [] m = absurd (not-in-nil m)

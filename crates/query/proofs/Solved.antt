@@ -12,12 +12,13 @@ use lib.Dec.{eqb}
 use borrow.Author.Tests.{eqb-true}
 use Rattle.relation.specs.Order.{Row, pick}
 use Rattle.relation.specs.Lists.{_∈_, hd, tl, not-in-nil, in-cons, Ascends, anone, amore}
-use Rattle.relation.specs.Rows.{Asc, Width}
+use Rattle.relation.specs.Rows.{Asc}
 use Rattle.relation.specs.Layers.{keysUnder}
 use Rattle.relation.proofs.Lists.{ascends-head, ascends-tail}
 use Rattle.query.specs.Meaning.{Atom, part, Distinct, follows}
 use Rattle.query.specs.Meet.{meet}
 use Rattle.query.specs.Solve.{standing, headed, bind, runs}
+use Rattle.query.specs.Descend.{Partway, Joinable}
 use Rattle.query.proofs.Meet.{meet-all, all-meet, meet-ascends}
 use Rattle.query.proofs.Beyond.{no-words, in-beyond, beyond-in, beyond-asc, beyond-width, in-keys, keys-in, keys-ascend, in-flatMap, flatMap-in, headedBy, flatMap-asc}
 
@@ -53,20 +54,6 @@ follow-in (v ∷ vs) (y ∷ xs) {x} e m = go (λ p i. follow-in vs xs p i) (λ p
     go i j true q e = ⊎-elim (λ (d : x ≡ y). hd (d ∙ eqb-true y v q)) (λ (m′ : x ∈ xs). tl (i e m′)) (in-cons m)
     go i j false q e = tl (j e m)
 
--- ---- what holds of the atoms on the way down, where the variables vs are left
-
-pub record Good (vs : List ℕ) (a : Atom) : Type 0 where
-  pub follow : follows vs (a .vars) ≡ true
-  pub wide : Width (length (a .vars)) (a .rows)
-  pub ascending : Asc (a .rows)
-  -- an atom without variables left has had a row
-  pub filled : a .vars ≡ [] → [] ∈ a .rows
-
-pub record Ready (vs : List ℕ) (atoms : List Atom) : Type 0 where
-  pub good : (a : Atom) → a ∈ atoms → Good vs a
-  pub covered : (x : ℕ) → x ∈ vs → (a : Atom) × (a ∈ atoms) × (x ∈ a .vars)
-  pub single : Distinct vs
-
 pub headed-some : (v : ℕ) (xs : List ℕ) → headed v xs ≡ true → 0 < length xs
 unfolding headed
 headed-some v [] e = absurd (false≢true e)
@@ -76,6 +63,17 @@ headed-here : (v : ℕ) (xs : List ℕ) → headed v xs ≡ true → xs ≡ v �
 unfolding headed
 headed-here v [] e = absurd (false≢true e)
 headed-here v (x ∷ xs) e = ap (λ (y : ℕ). y ∷ xs) (eqb-true x v e)
+
+module _ (v : ℕ) (vs : List ℕ) where
+  follows-in : (xs : List ℕ) → headed v xs ≡ true → follows (v ∷ vs) xs ≡ follows vs (drop 1 xs)
+  unfolding follows headed
+  follows-in [] e = absurd (false≢true e)
+  follows-in (x ∷ xs) e = ap (λ (b : Bool). pick b (follows vs xs) (follows vs (x ∷ xs))) e
+
+  follows-out : (xs : List ℕ) → headed v xs ≡ false → follows (v ∷ vs) xs ≡ follows vs xs
+  unfolding follows headed
+  follows-out [] e = refl
+  follows-out (x ∷ xs) e = ap (λ (b : Bool). pick b (follows vs xs) (follows vs (x ∷ xs))) e
 
 -- ---- one atom, where v has the word k: what it becomes, and its list, its part and its place in the order with it
 
@@ -90,16 +88,6 @@ module _ (v k : ℕ) where
       go false e = g e
 
   module _ (vs : List ℕ) where
-    follows-in : (xs : List ℕ) → headed v xs ≡ true → follows (v ∷ vs) xs ≡ follows vs (drop 1 xs)
-    unfolding follows headed
-    follows-in [] e = absurd (false≢true e)
-    follows-in (x ∷ xs) e = ap (λ (b : Bool). pick b (follows vs xs) (follows vs (x ∷ xs))) e
-
-    follows-out : (xs : List ℕ) → headed v xs ≡ false → follows (v ∷ vs) xs ≡ follows vs xs
-    unfolding follows headed
-    follows-out [] e = refl
-    follows-out (x ∷ xs) e = ap (λ (b : Bool). pick b (follows vs xs) (follows vs (x ∷ xs))) e
-
     along-in : (w : Row) (xs : List ℕ) → headed v xs ≡ true → along (v ∷ vs) (k ∷ w) xs ≡ k ∷ along vs w (drop 1 xs)
     unfolding along headed
     along-in w [] e = absurd (false≢true e)
@@ -122,12 +110,12 @@ module _ (v k : ℕ) where
         (λ e m. rw (along-in w (a .vars) e) (in-beyond (k ∷ []) (a .rows) m))
         (λ e m. rw (along-out w (a .vars) e) m)
 
-    -- an atom stays good, where an atom that takes part has the key k
-    good-bind : (a : Atom) → Good (v ∷ vs) a → (headed v (a .vars) ≡ true → k ∈ keysUnder [] (a .rows)) → Good vs (bind v k a)
-    good-bind a g h =
-        bind-cases (Good vs) a
+    -- an atom stays so, where an atom that takes part has the key k
+    partway-bind : (a : Atom) → Partway (v ∷ vs) a → (headed v (a .vars) ≡ true → k ∈ keysUnder [] (a .rows)) → Partway vs (bind v k a)
+    partway-bind a g h =
+        bind-cases (Partway vs) a
         (λ e. record {
-          follow = sym (follows-in (a .vars) e) ∙ g .follow;
+          follow = sym (follows-in v vs (a .vars) e) ∙ g .follow;
           wide = λ r m. beyond-width (k ∷ []) (g .wide) r m ∙ sym (length-drop 1 (a .vars));
           ascending = beyond-asc (k ∷ []) (g .ascending);
           filled = λ d.
@@ -135,7 +123,7 @@ module _ (v k : ℕ) where
               let z : length (t .0) ≡ 0 = omega (arith, g .wide (k ∷ t .0) (t .1), ap (length {A = ℕ}) (headed-here v (a .vars) e), ap (length {A = ℕ}) d) in
               beyond-in (k ∷ []) (a .rows) (rw (no-words (t .0) z) at (t .1));
         })
-        (λ e. record { follow = sym (follows-out (a .vars) e) ∙ g .follow; wide = g .wide; ascending = g .ascending; filled = g .filled })
+        (λ e. record { follow = sym (follows-out v vs (a .vars) e) ∙ g .follow; wide = g .wide; ascending = g .ascending; filled = g .filled })
 
     vars-bind : (x : ℕ) (a : Atom) → (v ≡ x → ⊥) → x ∈ a .vars → x ∈ bind v k a .vars
     vars-bind x a n m =
@@ -178,18 +166,26 @@ in-runs v (b ∷ l) {r} m = go (λ i. in-runs v l i) (headed v (b .vars)) refl m
         (in-cons m)
     go ih false q m = later (ih m)
 
-module _ (v : ℕ) (vs : List ℕ) (atoms : List Atom) (c : Ready (v ∷ vs) atoms) where
+-- a list that follows the variables left takes part at the first of them where it holds it
+pub headed-held : (v : ℕ) (vs xs : List ℕ) → Distinct (v ∷ vs) → follows (v ∷ vs) xs ≡ true → v ∈ xs → headed v xs ≡ true
+headed-held v vs xs s e m = go (headed v xs) refl
+  where
+    go : (b : Bool) → headed v xs ≡ b → b ≡ true
+    go true q = refl
+    go false q = absurd (ascends-head s v (follow-in vs xs (sym (follows-out v vs xs q) ∙ e) m) refl)
+
+module _ (v : ℕ) (vs : List ℕ) (atoms : List Atom) (c : Joinable (v ∷ vs) atoms) where
   pub runs-ascend : (r : List ℕ) → r ∈ runs v atoms → Ascends _<_ r
   runs-ascend r i =
       let s = in-runs v atoms i in
-      rw (s .run) (keys-ascend [] (c .good (s .atom) (s .inside) .wide) (headed-some v (s .atom .vars) (s .heads)))
+      rw (s .run) (keys-ascend [] (c .partway (s .atom) (s .inside) .wide) (headed-some v (s .atom .vars) (s .heads)))
 
-  -- a common key bound, the atoms are ready for the variables left
-  pub ready-bind : {k : ℕ} → k ∈ meet (runs v atoms) → Ready vs (map (bind v k) atoms)
-  ready-bind {k} m = record {
-    good = λ a i.
+  -- a common key bound, the atoms are joinable in the variables left
+  pub joinable-bind : {k : ℕ} → k ∈ meet (runs v atoms) → Joinable vs (map (bind v k) atoms)
+  joinable-bind {k} m = record {
+    partway = λ a i.
         let t = Memᴰ·of-map (bind v k) atoms i in
-        subst (Good vs) (t .2) (good-bind v k vs (t .0) (c .good (t .0) (t .1)) (λ e. meet-all (runs v atoms) m (keysUnder [] (t .0 .rows)) (runs-in v (t .1) e)));
+        subst (Partway vs) (t .2) (partway-bind v k vs (t .0) (c .partway (t .0) (t .1)) (λ e. meet-all (runs v atoms) m (keysUnder [] (t .0 .rows)) (runs-in v (t .1) e)));
     covered = λ x i.
         let t = c .covered x (tl i) in
         (bind v k (t .0), Memᴰ·map (bind v k) (t .1), vars-bind v k vs x (t .0) (ascends-head (c .single) x i) (t .2));
@@ -198,14 +194,7 @@ module _ (v : ℕ) (vs : List ℕ) (atoms : List Atom) (c : Ready (v ∷ vs) ato
 
   -- some atom takes part
   pub takes-part : (a : Atom) × (a ∈ atoms) × (headed v (a .vars) ≡ true)
-  takes-part = let t = c .covered v (hd refl) in (t .0, t .1, heads (t .0 .vars) (c .good (t .0) (t .1) .follow) (t .2))
-    where
-      heads : (xs : List ℕ) → follows (v ∷ vs) xs ≡ true → v ∈ xs → headed v xs ≡ true
-      heads xs e m = go (headed v xs) refl
-        where
-          go : (b : Bool) → headed v xs ≡ b → b ≡ true
-          go true q = refl
-          go false q = absurd (ascends-head (c .single) v (follow-in vs xs (sym (follows-out v 0 vs xs q) ∙ e) m) refl)
+  takes-part = let t = c .covered v (hd refl) in (t .0, t .1, headed-held v vs (t .0 .vars) (c .single) (c .partway (t .0) (t .1) .follow) (t .2))
 
   meets : {k : ℕ} → ((a : Atom) → a ∈ atoms → headed v (a .vars) ≡ true → k ∈ keysUnder [] (a .rows)) → k ∈ meet (runs v atoms)
   meets {k} f =
@@ -228,21 +217,21 @@ unfolding follows
 follows-none [] e = refl
 follows-none (x ∷ xs) e = absurd (false≢true e)
 
-pub solve-sound : (vs : List ℕ) (atoms : List Atom) → Ready vs atoms → {w : Row} → w ∈ solve vs atoms → (length w ≡ length vs) × Parts vs atoms w
+pub solve-sound : (vs : List ℕ) (atoms : List Atom) → Joinable vs atoms → {w : Row} → w ∈ solve vs atoms → (length w ≡ length vs) × Parts vs atoms w
 unfolding solve
 solve-sound [] atoms c {w} m = (
   ap (length {A = ℕ}) (List·Memᴰ·eq-of-singleton m),
-  λ a i. Memᴰ·cast (along-none w (a .vars)) (c .good a i .filled (follows-none (a .vars) (c .good a i .follow))),
+  λ a i. Memᴰ·cast (along-none w (a .vars)) (c .partway a i .filled (follows-none (a .vars) (c .partway a i .follow))),
 )
 solve-sound (v ∷ vs) atoms c {w} m =
     let rest : ℕ → List Row = λ k. solve vs (map (bind v k) atoms) in
     let t = in-flatMap (headedBy rest) (meet (runs v atoms)) m in
     let u = Memᴰ·of-map (λ (r : Row). t .0 ∷ r) (rest (t .0)) (t .2) in
-    let ih = solve-sound vs (map (bind v (t .0)) atoms) (ready-bind v vs atoms c (t .1)) (u .1) in
+    let ih = solve-sound vs (map (bind v (t .0)) atoms) (joinable-bind v vs atoms c (t .1)) (u .1) in
     subst (λ (w : Row). (length w ≡ suc (length vs)) × Parts (v ∷ vs) atoms w) (u .2)
     (ap suc (ih .0), λ a i. part-up v (t .0) vs (u .0) a (ih .1 (bind v (t .0) a) (Memᴰ·map (bind v (t .0)) i)))
 
-pub solve-complete : (vs : List ℕ) (atoms : List Atom) → Ready vs atoms → (w : Row) → length w ≡ length vs → Parts vs atoms w → w ∈ solve vs atoms
+pub solve-complete : (vs : List ℕ) (atoms : List Atom) → Joinable vs atoms → (w : Row) → length w ≡ length vs → Parts vs atoms w → w ∈ solve vs atoms
 unfolding solve
 solve-complete [] atoms c [] e p = hd refl
 solve-complete [] atoms c (k ∷ w) e p = absurd (omega arith)
@@ -250,15 +239,15 @@ solve-complete (v ∷ vs) atoms c [] e p = absurd (omega arith)
 solve-complete (v ∷ vs) atoms c (k ∷ w) e p =
     let m : k ∈ meet (runs v atoms) =
     meets v vs atoms c
-    (λ a i h. keys-in [] (c .good a i .wide) (headed-some v (a .vars) h) (along vs w (drop 1 (a .vars))) (rw (along-in v k vs w (a .vars) h) at (p a i))) in
+    (λ a i h. keys-in [] (c .partway a i .wide) (headed-some v (a .vars) h) (along vs w (drop 1 (a .vars))) (rw (along-in v k vs w (a .vars) h) at (p a i))) in
     flatMap-in (headedBy (λ (k : ℕ). solve vs (map (bind v k) atoms))) m
     (Memᴰ·map (λ (r : Row). k ∷ r)
-    (solve-complete vs (map (bind v k) atoms) (ready-bind v vs atoms c m) w (omega arith)
+    (solve-complete vs (map (bind v k) atoms) (joinable-bind v vs atoms c m) w (omega arith)
     (λ a i. let t = Memᴰ·of-map (bind v k) atoms i in subst (λ (a : Atom). along vs w (a .vars) ∈ a .rows) (t .2) (part-down v k vs w (t .0) (p (t .0) (t .1))))))
 
-pub solve-ascends : (vs : List ℕ) (atoms : List Atom) → Ready vs atoms → Asc (solve vs atoms)
+pub solve-ascends : (vs : List ℕ) (atoms : List Atom) → Joinable vs atoms → Asc (solve vs atoms)
 unfolding solve
 solve-ascends [] atoms c = amore (λ y m. absurd (not-in-nil m)) anone
 solve-ascends (v ∷ vs) atoms c =
     flatMap-asc (λ (k : ℕ). solve vs (map (bind v k) atoms)) (meet-ascends (runs v atoms) (runs-ascend v vs atoms c))
-    (λ k m. solve-ascends vs (map (bind v k) atoms) (ready-bind v vs atoms c m))
+    (λ k m. solve-ascends vs (map (bind v k) atoms) (joinable-bind v vs atoms c m))

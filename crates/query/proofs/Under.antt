@@ -8,7 +8,7 @@ use native.Mathlib.Decide.{decLt}
 use mathlib.Core.Path.{_≡_, refl, sym, subst, ap, ap₂, _∙_}
 use mathlib.Core.Bool.{Bool, true, false, false≢true}
 use mathlib.Core.List.{List, [], _∷_, _++_, map}
-use lib.ListN.{length, getD, drop, length-append, drop-of-length-le, List·getD-eq-default}
+use lib.ListN.{length, getD, drop, take-append-drop, length-append, drop-of-length-le, List·getD-eq-default}
 use lib.Seq.{drop-cons, drop-drop, slice}
 use lib.Dec.{eqb}
 use Rattle.relation.specs.Order.{Row, pick}
@@ -20,9 +20,10 @@ use Rattle.relation.proofs.Paths.{layer-from}
 use Rattle.relation.proofs.Children.{in-getD, group-row, key-at, begin-is, end-is, end-le, group-keys}
 use Rattle.relation.proofs.Tables.{ranked, ranked-at}
 use Rattle.query.specs.Meaning.{Atom, Table}
-use Rattle.query.specs.Solve.{standing, standings, headed, bind, runs, holders, nobody, prefixAt}
+use Rattle.query.specs.Solve.{standing, headed, bind, runs}
+use Rattle.query.specs.Descend.{standings, prefixAt, nobody, holders}
 use Rattle.query.proofs.Meet.{getD-in, in-getD as in-index}
-use Rattle.query.proofs.Beyond.{beyond-none, beyond-append, keys-beyond}
+use Rattle.query.proofs.Beyond.{beyond-none, beyond-append, keys-in, keys-beyond}
 use Rattle.query.proofs.Holders.{in-holders, runs-holders}
 
 -- ---- one atom
@@ -150,6 +151,21 @@ module _ {a : ℕ} {rows : List Row} (w : Width a rows) (d : ℕ) (h : d < a) wh
   pub group-under : (i : ℕ) → i < length (prefixes d rows) → let l = layerAt d rows in slice (getD (l .intervals) i 0) (getD (l .intervals) (suc i) (length (l .keys))) (l .keys) ≡ keysUnder (prefixAt d i rows) rows
   group-under i k =
       subst (λ (l : Layer). slice (getD (l .intervals) i 0) (getD (l .intervals) (suc i) (length (l .keys))) (l .keys) ≡ keysUnder (prefixAt d i rows) rows) (ranked-at d w h) (group-keys a d rows w h i k)
+
+  -- it ends inside the keys
+  pub group-end : (i : ℕ) → i < length (prefixes d rows) → let l = layerAt d rows in getD (l .intervals) (suc i) (length (l .keys)) ≤ length (l .keys)
+  group-end i k = subst (λ (l : Layer). getD (l .intervals) (suc i) (length (l .keys)) ≤ length (l .keys)) (ranked-at d w h) (end-le a d rows w h i k)
+
+  -- and it has a key
+  pub group-some : (i : ℕ) → i < length (prefixes d rows) → 0 < length (keysUnder (prefixAt d i rows) rows)
+  group-some i k =
+      let p = prefixAt d i rows in
+      let t = prefix-of d rows (in-getD (prefixes d rows) i k) in
+      let q = t .0 in
+      let e : length p ≡ d = prefix-length w d i (omega arith) k in
+      let f : q ≡ p ++ getD q d 0 ∷ drop (suc d) q = sym (take-append-drop d q) ∙ ap₂ (λ (x y : Row). x ++ y) (sym (t .2)) (drop-cons q d 0 (omega (arith, w q (t .1)))) in
+      let m : getD q d 0 ∈ keysUnder p rows = keys-in p w (omega arith) (drop (suc d) q) (rw f at (t .1)) in
+      omega (arith, in-index 0 m .1)
 
   -- the key at place j of the group leads to interval j below, whose words are one more
   pub group-child : (i j : ℕ) → i < length (prefixes d rows) → let l = layerAt d rows in getD (l .intervals) i 0 ≤ j → j < getD (l .intervals) (suc i) (length (l .keys)) → (j < length (prefixes (suc d) rows)) × (prefixAt (suc d) j rows ≡ prefixAt d i rows ++ getD (l .keys) j 0 ∷ [])

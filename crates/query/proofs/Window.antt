@@ -9,7 +9,7 @@ use mathlib.Core.List.{List, [], _∷_, _++_, append-assoc}
 use lib.ListN.{length, take, drop, length-append, length-take, length-drop, take-append-drop}
 use lib.Seq.{paste, take-at, drop-drop, drop-append-add}
 use lib.Dec.{leb, ltb, leb·suc-suc}
-use borrow.Author.Tests.{leb-true, leb-false, le-leb, lt-leb, lt-ltb}
+use borrow.Author.Tests.{leb-true, leb-false, le-leb, lt-leb, lt-ltb, ltb-true}
 use Rattle.relation.specs.Order.{Row, pick}
 use Rattle.relation.specs.Lists.{hd, tl}
 use Rattle.relation.specs.Rows.{Width, flat}
@@ -199,3 +199,22 @@ emits-windowed w n rows wide =
     let k : 0 + length (flat (take m rows)) ≡ m * n = omega (arith, length-flat n rows m wide (fit-le n (length w) (length rows))) in
     emits-after n rows w 0 wide (omega arith) ∙
     rw (e, z) (progress (ap (λ (k : ℕ). flat (take m rows) ++ drop k w) k) (omega arith) refl)
+
+-- ---- what the window says of itself
+
+-- full is said exactly when more rows exist than fit; with n = 0 never
+pub full-exactly : (w : List ℕ) (n : ℕ) (rows : List Row) → (windowed w n rows .full ≡ true → length w < length rows * n) × (length w < length rows * n → windowed w n rows .full ≡ true)
+unfolding windowed fit
+full-exactly w zero rows = (λ e. absurd (omega (arith, ltb-true (length rows) (length rows) e)), λ h. absurd (omega (arith, mul-zero (length rows))))
+full-exactly w (suc n) rows = (
+  λ e. let h : length w / suc n < length rows = omega (arith, ltb-true (min (length w / suc n) (length rows)) (length rows) e) in div-lt-iff-lt-mul p .0 h,
+  λ h. let g : length w / suc n < length rows = div-lt-iff-lt-mul p .1 h in lt-ltb (min (length w / suc n) (length rows)) (length rows) (omega arith),
+)
+  where
+    p : 0 < suc n
+    p = omega arith
+
+-- the rows written then: the window's length divided by n, rounded down
+pub full-count : (w : List ℕ) (n : ℕ) (rows : List Row) → windowed w (suc n) rows .full ≡ true → windowed w (suc n) rows .count ≡ length w / suc n
+unfolding windowed fit
+full-count w n rows e = omega (arith, ltb-true (min (length w / suc n) (length rows)) (length rows) e)

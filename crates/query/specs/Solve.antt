@@ -1,12 +1,12 @@
 -- The listing computed by descent. At each variable of the order the atoms whose list is headed by it take part. Of an atom there stands what is
 -- left of its list, and the rows that begin with the words given so far, with these dropped.
-use Prim.Native.Nat.{ℕ, suc}
+use Prim.Native.Nat.{ℕ}
 use mathlib.Core.Bool.{Bool, false}
 use mathlib.Core.List.{List, [], _∷_, map, flatMap}
-use lib.ListN.{length, getD, set, take, drop, replicate}
+use lib.ListN.{length, set, take, drop, replicate}
 use lib.Dec.{eqb}
 use Rattle.relation.specs.Order.{Row, pick}
-use Rattle.relation.specs.Layers.{prefixes, under, keysUnder}
+use Rattle.relation.specs.Layers.{under, keysUnder}
 use Rattle.query.specs.Meaning.{Atom}
 use Rattle.query.specs.Meet.{meet}
 
@@ -18,12 +18,6 @@ beyond p rows = map (drop (length p)) (under p rows)
 -- what stands of an atom once its first variables have the words p
 abbrev pub standing : Row → Atom → Atom
 standing p a = record { vars = drop (length p) (a .vars); rows = beyond p (a .rows) }
-
--- the same of each atom, where the words of atom i are f i
-unfoldable pub standings : (ℕ → Row) → List Atom → List Atom
-unfolding beyond
-standings f [] = []
-standings f (a ∷ l) = standing (f 0) a ∷ standings (λ (i : ℕ). f (suc i)) l
 
 -- whether a list of variables is headed by v
 unfoldable pub headed : ℕ → List ℕ → Bool
@@ -40,20 +34,6 @@ unfoldable pub runs : ℕ → List Atom → List (List ℕ)
 unfolding headed keysUnder
 runs v [] = []
 runs v (a ∷ l) = pick (headed v (a .vars)) (keysUnder [] (a .rows) ∷ runs v l) (runs v l)
-
--- the atoms that take part at v, by number
-unfoldable pub holders : ℕ → List Atom → List ℕ
-unfolding headed
-holders v [] = []
-holders v (a ∷ l) = pick (headed v (a .vars)) (0 ∷ map suc (holders v l)) (map suc (holders v l))
-
--- where an atom is looked up by a number that none has
-abbrev pub nobody : Atom
-nobody = record { vars = []; rows = [] }
-
--- the words under which interval i of layer d of a table stands
-abbrev pub prefixAt : ℕ → ℕ → List Row → Row
-prefixAt d i rows = getD (prefixes d rows) i []
 
 -- the rows that complete `row`, whose first n words are the variables', by words for the variables vs, in the sequence found
 unfoldable pub extend : ℕ → List ℕ → List Atom → Row → List Row
