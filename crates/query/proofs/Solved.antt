@@ -110,7 +110,7 @@ module _ (v k : ℕ) where
         (λ e m. rw (along-in w (a .vars) e) (in-beyond (k ∷ []) (a .rows) m))
         (λ e m. rw (along-out w (a .vars) e) m)
 
-    -- an atom stays so, where an atom that takes part has the key k
+    -- an atom stays partway, where one that takes part has the key k
     partway-bind : (a : Atom) → Partway (v ∷ vs) a → (headed v (a .vars) ≡ true → k ∈ keysUnder [] (a .rows)) → Partway vs (bind v k a)
     partway-bind a g h =
         bind-cases (Partway vs) a

@@ -1,6 +1,6 @@
 -- Where a cursor stands, and what stands of its atom there: for each atom the words given so far, and for a table's layers the interval of those words.
 -- Idea: an atom whose first variables have the words p is `standing p` of it; to give one variable more a word is to give p a word more. In a table's
--- layers interval i of layer d is that of the i-th beginning of d words, its group are the keys under it, and the key at place j leads to interval j
+-- layers interval i of layer d is that of the i-th beginning of d words, its group is the keys under it, and the key at place j leads to interval j
 -- below.
 use Prim.Native.Nat.{ℕ, zero, suc, _+_, _≤_, _<_}
 use native.Mathlib.Omega.{arith}

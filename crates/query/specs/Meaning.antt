@@ -27,7 +27,8 @@ Answer atoms v = (a : Atom) → a ∈ atoms → part (a .vars) v ∈ a .rows
 -- Demand 3: "the rows are exactly the assignments of words to variables whose part for each atom is a stored row: each once, ascending as read in
 -- the query's order"
 pub record Listing (n : ℕ) (order : List ℕ) (atoms : List Atom) (rows : List Row) : Type 0 where
-  -- "the rows are .. assignments of words to variables": a word for each of the n variables
+  -- "the rows are .. assignments of words to variables": a word for each of the n variables. Where each variable is in some atom, these are words of
+  -- stored rows
   pub wide : Width n rows
   -- "whose part for each atom is a stored row"
   pub sound : (v : Row) → v ∈ rows → Answer atoms v
@@ -60,6 +61,7 @@ pub record Table (a : Atom) : Type 0 where
   pub wide : Width (length (a .vars)) (a .rows)
   pub ascending : Asc (a .rows)
 
+-- the query passes: its order, its atoms' lists, its variables and its tables
 pub record Passes (n : ℕ) (order : List ℕ) (atoms : List Atom) : Type 0 where
   -- not 8
   pub permutation : Permutation n order
