@@ -10,5 +10,6 @@ pub mod Window
 pub mod Descend
 pub mod Holders
 pub mod Under
+pub mod Engine
 pub mod Checks
 pub mod Worked

@@ -13,7 +13,7 @@ pub record Progress : Type 0 where
   pub count : ℕ
   pub full : Bool
 
--- how many of c rows of n words fit in l words: l divided by n, rounded down, of them; the empty row takes no words and always fits
+-- how many of c rows of n words fit in l words: at most l divided by n, rounded down; the empty row takes no words and always fits
 unfoldable pub fit : ℕ → ℕ → ℕ → ℕ
 fit zero l c = c
 fit (suc n) l c = min (l / suc n) c
