@@ -87,6 +87,11 @@ told-undamaged pool t u =
     side d h true e = inl (ltb-true d (t .arity) e)
     side d h false e = inr (u .past d (ltb-false d (t .arity) e) h)
 
+pub undamaged-header : (pool : List ℕ) (t : ColumnTrie) → undamaged pool t ≡ true → headerSound (length pool) t ≡ true
+unfolding undamaged
+undamaged-header pool t e =
+    and-left (headerSound (length pool) t) (every maxArity (pastAt t) && layers.undamaged (t .arity) (t .capacity) (layersIn pool t) (t .«tuple_count»)) e
+
 -- the check's ways out
 module _ (pool : List ℕ) (t : ColumnTrie) where
   abbrev inner : Bool

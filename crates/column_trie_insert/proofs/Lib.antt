@@ -1,2 +1,4 @@
 mod Shifts
 mod Grows
+mod Places
+mod Walks

@@ -5,11 +5,13 @@ ghost use mathlib.Core.List.{_∷_, _++_, map};
 ghost use Prim.Native.Nat.{ℕ, suc, _+_, _≤_, _<_, _^_};
 ghost use lib.ListN.{length, take, drop, getD};
 ghost use Rattle.column_trie.specs.Pool.{lay};
-ghost use Rattle.column_trie.specs.Table.{dataLen, layerIn, headerSound};
+ghost use Rattle.column_trie.specs.Table.{dataLen, layerIn, rowsIn, headerSound, undamaged};
 ghost use Rattle.column_trie_insert.specs.Shift.{SmallFrom};
-ghost use Rattle.column_trie_insert.specs.Grow.{grown, Roomy, Added};
+ghost use Rattle.column_trie_insert.specs.Grow.{grown, Roomy, Added, Grouped, PlaceOf, PathOf};
 use column_trie::ColumnTrie;
 use column_trie::layer_at;
+use seek::SeekStrategy;
+use seek::partition_point;
 
 // Puts `word` at place `at` of the n words from `base` on: those from `at` on move one up.
 fn wedge(pool: &mut [u64], base: usize, at: usize, n: usize, word: u64)
@@ -106,4 +108,54 @@ fn begins(pool: &[u64], t: ColumnTrie, d: usize, i: usize) -> usize
     }
     let from = layer_at(t, d) + t.capacity + i;
     pool[from] as usize
+}
+
+// Where `key` stands in the group of interval i of layer d, or where it goes. How it is searched is no part of the contract.
+fn find_place(pool: &[u64], t: ColumnTrie, d: usize, i: usize, key: u64) -> Place
+    requires { ⌜ (headerSound (length (now pool)) t ≡ true) × (d < t .arity) × Grouped (layerIn (now pool) t d) i ⌝ }
+    ensures { λ r. ⌜ PlaceOf (layerIn (now (pool .entry)) t d) i key r ⌝ }
+{
+    let from = begins(pool, t, d, i);
+    let to = begins(pool, t, d, i + 1);
+    let data_from = layer_at(t, d);
+    let a = data_from + from;
+    let e = data_from + to;
+    let run = &pool[a..e];
+    let offset = partition_point(SeekStrategy::Linear, run, key).offset;
+    if offset < run.len() {
+        return Place {
+            at: from + offset,
+            there: run[offset] == key,
+        };
+    }
+    Place {
+        at: to,
+        there: false,
+    }
+}
+
+// Down the layers while the tuple's keys are stored. The table has rows.
+fn find_path(pool: &[u64], t: ColumnTrie, tuple: &[u64]) -> Path
+    requires { ⌜ (undamaged (now pool) t ≡ true) × (length (now tuple) ≡ t .arity) × (0 < t .«tuple_count») ⌝ }
+    ensures { λ r. ⌜ PathOf (t .arity) (rowsIn (now (pool .entry)) t) (now (tuple .entry)) r ⌝ }
+{
+    let mut d = 0;
+    let mut i = 0;
+    while d < t.arity {
+        let p = find_place(pool, t, d, i, tuple[d]);
+        if !p.there {
+            return Path {
+                depth: d,
+                interval: i,
+                at: p.at,
+            };
+        }
+        i = p.at;
+        d += 1;
+    }
+    Path {
+        depth: d,
+        interval: i,
+        at: i,
+    }
 }
