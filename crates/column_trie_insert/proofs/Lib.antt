@@ -2,3 +2,4 @@ mod Shifts
 mod Grows
 mod Places
 mod Walks
+mod Rows
