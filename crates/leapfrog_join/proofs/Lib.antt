@@ -1,0 +1,4 @@
+mod Lists
+mod Placing
+mod Sinking
+pub mod Sorting
