@@ -1,4 +1,7 @@
+mod Going
 mod Lists
+pub mod Parts
 mod Placing
+pub mod Runs
 mod Sinking
 pub mod Sorting

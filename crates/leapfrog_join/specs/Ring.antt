@@ -1,8 +1,8 @@
 -- The ring, a list of atoms, and its sort: by the keys on which the atoms stand, in the old sequence among equal keys.
 use mathlib.Core.List.{List, [], _∷_}
-use mathlib.Core.Bool.{Bool, true, false}
+use mathlib.Core.Bool.{true, false}
 use mathlib.Core.Path.{_≡_}
-use Prim.Native.Nat.{ℕ, zero, suc, _≤_, _<_}
+use Prim.Native.Nat.{ℕ, zero, suc, _+_, _≤_, _<_}
 use lib.ListN.{length, getD, take}
 use lib.Dec.{ltb}
 use Rattle.relation.specs.Lists.{_∈_, Ascends}
@@ -36,3 +36,10 @@ pub record Keyed (pool at ring : List ℕ) (k : ℕ) : Type 0 where
   pub few : k ≤ maxAtoms
   pub atoms : (a : ℕ) → a ∈ take k ring → a < maxAtoms
   pub words : (a : ℕ) → a ∈ take k ring → getD at a 0 < length pool
+
+-- place q of a ring of k follows place p, the first the last
+pub record Follows (k p q : ℕ) : Type 0 where
+  pub from : p < k
+  pub to : q < k
+  pub next : p + 1 < k → q ≡ p + 1
+  pub round : p + 1 ≡ k → q ≡ 0

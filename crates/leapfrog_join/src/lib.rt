@@ -1,12 +1,42 @@
-// Internal: every function here asks something of its caller by a `requires`. The leapfrog join of up to eight sorted runs, after Algorithms 1 to 4 of Veldhuizen 2014.
+// Internal: every function here asks something of its caller by a `requires`. The leapfrog join of sorted runs, Algorithms 1 to 4 of Veldhuizen 2014.
+//
+// The runs lie in one pool. Atom a stands at pool[at[a]], and its run ends before end[a]. The ring's first k entries are the atoms that take part;
+// p is a place of the ring. From p round, the keys on which the atoms stand do not fall: the atom at p has the least, the one before it the greatest.
 ghost use mathlib.Core.Path.{_≡_};
-ghost use mathlib.Core.List.{List, _++_};
-ghost use Prim.Native.Nat.{ℕ, _+_, _<_, _≤_};
-ghost use lib.ListN.{getD, take, drop};
-ghost use Rattle.leapfrog_join.specs.Ring.{keyOf, place, sorted, Rises, Keyed};
+ghost use mathlib.Core.List.{[], _∷_, _++_};
+ghost use Prim.Native.Nat.{_+_, _<_, _≤_};
+ghost use lib.ListN.{length, getD, take, drop};
+ghost use Rattle.relation.specs.Lists.{Ascends};
+ghost use Rattle.query.specs.Meet.{meet, from};
+ghost use Rattle.leapfrog_join.specs.Ring.{keyOf, place, sorted, Rises, Keyed, Follows};
+ghost use Rattle.leapfrog_join.specs.Leapfrog.{part, runsIn, Ready, Ordered, Agreed, Left, Begun, Reached};
+use seek::SeekStrategy;
+use seek::partition_point;
 
 // How many atoms there may be.
 pub const MAX_ATOMS: usize = 8;
+
+// How a search ends: with the key on which all stand, or with none, the atom at p having no key left. p is where the ring goes on.
+pub enum Hit {
+    Key { key: u64, p: usize },
+    Nothing { p: usize },
+}
+
+// The place of the ring after p.
+fn after(p: usize, k: usize) -> usize
+    requires { ⌜ p < k ⌝ }
+    ensures { λ r. ⌜ Follows k p r ⌝ }
+{
+    if p + 1 == k { 0 } else { p + 1 }
+}
+
+// The place of the ring before p.
+fn before(p: usize, k: usize) -> usize
+    requires { ⌜ p < k ⌝ }
+    ensures { λ r. ⌜ Follows k r p ⌝ }
+{
+    if p == 0 { k - 1 } else { p - 1 }
+}
 
 // Lets ring entry j sink to its place among the entries before it, whose keys do not fall: behind those whose keys are not above its own.
 fn sink(pool: &[u64], at: &[usize; MAX_ATOMS], ring: &mut [usize; MAX_ATOMS], j: usize)
@@ -40,4 +70,50 @@ fn sort_ring(pool: &[u64], at: &[usize; MAX_ATOMS], ring: &mut [usize; MAX_ATOMS
         sink(pool, at, ring, j);
         j += 1;
     }
+}
+
+// The place of the first key not below `target` in the run from x to e, or e. The seek is handed the keys not yet passed.
+fn seek_run(pool: &[u64], x: usize, e: usize, target: u64, strategy: SeekStrategy) -> usize
+    requires { ⌜ (x ≤ e) × (e ≤ length (now pool)) ⌝ }
+    requires { ⌜ Ascends _<_ (part (now pool) x e) ⌝ }
+    ensures { λ r. ⌜ Reached (now (pool .entry)) x e target r ⌝ }
+{
+    x + partition_point(strategy, &pool[x..e], target).offset
+}
+
+// Algorithm 2, from place `start` of an ordered ring: the atom with the least key seeks the greatest, until all agree or one has no key left.
+pub fn leapfrog_search(
+    pool: &[u64],
+    at: &mut [usize; MAX_ATOMS],
+    end: &[usize; MAX_ATOMS],
+    ring: &[usize; MAX_ATOMS],
+    k: usize,
+    start: usize,
+    strategy: SeekStrategy,
+) -> Hit
+    requires { ⌜ Ready (now pool) (now at) (now end) (now ring) k ⌝ }
+    requires { ⌜ Ordered (now pool) (now at) (now ring) k start ⌝ }
+    requires { ⌜ start < k ⌝ }
+    ensures { λ r. ⌜ Left (now (pool .entry)) (now (end .entry)) (now (ring .entry)) k (now (at .entry)) (now (at .exit)) (meet (runsIn (now (pool .entry)) (now (at .entry)) (now (end .entry)) (now (ring .entry)) k)) [] r ⌝ }
+{
+    let mut p = start;
+    let z = ring[before(start, k)];
+    let y = at[z];
+    let mut most = pool[y];
+    let hit: Hit = loop {
+        let a = ring[p];
+        let x = at[a];
+        if pool[x] == most {
+            break Hit::Key { key: most, p };
+        }
+        let e = end[a];
+        let q = seek_run(pool, x, e, most, strategy);
+        at[a] = q;
+        if q == e {
+            break Hit::Nothing { p };
+        }
+        most = pool[q];
+        p = after(p, k);
+    };
+    hit
 }
