@@ -117,3 +117,50 @@ pub fn leapfrog_search(
     };
     hit
 }
+
+// Algorithm 3, where all agree: the atom at p goes past the common key, and the search goes on from the next place.
+pub fn leapfrog_next(
+    pool: &[u64],
+    at: &mut [usize; MAX_ATOMS],
+    end: &[usize; MAX_ATOMS],
+    ring: &[usize; MAX_ATOMS],
+    k: usize,
+    p: usize,
+    strategy: SeekStrategy,
+) -> Hit
+    requires { ⌜ Agreed (now pool) (now at) (now end) (now ring) k (keyOf (now pool) (now at) (getD (now ring) p 0)) p ⌝ }
+    ensures { λ r. ⌜ Left (now (pool .entry)) (now (end .entry)) (now (ring .entry)) k (now (at .entry)) (now (at .exit)) (meet (runsIn (now (pool .entry)) (now (at .entry)) (now (end .entry)) (now (ring .entry)) k)) (keyOf (now (pool .entry)) (now (at .entry)) (getD (now (ring .entry)) p 0) ∷ []) r ⌝ }
+{
+    let a = ring[p];
+    let q = at[a] + 1;
+    at[a] = q;
+    if q == end[a] {
+        return Hit::Nothing { p };
+    }
+    leapfrog_search(pool, at, end, ring, k, after(p, k), strategy)
+}
+
+// Algorithm 4, where all agree: the atom at p seeks `target`, and the search goes on from the next place. A target not above the common key finds that key.
+pub fn leapfrog_seek(
+    pool: &[u64],
+    at: &mut [usize; MAX_ATOMS],
+    end: &[usize; MAX_ATOMS],
+    ring: &[usize; MAX_ATOMS],
+    k: usize,
+    p: usize,
+    target: u64,
+    strategy: SeekStrategy,
+) -> Hit
+    requires { ⌜ Agreed (now pool) (now at) (now end) (now ring) k (keyOf (now pool) (now at) (getD (now ring) p 0)) p ⌝ }
+    ensures { λ r. ⌜ Left (now (pool .entry)) (now (end .entry)) (now (ring .entry)) k (now (at .entry)) (now (at .exit)) (from target (meet (runsIn (now (pool .entry)) (now (at .entry)) (now (end .entry)) (now (ring .entry)) k))) [] r ⌝ }
+{
+    let a = ring[p];
+    let x = at[a];
+    let e = end[a];
+    let q = seek_run(pool, x, e, target, strategy);
+    at[a] = q;
+    if q == e {
+        return Hit::Nothing { p };
+    }
+    leapfrog_search(pool, at, end, ring, k, after(p, k), strategy)
+}
