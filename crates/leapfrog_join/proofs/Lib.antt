@@ -1,3 +1,4 @@
+pub mod Beginning
 mod Going
 pub mod Laws
 mod Lists

@@ -118,6 +118,23 @@ pub fn leapfrog_search(
     hit
 }
 
+// Algorithm 1, on a ring in atom order: sorts it, and searches from its first place.
+pub fn leapfrog_init(
+    pool: &[u64],
+    at: &mut [usize; MAX_ATOMS],
+    end: &[usize; MAX_ATOMS],
+    ring: &mut [usize; MAX_ATOMS],
+    k: usize,
+    strategy: SeekStrategy,
+) -> Hit
+    requires { ⌜ Ready (now pool) (now at) (now end) (now ring) k ⌝ }
+    requires { ⌜ Ascends _<_ (take k (now ring)) ⌝ }
+    ensures { λ r. ⌜ Begun (now (pool .entry)) (now (end .entry)) k (now (ring .entry)) (now (ring .exit)) (now (at .entry)) (now (at .exit)) r ⌝ }
+{
+    sort_ring(pool, at, ring, k);
+    leapfrog_search(pool, at, end, ring, k, 0, strategy)
+}
+
 // Algorithm 3, where all agree: the atom at p goes past the common key, and the search goes on from the next place.
 pub fn leapfrog_next(
     pool: &[u64],
