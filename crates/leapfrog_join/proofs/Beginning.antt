@@ -4,7 +4,6 @@ use mathlib.Core.Path.{_≡_, sym, ap, _∙_}
 use mathlib.Core.Logic.{⊎-elim}
 use mathlib.Core.List.{List, [], _++_}
 use Prim.Native.Nat.{ℕ, _≤_, _<_}
-use native.Mathlib.Decide.{decLt}
 use native.Mathlib.Nat.{eq-or-lt-of-le}
 use native.Mathlib.Omega.{arith}
 use lib.ListN.{length, getD, take, drop, length-append, length-drop}
@@ -14,7 +13,7 @@ use Rattle.query.specs.Meet.{meet}
 use Rattle.leapfrog_join.specs.declared.Hit.{Hit}
 use Rattle.leapfrog_join.specs.Ring.{maxAtoms, keyOf, sorted, Keyed}
 use Rattle.leapfrog_join.specs.Leapfrog.{runsIn, Ready, Ordered, Left, Begun}
-use Rattle.leapfrog_join.proofs.Lists.{ascends-getD}
+use Rattle.leapfrog_join.proofs.Lists.{ascends-getD, ascends-apart}
 use Rattle.leapfrog_join.proofs.Runs.{enough}
 use Rattle.leapfrog_join.proofs.Laws.{Same, same-meet}
 use Rattle.leapfrog_join.proofs.Sorting.{Before, sorted-length, sorted-rises, sorted-in, in-sorted, sorted-stable}
@@ -30,10 +29,9 @@ module _ (κ : ℕ → ℕ) (ring ring′ : List ℕ) (k : ℕ) (few : k ≤ len
   sorted-size : length ring′ ≡ length ring
   sorted-size = ap length e ∙ (length-append (sorted κ ring k) (drop k ring) ∙ omega (arith, sorted-length κ ring k, length-drop k ring))
 
-  by-place : {R : ℕ → ℕ → Type 0} → Ascends R (sorted κ ring k) → (i j : ℕ) → i < j → j < k → R (getD ring′ i 0) (getD ring′ j 0)
-  by-place {R} s i j l m =
-      rw (← getD-take k ring′ i 0 (omega arith), ← getD-take k ring′ j 0 m, front)
-      (ascends-getD s i j 0 l (omega (arith, sorted-length κ ring k)))
+  -- by place
+  by-front : (j : ℕ) → j < k → getD (sorted κ ring k) j 0 ≡ getD ring′ j 0
+  by-front j l = ap (λ (r : List ℕ). getD r j 0) (sym front) ∙ getD-take k ring′ j 0 l
 
   -- atoms in ascending order stay different
   pub sorted-same : length ring ≡ maxAtoms → Ascends _<_ (take k ring) → Same ring ring′ k
@@ -41,18 +39,12 @@ module _ (κ : ℕ → ℕ) (ring ring′ : List ℕ) (k : ℕ) (few : k ≤ len
     size = sorted-size ∙ size;
     to = λ a m. rw front (in-sorted κ ring k few m);
     back = λ a m. sorted-in κ ring k few (rw front at m);
-    apart = λ i j h g d. test i j h g d (decLt i j) (decLt j i);
+    apart = λ i j h g d.
+        ascends-apart irreflexive (sorted-stable κ ring k few asc) i j 0 (omega (arith, sorted-length κ ring k)) (omega (arith, sorted-length κ ring k)) (by-front i h ∙ (d ∙ sym (by-front j g)));
   }
     where
-      differ : (i j : ℕ) → i < j → j < k → getD ring′ i 0 ≡ getD ring′ j 0 → ⊥
-      differ i j l m d =
-          ⊎-elim (λ h. omega (arith, ap κ d)) (λ (h : (κ (getD ring′ i 0) ≡ κ (getD ring′ j 0)) × (getD ring′ i 0 < getD ring′ j 0)). omega (arith, h .1))
-          (by-place {R = Before κ} (sorted-stable κ ring k few asc) i j l m)
-
-      test : (i j : ℕ) → i < k → j < k → getD ring′ i 0 ≡ getD ring′ j 0 → Dec (i < j) → Dec (j < i) → i ≡ j
-      test i j h g d (yes l) o = absurd (differ i j l g d)
-      test i j h g d (no n) (yes l) = absurd (differ j i l h (sym d))
-      test i j h g d (no n) (no o) = omega arith
+      irreflexive : (a : ℕ) → Before κ a a → ⊥
+      irreflexive a o = ⊎-elim (λ h. omega arith) (λ (h : (κ a ≡ κ a) × (a < a)). omega (arith, h .1)) o
 
 module _ {pool at end ring ring′ : List ℕ} {k : ℕ} (r : Ready pool at end ring k) (asc : Ascends _<_ (take k ring)) (e : ring′ ≡ sorted (keyOf pool at) ring k ++ drop k ring) where
   pub begun-same : Same ring ring′ k
@@ -62,7 +54,8 @@ module _ {pool at end ring ring′ : List ℕ} {k : ℕ} (r : Ready pool at end 
   begun-ordered = record {
     up = λ i j a b c. ⊎-elim
         (λ (d : i ≡ j). rw d (omega arith))
-        (λ l. by-place (keyOf pool at) ring ring′ k (enough r) e {R = λ (a b : ℕ). keyOf pool at a ≤ keyOf pool at b} (sorted-rises (keyOf pool at) ring k) i j l c)
+        (λ l. rw (← by-front (keyOf pool at) ring ring′ k (enough r) e i (omega arith), ← by-front (keyOf pool at) ring ring′ k (enough r) e j c)
+        (ascends-getD (sorted-rises (keyOf pool at) ring k) i j 0 l (omega (arith, sorted-length (keyOf pool at) ring k))))
         (eq-or-lt-of-le b);
     wrapped = λ i j a b. absurd (omega arith);
     over = λ i j a b c. absurd (omega arith);

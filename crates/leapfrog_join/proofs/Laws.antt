@@ -2,17 +2,25 @@
 -- Idea: everything but the sequence of places is said of atoms, so it holds of any ring that has the same ones.
 use mathlib.Core.Path.{_≡_, sym, ap, _∙_}
 use mathlib.Core.List.{List, _∷_, _++_, map}
-use Prim.Native.Nat.{ℕ, _+_, _<_}
+use Prim.Native.Nat.{ℕ, _+_, _≤_, _<_}
 use native.Mathlib.Omega.{arith}
 use lib.ListN.{length, getD, take, drop}
-use Rattle.relation.specs.Lists.{_∈_}
+use lib.Seq.{getD-take, length-take-le}
+use Rattle.relation.specs.Lists.{_∈_, Ascends}
 use Rattle.query.specs.Meet.{meet, Agree}
 use Rattle.query.proofs.Meet.{meet-map}
 use Rattle.query.proofs.Leap.{agree-tails}
 use Rattle.leapfrog_join.specs.declared.Hit.the-variants.{Key}
 use Rattle.leapfrog_join.specs.Ring.{maxAtoms, keyOf}
 use Rattle.leapfrog_join.specs.Leapfrog.{part, runOf, runsIn, Ready, Ordered, Agreed, Moved, Left}
+use Rattle.leapfrog_join.proofs.Lists.{ascends-apart}
 use Rattle.leapfrog_join.proofs.Runs.{ring-in, ready-length, ready-runs, ready-heads}
+
+-- a ring in atom order has different atoms
+pub order-apart : (ring : List ℕ) (k : ℕ) → k ≤ length ring → Ascends _<_ (take k ring) → (i j : ℕ) → i < k → j < k → getD ring i 0 ≡ getD ring j 0 → i ≡ j
+order-apart ring k h s i j l m e =
+    ascends-apart (λ a o. omega arith) s i j 0 (omega (arith, length-take-le k ring h)) (omega (arith, length-take-le k ring h))
+    (getD-take k ring i 0 l ∙ (e ∙ sym (getD-take k ring j 0 m)))
 
 -- ---- a ring that agrees on x
 

@@ -8,3 +8,4 @@ pub mod Runs
 mod Sinking
 pub mod Sorting
 mod Stepping
+mod Worked
