@@ -5,7 +5,7 @@ use native.Mathlib.Omega.{arith}
 use native.Mathlib.Nat.{le-of-suc-le-suc}
 use native.Mathlib.Decide.{ℕ-discrete}
 use mathlib.Core.Path.{_≡_, refl, sym, subst, ap, _∙_}
-use mathlib.Core.Logic.{_⊎_, inl, inr, ⊎-elim}
+use mathlib.Core.Logic.{⊎-elim}
 use mathlib.Core.Bool.{Bool, true, false}
 use mathlib.Core.List.{List, [], _∷_, map, Memᴰ·cast}
 use lib.ListN.{length, getD, set, drop, length-set, length-map, List·getD-map}
@@ -16,7 +16,7 @@ use Rattle.relation.specs.Order.{pick}
 use Rattle.relation.specs.Lists.{_∈_, hd, tl, not-in-nil, in-cons, Ascends, anone, amore}
 use Rattle.relation.proofs.Lists.{ascends-head, ascends-tail}
 use Rattle.query.specs.Meet.{meet, from, All, Runs, Agree, total}
-use Rattle.query.proofs.Meet.{meet-to, meet-of, meet-asc, same-keys, none-left}
+use Rattle.query.proofs.Meet.{getD-in, meet-all, meet-to, meet-of, meet-asc, same-keys, none-left}
 
 -- ---- one run
 
@@ -93,8 +93,11 @@ total-set (s ∷ rs) (suc j) r h = omega (arith, total-set rs j r (le-of-suc-le-
 -- ---- many runs
 
 -- one run is empty: nothing is in common
+pub meet-nil : (rs : List (List ℕ)) → [] ∈ rs → meet rs ≡ []
+meet-nil rs i = none-left (meet rs) (λ k m. not-in-nil (meet-all rs m [] i))
+
 pub meet-none : (rs : List (List ℕ)) (j : ℕ) → j < length rs → getD rs j [] ≡ [] → meet rs ≡ []
-meet-none rs j h e = none-left (meet rs) (λ k m. not-in-nil (rw e at (meet-to rs m j h)))
+meet-none rs j h e = meet-nil rs (rw e at (getD-in rs j [] h))
 
 -- a change of run j: what holds of the run there now, and of the others still
 at-set : (rs : List (List ℕ)) (j : ℕ) (r : List ℕ) (P : List ℕ → Type 0) → j < length rs → P r → ((i : ℕ) → i < length rs → (i ≡ j → ⊥) → P (getD rs i [])) → (i : ℕ) → i < length rs → P (getD (set rs j r) i [])

@@ -1,3 +1,15 @@
 pub mod Meet
 pub mod Leap
 pub mod Ring
+pub mod Beyond
+pub mod Perm
+pub mod Unique
+pub mod Solved
+pub mod Listed
+pub mod Window
+pub mod Descend
+pub mod Holders
+pub mod Under
+pub mod Engine
+pub mod Checks
+pub mod Worked

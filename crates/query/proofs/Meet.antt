@@ -4,7 +4,7 @@ use Prim.Native.Nat.{ℕ, zero, suc, _<_}
 use native.Mathlib.Omega.{arith}
 use native.Mathlib.Nat.{le-of-suc-le-suc}
 use mathlib.Core.Path.{_≡_, refl, sym, subst, ap, _∙_}
-use mathlib.Core.Logic.{_⊎_, inl, inr, ⊎-elim}
+use mathlib.Core.Logic.{⊎-elim}
 use mathlib.Core.Bool.{Bool, true, false, false≢true}
 use mathlib.Core.List.{List, [], _∷_, map, Memᴰ·map, Memᴰ·of-map}
 use lib.ListN.{length, getD}
@@ -32,6 +32,13 @@ in-has {k} (tl {x = x} {xs = xs} m) = go (eqb x k) (in-has m)
     go : (b : Bool) → has xs k ≡ true → pick b true (has xs k) ≡ true
     go true e = refl
     go false e = e
+
+pub has-not : (xs : List ℕ) (k : ℕ) → (k ∈ xs → ⊥) → has xs k ≡ false
+has-not xs k n = go (has xs k) refl
+  where
+    go : (b : Bool) → has xs k ≡ b → b ≡ false
+    go true e = absurd (n (has-in xs k e))
+    go false e = refl
 
 pub in-keep : (p : ℕ → Bool) (xs : List ℕ) {k : ℕ} → k ∈ keep p xs → (k ∈ xs) × (p k ≡ true)
 unfolding keep

@@ -1,8 +1,9 @@
 -- The ring of a leapfrog: keys do not fall from place p round. Idea: the least key, put past all the others, leaves a ring that starts at the next place.
-use mathlib.Core.Path.{_≡_, refl, sym, subst, ap, _∙_}
-use mathlib.Core.Logic.{_⊎_, inl, inr, ⊎-elim}
-use Prim.Native.Nat.{ℕ, zero, suc, _+_, _-_, _<_, _≤_}
-use native.Mathlib.Nat.{eq-or-lt-of-le, eq-zero-or-pos, le-refl}
+use mathlib.Core.Path.{_≡_, sym, subst}
+use mathlib.Core.Logic.{⊎-elim}
+use Prim.Native.Nat.{ℕ, _+_, _<_, _≤_}
+use native.Mathlib.Nat.{eq-or-lt-of-le, le-refl}
+use native.Mathlib.Decide.{decLt}
 use native.Mathlib.Omega.{arith}
 use Rattle.query.specs.Ring.{Round}
 
@@ -41,18 +42,11 @@ module _ {κ κ′ : ℕ → ℕ} {k p : ℕ} (m : Passed κ κ′ k p) where
     over = λ i j a b c. absurd (omega arith);
   }
 
--- least and greatest agree: all do
-pub agree : {κ : ℕ → ℕ} {k p : ℕ} (z x : ℕ) → p < k → Round κ k p → (p ≡ 0 → z + 1 ≡ k) → (0 < p → z + 1 ≡ p) → z < k → κ p ≡ x → κ z ≡ x →
-    (j : ℕ) → j < k → κ j ≡ x
-agree {κ} {k} {p} z x h r first later zk e f j c =
-    ⊎-elim
-    (λ l. ⊎-elim
-    (λ o. omega (arith, r .up p j (le-refl p) l c, r .up j z l (omega (arith, first (sym o))) zk))
-    (λ o. omega (arith, r .up p j (le-refl p) l c, r .over j z (omega (arith, later o)) l c))
-    (eq-or-lt-of-le {n = 0} {m = p} (omega arith)))
-    (λ l. omega (arith, r .over p j l (le-refl p) h, r .wrapped j z (omega (arith, later (omega arith))) (omega (arith, later (omega arith)))))
-    (split j p)
+-- z is the place before p, so its key is the greatest: where it agrees with the least, all do
+pub agree : {κ : ℕ → ℕ} {k p : ℕ} (z x : ℕ) → p < k → Round κ k p → (p ≡ 0 → z + 1 ≡ k) → (0 < p → z + 1 ≡ p) → z < k → κ p ≡ x → κ z ≡ x → (j : ℕ) → j < k → κ j ≡ x
+agree {κ} {k} {p} z x h r first later zk e f j c = go (decLt j p) (decLt 0 p)
   where
-    split : (a b : ℕ) → (b ≤ a) ⊎ (a < b)
-    split a zero = inl (omega arith)
-    split a (suc b) = ⊎-elim (λ e. inr (omega arith)) (λ o. ⊎-elim (λ l. inl (omega arith)) (λ l. inr (omega arith)) (split (a - 1) b)) (eq-zero-or-pos a)
+    go : Dec (j < p) → Dec (0 < p) → κ j ≡ x
+    go (yes l) o = omega (arith, r .over p j l (le-refl p) h, r .wrapped j z (omega (arith, later (omega arith))) (omega (arith, later (omega arith))))
+    go (no l) (yes o) = omega (arith, r .up p j (le-refl p) (omega arith) c, r .over j z (omega (arith, later o)) (omega arith) c)
+    go (no l) (no o) = omega (arith, r .up p j (le-refl p) (omega arith) c, r .up j z (omega arith) (omega (arith, first (omega arith))) zk)

@@ -1,2 +1,8 @@
+pub mod Meaning
+pub mod Checks
 pub mod Meet
 pub mod Ring
+pub mod Solve
+pub mod Window
+pub mod Descend
+pub mod Worked

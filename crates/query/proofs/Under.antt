@@ -1,0 +1,201 @@
+-- Where a cursor stands, and what stands of its atom there: for each atom the words given so far, and for a table's layers the interval of those words.
+-- Idea: an atom whose first variables have the words p is `standing p` of it; to give one variable more a word is to give p a word more. In a table's
+-- layers interval i of layer d is that of the i-th beginning of d words, its group is the keys under it, and the key at place j leads to interval j
+-- below.
+use Prim.Native.Nat.{ℕ, zero, suc, _+_, _≤_, _<_}
+use native.Mathlib.Omega.{arith}
+use native.Mathlib.Decide.{decLt}
+use mathlib.Core.Path.{_≡_, refl, sym, subst, ap, ap₂, _∙_}
+use mathlib.Core.Bool.{Bool, true, false, false≢true}
+use mathlib.Core.List.{List, [], _∷_, _++_, map}
+use lib.ListN.{length, getD, drop, take-append-drop, length-append, drop-of-length-le, List·getD-eq-default}
+use lib.Seq.{drop-cons, drop-drop, slice}
+use lib.Dec.{eqb}
+use Rattle.relation.specs.Order.{Row, pick}
+use Rattle.relation.specs.Lists.{_∈_, hd, tl}
+use Rattle.relation.specs.Rows.{Asc, Width}
+use Rattle.relation.specs.Layers.{Layer, layer, prefixes, under, keysUnder, layerAt, layersOf}
+use Rattle.relation.proofs.Layers.{keysAt, rankedAt, length-keys, length-intervals, parent-in, prefixes-asc, prefixes-width, prefix-of, prefix-in}
+use Rattle.relation.proofs.Paths.{layer-from}
+use Rattle.relation.proofs.Children.{in-getD, group-row, key-at, begin-is, end-is, end-le, group-keys}
+use Rattle.relation.proofs.Tables.{ranked, ranked-at}
+use Rattle.query.specs.Meaning.{Atom, Table}
+use Rattle.query.specs.Solve.{standing, headed, bind, runs}
+use Rattle.query.specs.Descend.{standings, prefixAt, nobody, holders}
+use Rattle.query.proofs.Meet.{getD-in, in-getD as in-index}
+use Rattle.query.proofs.Beyond.{beyond-none, beyond-append, keys-in, keys-beyond}
+use Rattle.query.proofs.Holders.{in-holders, runs-holders}
+
+-- ---- one atom
+
+module _ (p : Row) (a : Atom) where
+  -- the keys that it shows next
+  pub standing-keys : Width (length (a .vars)) (a .rows) → length p < length (a .vars) → keysUnder [] (standing p a .rows) ≡ keysUnder p (a .rows)
+  standing-keys = keys-beyond p
+
+  -- whether it takes part at v: the next of its variables is v
+  pub standing-headed : (v : ℕ) → length p < length (a .vars) → headed v (standing p a .vars) ≡ eqb (getD (a .vars) (length p) 0) v
+  unfolding headed
+  standing-headed v h = ap (headed v) (drop-cons (a .vars) (length p) 0 h)
+
+  -- with all its variables given, it takes no part
+  pub standing-done : (v : ℕ) → length (a .vars) ≤ length p → headed v (standing p a .vars) ≡ false
+  unfolding headed
+  standing-done v h = ap (headed v) (drop-of-length-le (a .vars) h)
+
+  pub standing-append : (q : Row) → Asc (a .rows) → standing (p ++ q) a ≡ standing q (standing p a)
+  standing-append q s =
+      ap₂ {C = Atom} (λ vs rs. record { vars = vs; rows = rs })
+      (ap (λ (n : ℕ). drop n (a .vars)) (length-append p q) ∙ sym (drop-drop (length q) (length p) (a .vars)))
+      (beyond-append p q s)
+
+  -- it takes part, and v has the word k
+  pub bind-in : (v k : ℕ) → Asc (a .rows) → headed v (standing p a .vars) ≡ true → bind v k (standing p a) ≡ standing (p ++ k ∷ []) a
+  unfolding bind
+  bind-in v k s e = ap (λ (b : Bool). pick b (standing (k ∷ []) (standing p a)) (standing p a)) e ∙ sym (standing-append (k ∷ []) s)
+
+-- no word given
+pub standing-none : (a : Atom) → Asc (a .rows) → standing [] a ≡ a
+standing-none a s i = record { vars = a .vars; rows = beyond-none s i }
+
+-- it takes no part
+pub bind-out : (v k : ℕ) (a : Atom) → headed v (a .vars) ≡ false → bind v k a ≡ a
+unfolding bind
+bind-out v k a e = ap (λ (b : Bool). pick b (standing (k ∷ []) a) a) e
+
+-- ---- all atoms, by number
+
+pub length-standings : (f : ℕ → Row) (atoms : List Atom) → length (standings f atoms) ≡ length atoms
+unfolding standings
+length-standings f [] = refl
+length-standings f (a ∷ l) = ap suc (length-standings (λ i. f (suc i)) l)
+
+pub standings-at : (f : ℕ → Row) (atoms : List Atom) (i : ℕ) → i < length atoms → getD (standings f atoms) i nobody ≡ standing (f i) (getD atoms i nobody)
+unfolding standings
+standings-at f [] i h = absurd (omega arith)
+standings-at f (a ∷ l) zero h = refl
+standings-at f (a ∷ l) (suc i) h = standings-at (λ i. f (suc i)) l i (omega arith)
+
+-- at the root
+pub standings-none : (f : ℕ → Row) (atoms : List Atom) → ((a : Atom) → a ∈ atoms → Asc (a .rows)) → ((i : ℕ) → i < length atoms → f i ≡ []) → standings f atoms ≡ atoms
+unfolding standings
+standings-none f [] s e = refl
+standings-none f (a ∷ l) s e =
+    ap₂ {C = List Atom} (λ b m. b ∷ m)
+    (ap (λ (p : Row). standing p a) (e 0 (omega arith)) ∙ standing-none a (s a (hd refl)))
+    (standings-none (λ i. f (suc i)) l (λ b m. s b (tl m)) (λ i h. e (suc i) (omega arith)))
+
+-- v has the word k: the atoms that take part gain it, the others stay
+pub record Gains (v k : ℕ) (p : Row) (a : Atom) (q : Row) : Type 0 where
+  pub taking : headed v (standing p a .vars) ≡ true → q ≡ p ++ k ∷ []
+  pub staying : headed v (standing p a .vars) ≡ false → q ≡ p
+
+bind-standing : (v k : ℕ) (p q : Row) (a : Atom) → Asc (a .rows) → Gains v k p a q → bind v k (standing p a) ≡ standing q a
+bind-standing v k p q a s g = go (headed v (standing p a .vars)) refl
+  where
+    go : (b : Bool) → headed v (standing p a .vars) ≡ b → bind v k (standing p a) ≡ standing q a
+    go true e = bind-in p a v k s e ∙ ap (λ (r : Row). standing r a) (sym (g .taking e))
+    go false e = bind-out v k (standing p a) e ∙ ap (λ (r : Row). standing r a) (sym (g .staying e))
+
+pub standings-bind : (v k : ℕ) (f g : ℕ → Row) (atoms : List Atom) → ((a : Atom) → a ∈ atoms → Asc (a .rows)) → ((i : ℕ) → i < length atoms → Gains v k (f i) (getD atoms i nobody) (g i)) → map (bind v k) (standings f atoms) ≡ standings g atoms
+unfolding standings
+standings-bind v k f g [] s e = refl
+standings-bind v k f g (a ∷ l) s e =
+    ap₂ {C = List Atom} (λ b m. b ∷ m)
+    (bind-standing v k (f 0) (g 0) a (s a (hd refl)) (e 0 (omega arith)))
+    (standings-bind v k (λ i. f (suc i)) (λ i. g (suc i)) l (λ b m. s b (tl m)) (λ i h. e (suc i) (omega arith)))
+
+-- ---- the runs of those that take part
+
+-- the keys under the words that each has
+pub standings-runs : (v : ℕ) (f : ℕ → Row) (atoms : List Atom) → ((a : Atom) → a ∈ atoms → Table a) → runs v (standings f atoms) ≡ map (λ (i : ℕ). keysUnder (f i) (getD atoms i nobody .rows)) (holders v (standings f atoms))
+standings-runs v f atoms t =
+    runs-holders v (standings f atoms) ∙
+    map-cong (holders v (standings f atoms))
+    (λ i m.
+    let u = in-holders v (standings f atoms) m in
+    let h : i < length atoms = rw (length-standings f atoms) at (u .0) in
+    let a = getD atoms i nobody in
+    let e = standings-at f atoms i h in
+    ap (λ (b : Atom). keysUnder [] (b .rows)) e ∙
+    standing-keys (f i) a (t a (getD-in atoms i nobody h) .wide) (short (f i) a (rw e at (u .1))))
+  where
+    map-cong : {g h : ℕ → List ℕ} (l : List ℕ) → ((i : ℕ) → i ∈ l → g i ≡ h i) → map g l ≡ map h l
+    map-cong [] e = refl
+    map-cong (x ∷ l) e = ap₂ {C = List (List ℕ)} (λ b m. b ∷ m) (e x (hd refl)) (map-cong l (λ i m. e i (tl m)))
+
+    short : (p : Row) (a : Atom) → headed v (standing p a .vars) ≡ true → length p < length (a .vars)
+    short p a e = go (decLt (length p) (length (a .vars)))
+      where
+        go : Dec (length p < length (a .vars)) → length p < length (a .vars)
+        go (yes h) = h
+        go (no n) = absurd (false≢true (sym (standing-done p a v (omega arith)) ∙ e))
+
+-- ---- the layers of a table: interval i of layer d
+
+pub layer-is : {a : ℕ} {rows : List Row} → Width a rows → (d : ℕ) → d < a → layer (layersOf a rows) d ≡ layerAt d rows
+layer-is {a} {rows} w d h = ap (λ (ls : List Layer). layer ls d) (sym (ranked w)) ∙ layer-from 0 a rows d h ∙ ap (λ (n : ℕ). rankedAt n rows) (let e : 0 + d ≡ d = omega arith in e) ∙ ranked-at d w h
+
+pub prefix-length : {a : ℕ} {rows : List Row} → Width a rows → (d i : ℕ) → d ≤ a → i < length (prefixes d rows) → length (prefixAt d i rows) ≡ d
+prefix-length {rows = rows} w d i h l = prefixes-width d w h (prefixAt d i rows) (in-getD (prefixes d rows) i l)
+
+module _ {a : ℕ} {rows : List Row} (w : Width a rows) (d : ℕ) (h : d < a) where
+  -- one interval for each beginning of d words, one key for each of d + 1
+  pub intervals-many : length (layerAt d rows .intervals) ≡ length (prefixes d rows)
+  intervals-many = ap (λ (l : Layer). length (l .intervals)) (sym (ranked-at d w h)) ∙ length-intervals d rows
+
+  pub keys-many : length (layerAt d rows .keys) ≡ length (prefixes (suc d) rows)
+  keys-many = ap (λ (l : Layer). length (l .keys)) (sym (ranked-at d w h)) ∙ length-keys d rows
+
+  -- the group of interval i: the keys under its words
+  pub group-under : (i : ℕ) → i < length (prefixes d rows) → let l = layerAt d rows in slice (getD (l .intervals) i 0) (getD (l .intervals) (suc i) (length (l .keys))) (l .keys) ≡ keysUnder (prefixAt d i rows) rows
+  group-under i k =
+      subst (λ (l : Layer). slice (getD (l .intervals) i 0) (getD (l .intervals) (suc i) (length (l .keys))) (l .keys) ≡ keysUnder (prefixAt d i rows) rows) (ranked-at d w h) (group-keys a d rows w h i k)
+
+  -- it ends inside the keys
+  pub group-end : (i : ℕ) → i < length (prefixes d rows) → let l = layerAt d rows in getD (l .intervals) (suc i) (length (l .keys)) ≤ length (l .keys)
+  group-end i k = subst (λ (l : Layer). getD (l .intervals) (suc i) (length (l .keys)) ≤ length (l .keys)) (ranked-at d w h) (end-le a d rows w h i k)
+
+  -- and it has a key
+  pub group-some : (i : ℕ) → i < length (prefixes d rows) → 0 < length (keysUnder (prefixAt d i rows) rows)
+  group-some i k =
+      let p = prefixAt d i rows in
+      let t = prefix-of d rows (in-getD (prefixes d rows) i k) in
+      let q = t .0 in
+      let e : length p ≡ d = prefix-length w d i (omega arith) k in
+      let f : q ≡ p ++ getD q d 0 ∷ drop (suc d) q = sym (take-append-drop d q) ∙ ap₂ (λ (x y : Row). x ++ y) (sym (t .2)) (drop-cons q d 0 (omega (arith, w q (t .1)))) in
+      let m : getD q d 0 ∈ keysUnder p rows = keys-in p w (omega arith) (drop (suc d) q) (rw f at (t .1)) in
+      omega (arith, in-index 0 m .1)
+
+  -- the key at place j of the group leads to interval j below, whose words are one more
+  pub group-child : (i j : ℕ) → i < length (prefixes d rows) → let l = layerAt d rows in getD (l .intervals) i 0 ≤ j → j < getD (l .intervals) (suc i) (length (l .keys)) → (j < length (prefixes (suc d) rows)) × (prefixAt (suc d) j rows ≡ prefixAt d i rows ++ getD (l .keys) j 0 ∷ [])
+  group-child i j k =
+      subst (λ (l : Layer). getD (l .intervals) i 0 ≤ j → j < getD (l .intervals) (suc i) (length (l .keys)) → (j < length (prefixes (suc d) rows)) × (prefixAt (suc d) j rows ≡ prefixAt d i rows ++ getD (l .keys) j 0 ∷ []))
+      (ranked-at d w h)
+      (λ lo hi.
+      let n : j < length (keysAt d rows) = omega (arith, end-le a d rows w h i k) in
+      let m : j < length (prefixes (suc d) rows) = omega (arith, length-keys d rows) in (
+        m,
+        group-row d (prefixes d rows) (prefixes (suc d) rows) (prefixes-asc d rows) (prefixes-width d w (omega arith)) (prefixes-asc (suc d) rows) (prefixes-width (suc d) w h) (λ q r. parent-in d rows r) i j k m (omega (arith, begin-is a d rows w h i k)) (omega (arith, end-is a d rows w h i)) ∙
+            ap (λ (x : ℕ). prefixAt d i rows ++ x ∷ []) (sym (key-at a d rows w h j n)),
+      ))
+
+-- the root: no words, and it is there where there is a row
+pub prefix-root : (rows : List Row) → prefixAt 0 0 rows ≡ []
+prefix-root rows = go (decLt 0 (length (prefixes 0 rows)))
+  where
+    go : Dec (0 < length (prefixes 0 rows)) → prefixAt 0 0 rows ≡ []
+    go (yes h) = prefix-of 0 rows (in-getD (prefixes 0 rows) 0 h) .2
+    go (no n) = List·getD-eq-default (prefixes 0 rows) [] (omega arith)
+
+pub root-there : {rows : List Row} {r : Row} → r ∈ rows → 0 < length (prefixes 0 rows)
+root-there m = let t = in-index [] (prefix-in 0 m) in omega (arith, t .1)
+
+-- no longer beginnings: no keys
+pub keys-none : (p : Row) (rows : List Row) → length (prefixes (suc (length p)) rows) ≡ 0 → keysUnder p rows ≡ []
+unfolding keysUnder under
+keys-none p rows e = ap (λ (qs : List Row). map (λ (q : Row). getD q (length p) 0) (under p qs)) (nothing (prefixes (suc (length p)) rows) e)
+  where
+    nothing : (qs : List Row) → length qs ≡ 0 → qs ≡ []
+    nothing [] e = refl
+    nothing (q ∷ qs) e = absurd (omega arith)
