@@ -14,7 +14,7 @@ use Rattle.query.specs.Meet.{meet, from, total}
 use Rattle.query.specs.Ring.{Round}
 use Rattle.query.proofs.Leap.{seek-meet, from-ascends, head-least}
 use Rattle.leapfrog_join.specs.Ring.{keyOf, Follows}
-use Rattle.leapfrog_join.specs.Leapfrog.{runsIn, Stands, Ready, Ordered, Agreed, Spent, Moved, Reached}
+use Rattle.leapfrog_join.specs.Leapfrog.{runsIn, OnKey, Ready, Ordered, Agreed, Spent, Moved, Reached}
 use Rattle.leapfrog_join.proofs.Parts.{reached-key}
 use Rattle.leapfrog_join.proofs.Runs.{atom-place, enough, stands-at, ready-length, ready-runs, ready-heads, put, put-sought, put-none, put-moved, put-spent, put-ready, put-ordered, put-key, moved-on, seek-falls}
 
@@ -63,7 +63,7 @@ module _ {pool at₀ end ring : List ℕ} {k : ℕ} {at : List ℕ} {p most : �
   here : p < k
   here = g .follows .to
 
-  pub stands : Stands pool at end (getD ring p 0)
+  pub stands : OnKey pool at end (getD ring p 0)
   stands = stands-at (g .ready) p here
 
   top : (j : ℕ) → j < k → keyOf pool at (getD ring j 0) ≤ most

@@ -1,7 +1,7 @@
 -- What callers cite: what it means that a ring agrees, that a ring may be replaced by another with the same atoms, and the key that a call found.
 -- Idea: everything but the sequence of places is said of atoms, so it holds of any ring that has the same ones.
-use mathlib.Core.Path.{_≡_, sym, ap, _∙_}
-use mathlib.Core.List.{List, _∷_, _++_, map}
+use mathlib.Core.Path.{_≡_, sym, subst, ap, _∙_}
+use mathlib.Core.List.{List, [], _∷_, _++_, map}
 use Prim.Native.Nat.{ℕ, _+_, _≤_, _<_}
 use native.Mathlib.Omega.{arith}
 use lib.ListN.{length, getD, take, drop}
@@ -10,6 +10,7 @@ use Rattle.relation.specs.Lists.{_∈_, Ascends}
 use Rattle.query.specs.Meet.{meet, Agree}
 use Rattle.query.proofs.Meet.{meet-map}
 use Rattle.query.proofs.Leap.{agree-tails}
+use Rattle.leapfrog_join.specs.declared.Hit.{Hit}
 use Rattle.leapfrog_join.specs.declared.Hit.the-variants.{Key}
 use Rattle.leapfrog_join.specs.Ring.{maxAtoms, keyOf}
 use Rattle.leapfrog_join.specs.Leapfrog.{part, runOf, runsIn, Ready, Ordered, Agreed, Moved, Left}
@@ -31,6 +32,10 @@ module _ {pool at end ring : List ℕ} {k x p : ℕ} (g : Agreed pool at end rin
   -- the same, said of the key at p, as the next call asks it
   pub agreed-here : Agreed pool at end ring k (keyOf pool at (getD ring p 0)) p
   agreed-here = rw (agreed-key p (g .place)) g
+
+  -- what the next call leaves, said of x
+  pub next-left : {at′ common : List ℕ} {hit : Hit} → Left pool end ring k at at′ common (keyOf pool at (getD ring p 0) ∷ []) hit → Left pool end ring k at at′ common (x ∷ []) hit
+  next-left {at′} {common} {hit} l = subst (λ (y : ℕ). Left pool end ring k at at′ common (y ∷ []) hit) (agreed-key p (g .place)) l
 
   -- every run begins with x
   pub agreed-runs : Agree (runsIn pool at end ring k) x

@@ -15,7 +15,7 @@ use Rattle.query.proofs.Meet.{in-getD, meet-to, meet-of, meet-asc, same-keys}
 use Rattle.query.proofs.Leap.{in-from, from-in, from-ascends, from-least, from-shorter, total-set, seek-runs, meet-none}
 use Rattle.query.proofs.Ring.{Passed, step, turn}
 use Rattle.leapfrog_join.specs.Ring.{keyOf, Follows}
-use Rattle.leapfrog_join.specs.Leapfrog.{part, runOf, runsIn, Stands, Ready, Ordered, Spent, Moved, Reached}
+use Rattle.leapfrog_join.specs.Leapfrog.{part, runOf, runsIn, OnKey, Ready, Ordered, Spent, Moved, Reached}
 use Rattle.leapfrog_join.proofs.Lists.{nth-in, set-each, getD-map}
 use Rattle.leapfrog_join.proofs.Parts.{part-cons, part-none}
 
@@ -48,7 +48,7 @@ module _ {pool at end ring : List ℕ} {k : ℕ} (r : Ready pool at end ring k) 
   pub ring-in : (j : ℕ) → j < k → getD ring j 0 ∈ take k ring
   ring-in j l = nth-in ring k j 0 enough l
 
-  pub stands-at : (j : ℕ) → j < k → Stands pool at end (getD ring j 0)
+  pub stands-at : (j : ℕ) → j < k → OnKey pool at end (getD ring j 0)
   stands-at j l = r .each (getD ring j 0) (ring-in j l)
 
   pub ready-length : length (runsIn pool at end ring k) ≡ k

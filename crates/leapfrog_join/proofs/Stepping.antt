@@ -12,7 +12,7 @@ use Rattle.query.proofs.Leap.{agree-meet, agree-all, head-least, in-from, from-
 use Rattle.leapfrog_join.specs.declared.Hit.{Hit}
 use Rattle.leapfrog_join.specs.declared.Hit.the-variants.{Nothing}
 use Rattle.leapfrog_join.specs.Ring.{Follows}
-use Rattle.leapfrog_join.specs.Leapfrog.{part, runOf, runsIn, Stands, Ready, Ordered, Agreed, Moved, Reached, Left}
+use Rattle.leapfrog_join.specs.Leapfrog.{part, runOf, runsIn, OnKey, Ready, Ordered, Agreed, Moved, Reached, Left}
 use Rattle.leapfrog_join.proofs.Parts.{part-cons}
 use Rattle.leapfrog_join.proofs.Laws.{agreed-runs, agreed-ordered}
 use Rattle.leapfrog_join.proofs.Runs.{ring-in, stands-at, ready-length, ready-at, ready-runs, put, put-runs, put-sought, put-none, put-moved, put-spent, put-ready, put-ordered, moved-on, seek-from}
@@ -22,7 +22,7 @@ pub left-on : {pool end ring : List ℕ} {k : ℕ} {at₀ at₁ at common₁ : L
 left-on common passed m e l = record { ended = l .ended; keys = e ∙ ap (λ (r : List ℕ). passed ++ r) (l .keys); moved = moved-on m (l .moved) }
 
 module _ {pool at end ring : List ℕ} {k x p : ℕ} (g : Agreed pool at end ring k x p) where
-  pub stands : Stands pool at end (getD ring p 0)
+  pub stands : OnKey pool at end (getD ring p 0)
   stands = stands-at (g .ready) p (g .place)
 
   long : p < length (runsIn pool at end ring k)

@@ -24,7 +24,7 @@ unfoldable pub runsIn : List ℕ → List ℕ → List ℕ → List ℕ → ℕ 
 runsIn pool at end ring k = map (runOf pool at end) (take k ring)
 
 -- atom a stands on a key of its run, which lies in the pool and ascends strictly
-pub record Stands (pool at end : List ℕ) (a : ℕ) : Type 0 where
+pub record OnKey (pool at end : List ℕ) (a : ℕ) : Type 0 where
   pub atom : a < maxAtoms
   pub inside : getD at a 0 < getD end a 0
   pub ends : getD end a 0 ≤ length pool
@@ -37,7 +37,7 @@ pub record Ready (pool at end ring : List ℕ) (k : ℕ) : Type 0 where
   pub size : length ring ≡ maxAtoms
   pub places : length at ≡ maxAtoms
   pub apart : (i j : ℕ) → i < k → j < k → getD ring i 0 ≡ getD ring j 0 → i ≡ j
-  pub each : (a : ℕ) → a ∈ take k ring → Stands pool at end a
+  pub each : (a : ℕ) → a ∈ take k ring → OnKey pool at end a
 
 -- from place p of the ring round, the keys do not fall
 abbrev pub Ordered : List ℕ → List ℕ → List ℕ → ℕ → ℕ → Type 0

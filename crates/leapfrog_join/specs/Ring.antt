@@ -7,7 +7,7 @@ use lib.ListN.{length, getD, take}
 use lib.Dec.{ltb}
 use Rattle.relation.specs.Lists.{_∈_, Ascends}
 
--- how many atoms there may be
+-- how many atoms there may be: the code's MAX_ATOMS
 abbrev pub maxAtoms : ℕ
 maxAtoms = 8
 
