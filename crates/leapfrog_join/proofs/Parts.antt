@@ -10,7 +10,7 @@ use lib.Seq.{getD-take, getD-drop, take-add, drop-at, drop-drop, drop-cons, leng
 use Rattle.relation.specs.Lists.{_∈_, hd, Ascends}
 use Rattle.seek.specs.declared.SeekStrategy.{SeekStrategy}
 use Rattle.seek.specs.Seek.{seekOf}
-use Rattle.seek.specs.Laws.{Ascending}
+use Rattle.seek.specs.Offset.{NonFalling}
 use Rattle.seek.proofs.Laws.{leading}
 use Rattle.query.proofs.Leap.{from-drop, from-least}
 use Rattle.leapfrog_join.specs.Leapfrog.{part, Reached}
@@ -45,7 +45,7 @@ module _ (pool : List ℕ) where
       ap (λ (n : ℕ). take n (drop x pool)) z
 
   -- an ascending part ascends for the seek too
-  ascending : (x e : ℕ) → Ascends _<_ (part pool x e) → Ascending (part pool x e)
+  ascending : (x e : ℕ) → Ascends _<_ (part pool x e) → NonFalling (part pool x e)
   ascending x e s a b h l =
       ⊎-elim (λ (d : a ≡ b). subst (λ (n : ℕ). getD (part pool x e) a 0 ≤ getD (part pool x e) n 0) d (le-refl (getD (part pool x e) a 0)))
       (λ g. omega (arith, ascends-getD s a b 0 g l))
