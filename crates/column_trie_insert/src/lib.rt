@@ -7,7 +7,7 @@ ghost use lib.ListN.{length, take, drop, getD};
 ghost use Rattle.column_trie.specs.Pool.{lay};
 ghost use Rattle.column_trie.specs.Table.{dataLen, layerIn, rowsIn, headerSound, undamaged};
 ghost use Rattle.column_trie_insert.specs.Shift.{SmallFrom};
-ghost use Rattle.column_trie_insert.specs.Grow.{grown, Roomy, Added, Grouped, PlaceOf, PathOf};
+ghost use Rattle.column_trie_insert.specs.Grow.{grown, Roomy, Added, Grouped, PlaceOf, PathOf, Addable, RowAdded};
 use column_trie::ColumnTrie;
 use column_trie::layer_at;
 use seek::SeekStrategy;
@@ -158,4 +158,27 @@ fn find_path(pool: &[u64], t: ColumnTrie, tuple: &[u64]) -> Path
         interval: i,
         at: i,
     }
+}
+
+// Adds the tuple's keys, layer by layer from the first that isn't stored; below it each has a new parent, and so its own interval.
+fn add_row(pool: &mut [u64], t: ColumnTrie, tuple: &[u64], path: Path) -> ColumnTrie
+    requires { ⌜ Addable (now pool) t (now tuple) path ⌝ }
+    ensures { λ r. ⌜ RowAdded (now (pool .entry)) (now (pool .exit)) t (now (tuple .entry)) r ⌝ }
+{
+    let mut out = t;
+    let mut d = path.depth;
+    let mut i = path.interval;
+    let mut at = path.at;
+    let mut fresh = t.tuple_count == 0;
+    while d < t.arity {
+        if fresh {
+            at = begins(pool, out, d, i);
+        }
+        out = add_layer(pool, out, d, i, at, tuple[d], fresh);
+        i = at;
+        fresh = true;
+        d += 1;
+    }
+    out.tuple_count = t.tuple_count + 1;
+    out
 }
