@@ -3,3 +3,4 @@ mod Grows
 mod Places
 mod Walks
 mod Rows
+pub mod Inserts

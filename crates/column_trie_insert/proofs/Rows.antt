@@ -361,6 +361,17 @@ no-rows : (rows : List Row) → length rows ≡ 0 → rows ≡ []
 no-rows [] e = refl
 no-rows (q ∷ qs) e = absurd (omega arith)
 
+-- a path that leaves the stored rows leads to no row
+pub absent-row :
+    {pool : List ℕ} {t : ColumnTrie} {r : Row} {p : Path} → Holds pool t (rowsIn pool t) → length r ≡ t .arity → ((t .«tuple_count» ≡ 0 → ⊥) → PathOf (t .arity) (rowsIn pool t) r p × (p .depth < t .arity)) → r ∈ rowsIn pool t → ⊥
+absent-row {pool} {t} {r} {p} h l q m = go (ℕ-discrete (t .«tuple_count») 0)
+  where
+    go : Dec (t .«tuple_count» ≡ 0) → ⊥
+    go (yes e) = not-in-nil (subst (λ (qs : List Row). r ∈ qs) (no-rows (rowsIn pool t) (omega (arith, h .counted))) m)
+    go (no n) =
+        let z = q n in
+        z .0 .leaves (z .1) (stored-below (t .arity) (rowsIn pool t) r (h .width) l (suc (p .depth)) (t .arity) (z .1) (stored-whole (t .arity) (rowsIn pool t) r (h .width) l (h .asc) .0 m))
+
 -- what the function requires says all that
 module _ {pool : List ℕ} {t : ColumnTrie} {r : Row} {p : Path} (o : Whole t) (c : Addable pool t r p) where
   held : Holds pool t (rowsIn pool t)
@@ -373,14 +384,8 @@ module _ {pool : List ℕ} {t : ColumnTrie} {r : Row} {p : Path} (o : Whole t) (
         held = held;
         long = c .long;
         room = omega (arith, held .counted, c .room);
-        absent = λ m. go (ℕ-discrete (t .«tuple_count») 0) m;
+        absent = absent-row held (c .long) (c .path);
       }
-    where
-      go : Dec (t .«tuple_count» ≡ 0) → r ∈ rowsIn pool t → ⊥
-      go (yes e) m = not-in-nil (subst (λ (qs : List Row). r ∈ qs) (no-rows (rowsIn pool t) (omega (arith, held .counted))) m)
-      go (no n) m =
-          let q = c .path n in
-          q .0 .leaves (q .1) (stored-below (t .arity) (rowsIn pool t) r (held .width) (c .long) (suc (p .depth)) (t .arity) (q .1) (stored-whole (t .arity) (rowsIn pool t) r (held .width) (c .long) (held .asc) .0 m))
 
   pub growing-first : (fresh : Bool) → fresh ≡ eqb (t .«tuple_count») 0 → Growing pool t (rowsIn pool t) r pool t (p .depth) (p .interval) (p .at) fresh
   growing-first fresh e = go (eqb (t .«tuple_count») 0) refl
