@@ -5,13 +5,16 @@ use mathlib.Core.Bool.{Bool, true, false}
 use mathlib.Core.List.{List, [], _∷_, _++_, append-nil, append-assoc}
 use native.Mathlib.Omega.{arith}
 use lib.ListN.{length, take, drop, getD, set, length-append, length-drop, take-append-drop}
-use lib.Seq.{take-suc, take-all}
+use lib.Seq.{take-suc, take-all, length-take-le}
 use lib.Dec.{ltb}
 use borrow.Author.Tests.{lt-ltb, le-ltb, ltb-true, ltb-false}
-use Rattle.column_trie.specs.Pool.{lay}
+use Rattle.relation.specs.Layers.{Layer, layer, noLayer}
+use Rattle.column_trie.specs.Pool.{lay, spot}
+use Rattle.column_trie.specs.Table.{dataLen, intervalLen, layerIn}
+use Rattle.column_trie.specs.declared.ColumnTrie.{ColumnTrie}
 use Rattle.column_trie.proofs.Pool.{lay-length}
 use Rattle.column_trie_listing.specs.List.{Written}
-use Rattle.column_trie_listing.specs.Text.{decimalIn, decimal, closing, comma, others, numbers}
+use Rattle.column_trie_listing.specs.Text.{decimalIn, decimal, closing, comma, layerWord, dataWord, intervalWord, others, numbers, lists, layerText, textFrom, text}
 
 decimal-less : (fuel n : ℕ) → n < 10 → decimalIn (suc fuel) n ≡ (48 + n) ∷ []
 unfolding decimalIn
@@ -143,3 +146,58 @@ some-length xs n =
 
 pub tail-length : (xs : List ℕ) → length (take (length xs - 1) (drop 1 xs)) ≡ length xs - 1
 tail-length xs = ap length (tail-is xs) ∙ length-drop 1 xs
+
+-- ---- layers
+
+pub head-length : (d : ℕ) → length (layerWord ++ (decimal d ++ dataWord)) ≡ 14 + length (decimal d)
+head-length d = omega (arith, length-append layerWord (decimal d ++ dataWord), length-append (decimal d) dataWord)
+
+pub layer-is : (d : ℕ) (keys intervals : List ℕ) → layerText d (lists keys intervals) ≡ ((layerWord ++ (decimal d ++ dataWord)) ++ (numbers keys ++ closing)) ++ (intervalWord ++ (numbers intervals ++ closing))
+unfolding layerText
+layer-is d keys intervals = refl
+
+pub layer-length : (d : ℕ) (keys intervals : List ℕ) → length (layerText d (lists keys intervals)) ≡ 25 + length (decimal d) + length (numbers keys ++ closing) + length (numbers intervals ++ closing)
+layer-length d keys intervals =
+    omega (
+      arith,
+      ap length (layer-is d keys intervals),
+      length-append ((layerWord ++ (decimal d ++ dataWord)) ++ (numbers keys ++ closing)) (intervalWord ++ (numbers intervals ++ closing)),
+      length-append (layerWord ++ (decimal d ++ dataWord)) (numbers keys ++ closing),
+      length-append intervalWord (numbers intervals ++ closing),
+      head-length d,
+    )
+
+pub text-append : (e : ℕ) (xs ys : List Layer) → textFrom e (xs ++ ys) ≡ textFrom e xs ++ textFrom (e + length xs) ys
+unfolding textFrom
+text-append e [] ys = ap (λ (n : ℕ). textFrom n ys) (let p : e ≡ e + 0 = omega arith in p)
+text-append e (x ∷ xs) ys =
+    ap (λ (l : List ℕ). layerText e x ++ l) (text-append (suc e) xs ys)
+    ∙ sym (append-assoc (layerText e x) (textFrom (suc e) xs) (textFrom (suc e + length xs) ys))
+    ∙ ap (λ (n : ℕ). (layerText e x ++ textFrom (suc e) xs) ++ textFrom n ys) (let p : suc e + length xs ≡ e + suc (length xs) = omega arith in p)
+
+pub no-text : text [] ≡ []
+unfolding textFrom
+no-text = refl
+
+text-one : (d : ℕ) (l : Layer) → textFrom d (l ∷ []) ≡ layerText d l
+unfolding textFrom
+text-one d l = append-nil (layerText d l)
+
+-- one layer more
+pub text-more : (ls : List Layer) (d : ℕ) → d < length ls → text (take (suc d) ls) ≡ text (take d ls) ++ layerText d (layer ls d)
+text-more ls d h =
+    ap text (take-suc ls d noLayer h)
+    ∙ text-append 0 (take d ls) (layer ls d ∷ [])
+    ∙ ap (λ (n : ℕ). text (take d ls) ++ textFrom n (layer ls d ∷ [])) (let e : 0 + length (take d ls) ≡ d = omega (arith, length-take-le d ls (omega arith)) in e)
+    ∙ ap (λ (l : List ℕ). text (take d ls) ++ l) (text-one d (layer ls d))
+
+pub text-room : (ls : List Layer) (d : ℕ) → length (text (take d ls)) ≤ length (text ls)
+text-room ls d =
+    omega (arith, ap (λ (l : List Layer). length (text l)) (take-append-drop d ls), ap length (text-append 0 (take d ls) (drop d ls)), length-append (text (take d ls)) (textFrom (0 + length (take d ls)) (drop d ls)))
+
+-- the parts of the pool that are handed on are the layer's lists
+pub parts : (pool : List ℕ) (t : ColumnTrie) (d : ℕ) {at : ℕ} → at ≡ spot (t .start) (t .capacity) d → lists (take (at + dataLen t d - at) (drop at pool)) (take (at + t .capacity + intervalLen t d - (at + t .capacity)) (drop (at + t .capacity) pool)) ≡ layerIn pool t d
+parts pool t d {at} e =
+    let k : at + dataLen t d - at ≡ dataLen t d = omega arith in
+    let i : at + t .capacity + intervalLen t d - (at + t .capacity) ≡ intervalLen t d = omega arith in
+    cc
