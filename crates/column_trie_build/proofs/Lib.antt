@@ -1,0 +1,8 @@
+pub mod Numbers
+mod Columns
+mod Fill
+mod Given
+mod Headers
+mod Outcomes
+mod Shared
+mod Turns
