@@ -1,9 +1,9 @@
 -- The rows that words are: where row i lies, how long it is, its words, and the rows sorted.
-use Prim.Native.Nat.{ℕ, suc, _+_, _*_, _-_, _/_, _≤_, _<_}
+use Prim.Native.Nat.{ℕ, _+_, _*_, _-_, _/_, _≤_, _<_}
 use mathlib.Core.Path.{_≡_, refl, sym, ap, _∙_}
 use mathlib.Core.List.{List, [], _∷_, append-nil}
 use native.Mathlib.Omega.{arith}
-use native.Mathlib.Nat.{zero-mul, suc-mul, one-mul, mul-le-mul-right, mul-div-cancel, div-mul-le-self}
+use native.Mathlib.Nat.{zero-mul, suc-mul, mul-le-mul-right, mul-div-cancel, div-mul-le-self}
 use lib.ListN.{length, drop, getD, length-drop, length-append}
 use lib.Seq.{length-take-le}
 use Rattle.relation.specs.Order.{Row}
@@ -29,13 +29,6 @@ module _ (a : ℕ) (ws : List ℕ) where
 
     pub row-word : (k : ℕ) → k < a → getD (getD (rowsGiven a ws) i []) k 0 ≡ getD ws (i * a + k) 0
     row-word k b = word-at (length ws / a) a ws i k h b
-
--- the row before, as code finds it
-pub row-before : (a i : ℕ) → 0 < i → i * a - a ≡ (i - 1) * a
-row-before a i h = let e : i ≡ suc (i - 1) = omega arith in omega (arith, suc-mul (i - 1) a, ap (λ (n : ℕ). n * a) e)
-
-pub first-behind : (a i : ℕ) → 0 < i → a ≤ i * a
-first-behind a i h = omega (arith, mul-le-mul-right {m = 1} {n = i} a h, one-mul a)
 
 -- ---- sorted, and laid flat again
 

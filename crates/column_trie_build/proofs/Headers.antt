@@ -1,10 +1,10 @@
 -- The header of layers: its lengths, and what one key or one interval more does to it.
-use Prim.Native.Nat.{ℕ, zero, suc, _+_, _-_, _<_}
+use Prim.Native.Nat.{ℕ, zero, suc, _+_, _-_, _≤_, _<_}
 use mathlib.Core.Path.{_≡_, refl, sym, ap, _∙_}
 use mathlib.Core.List.{List, [], _∷_, _++_, map}
 use native.Mathlib.Omega.{arith}
-use lib.ListN.{length, getD, set, replicate, length-map, length-set, length-append, List·getD-append, List·getD-map}
-use lib.Seq.{set-append-left, map-set-same}
+use lib.ListN.{length, getD, set, replicate, length-map, length-replicate, length-set, length-append, List·getD-append, List·getD-map}
+use lib.Seq.{getD-append-add, set-append-left, map-set-same}
 use Rattle.relation.specs.Layers.{Layer, layer, noLayer}
 use Rattle.column_trie.specs.Limits.{maxArity}
 use Rattle.column_trie.specs.Table.{dataLen, intervalLen, padded, header}
@@ -31,6 +31,22 @@ module _ (f : Layer → ℕ) (none : f noLayer ≡ 0) (ls : List Layer) (d : ℕ
 
   pub padded-same : (l : Layer) → f l ≡ f (layer ls d) → padded (map f (set ls d l)) ≡ padded (map f ls)
   padded-same l e = ap padded (map-set-same f ls d l noLayer e)
+
+-- a header's array has an entry for each depth, 0 past the last layer
+module _ (f : Layer → ℕ) (ls : List Layer) (h : length ls ≤ maxArity) where
+  pub padded-long : length (padded (map f ls)) ≡ maxArity
+  padded-long = length-append (map f ls) (replicate (maxArity - length (map f ls)) 0) ∙ omega (arith, length-map ls f, length-replicate {A = ℕ} (maxArity - length (map f ls)) 0)
+
+  pub padded-past : (d : ℕ) → length ls ≤ d → getD (padded (map f ls)) d 0 ≡ 0
+  padded-past d k =
+      ap (λ (n : ℕ). getD (padded (map f ls)) n 0) (let e : d ≡ length (map f ls) + (d - length (map f ls)) = omega (arith, length-map ls f) in e)
+      ∙ getD-append-add (map f ls) (replicate (maxArity - length (map f ls)) 0) (d - length (map f ls)) 0
+      ∙ zeros (maxArity - length (map f ls)) (d - length (map f ls))
+    where
+      zeros : (m i : ℕ) → _≡_ {A = ℕ} (getD (replicate m 0) i 0) 0
+      zeros zero i = refl
+      zeros (suc m) zero = refl
+      zeros (suc m) (suc i) = zeros m i
 
 abbrev keyCount : Layer → ℕ
 keyCount l = length (l .keys)

@@ -1,3 +1,6 @@
+pub mod Determined
+pub mod Kept
+pub mod Leaves
 pub mod Numbers
 mod Columns
 mod Fill

@@ -20,16 +20,16 @@ pub struct Built {
     pub table: ColumnTrie,
 }
 
-// How many leading keys row i shares with the row before it.
-fn common_prefix_len(rows: &[u64], arity: usize, i: usize) -> usize
-    requires { ⌜ (0 < i) × (i < length (now rows) / arity) ⌝ }
-    ensures { λ r. ⌜ r ≡ shared (getD (rowsGiven arity (now (rows .entry))) (i - 1) []) (getD (rowsGiven arity (now (rows .entry))) i []) ⌝ }
+// How many leading keys rows i and j share.
+fn common_prefix_len(rows: &[u64], arity: usize, i: usize, j: usize) -> usize
+    requires { ⌜ (i < length (now rows) / arity) × (j < length (now rows) / arity) ⌝ }
+    ensures { λ r. ⌜ r ≡ shared (getD (rowsGiven arity (now (rows .entry))) i []) (getD (rowsGiven arity (now (rows .entry))) j []) ⌝ }
 {
     let x = i * arity;
-    let y = x - arity;
+    let y = j * arity;
     let mut k = 0;
     while k < arity {
-        if rows[y + k] != rows[x + k] {
+        if rows[x + k] != rows[y + k] {
             return k;
         }
         k += 1;
@@ -104,7 +104,8 @@ fn from_sorted(pool: &mut [u64], t: ColumnTrie, rows: &[u64]) -> ColumnTrie
     let mut out = push_row(pool, t, rows, 0, 0, 0);
     let mut i = 1;
     while i < n {
-        let d = common_prefix_len(rows, arity, i);
+        let before = i - 1;
+        let d = common_prefix_len(rows, arity, before, i);
         if d < arity {
             out = push_row(pool, out, rows, i, d, d + 1);
         }

@@ -54,8 +54,11 @@ push-row-requires c κs = let s = c .before .before .before .before in pushing-f
 loop-holds : tie.Need-loop-holds Inv-loop μ-loop
 loop-holds c = let s = start c in to c (filled-first (s .pre) (wide s) (some c) (c .before .before .push-row .ensures))
 
+sub-before : tie.Need-sub-before Inv-loop μ-loop
+sub-before c = c .before .loop .inv .low
+
 common-prefix-len-requires : tie.Need-common-prefix-len-requires Inv-loop μ-loop
-common-prefix-len-requires c κs = (c .before .loop .inv .low, c .loop-test .taken)
+common-prefix-len-requires c κs = (omega arith, c .loop-test .taken)
 
 add-push-row : tie.Need-add-push-row Inv-loop μ-loop
 add-push-row c = omega arith
@@ -72,7 +75,7 @@ push-row-requires-2 c κs =
     let long : length (l .pool) ≡ length (s .args .pool .now) = l .inv .long ∙ k .before .before .push-row .kept .0 in
     subst (λ (u : ColumnTrie). Pushing (length (l .pool)) u (rowsGiven (u .arity) (s .args .rows .now)) (l .i) (d .result) (d .result + 1)) (sym (g .header))
     (subst (λ (n : ℕ). Pushing n (holding (t .start) (t .arity) (t .capacity) (take (l .i) rows)) rows (l .i) (d .result) (d .result + 1)) (sym long)
-    (pushing-next (s .pre) (wide s) (d .result) g (ahead k (c .before .before .before .loop-test .taken)) (d .ensures) (c .before .if2 .taken)))
+    (pushing-next (s .pre) (wide s) (d .result) g (ahead k (c .before .before .before .loop-test .taken)) (d .ensures) (omega (arith, c .before .if2 .taken))))
 
 add-i : tie.Need-add-i Inv-loop μ-loop
 add-i c = omega arith
@@ -116,6 +119,7 @@ from-sorted-spec =
     returns
     push-row-requires
     loop-holds
+    sub-before
     common-prefix-len-requires
     add-push-row
     push-row-requires-2

@@ -38,7 +38,7 @@ ready j =
     let g = setting (start j .pre) in
     let v = j .before .before .loop .inv in
     let h = j .before .loop-test .taken in
-    ⊎-elim (λ x. ready-is (x .5) (x .6) (ready-under g (v .2) h (x .0 .taken) (x .2 .ensures))) (λ x. ready-is (x .1) (x .2) (ready-only g (v .2) h (v .0) (x .0 .left))) (j .if1 .came)
+    ⊎-elim (λ x. ready-is (x .5) (x .6) (ready-under g (v .2) h (omega (arith, x .0 .taken)) (x .2 .ensures))) (λ x. ready-is (x .1) (x .2) (ready-only g (v .2) h (v .0) (omega (arith, x .0 .left)))) (j .if1 .came)
 
 mul-x : tie.Need-mul-x Inv-loop μ-loop
 mul-x c = let s = c .before .before in omega (arith, inside s)
