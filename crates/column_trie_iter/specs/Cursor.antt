@@ -1,0 +1,224 @@
+-- The cursor's calls as document 01's array rules give them, for any pool, header and cursor. A table's layers are lists here: what the header's
+-- lengths cut out of the pool.
+use Prim.Native.Nat.{ℕ, zero, suc, _+_, _-_, _≤_}
+use mathlib.Core.Path.{_≡_}
+use mathlib.Core.Bool.{Bool, true, false, _&&_}
+use mathlib.Core.List.{List, [], _∷_}
+use lib.ListN.{length, getD, take, drop}
+use lib.Seq.{slice}
+use lib.Dec.{ltb, leb, eqb}
+use Rattle.relation.specs.Order.{pick}
+use Rattle.relation.specs.Layers.{Layer}
+use Rattle.seek.specs.Seek.{halving, halves, seekOf}
+use Rattle.seek.specs.declared.SeekStrategy.{SeekStrategy}
+use Rattle.column_trie.specs.Pool.{spot}
+use Rattle.column_trie.specs.Table.{layerIn, headerSound}
+use Rattle.column_trie.specs.declared.ColumnTrie.{ColumnTrie}
+use Rattle.column_trie_iter.specs.declared.ColumnTrieIter.{ColumnTrieIter}
+use Rattle.column_trie_iter.specs.declared.Group.{Group}
+use Rattle.column_trie_iter.specs.declared.Place.{Place}
+use Rattle.column_trie_iter.specs.declared.KeyAnswer.{KeyAnswer}
+use Rattle.column_trie_iter.specs.declared.NextAnswer.{NextAnswer}
+use Rattle.column_trie_iter.specs.declared.SeekAnswer.{SeekAnswer}
+use Rattle.column_trie_iter.specs.declared.EndAnswer.{EndAnswer}
+use Rattle.column_trie_iter.specs.declared.OpenAnswer.{OpenAnswer}
+use Rattle.column_trie_iter.specs.declared.UpAnswer.{UpAnswer}
+
+-- ---- cursors
+
+abbrev pub cursor : ℕ → ℕ → ℕ → ColumnTrieIter
+cursor depth i offset = record { depth = depth; «interval_i» = i; «slice_offset» = offset }
+
+-- at the root
+abbrev pub fresh : ColumnTrieIter
+fresh = cursor 0 0 0
+
+-- n siblings further
+abbrev pub past : ColumnTrieIter → ℕ → ColumnTrieIter
+past it n = cursor (it .depth) (it .«interval_i») (it .«slice_offset» + n)
+
+-- ---- a group of a layer: "interval i is where parent i's children start, and they run to the next interval or to the end of the data"
+
+abbrev pub groupFrom : Layer → ℕ → ℕ
+groupFrom l i = getD (l .intervals) i 0
+
+abbrev pub groupTo : Layer → ℕ → ℕ
+groupTo l i = getD (l .intervals) (suc i) (length (l .keys))
+
+abbrev pub keysOf : Layer → ℕ → List ℕ
+keysOf l i = slice (groupFrom l i) (groupTo l i) (l .keys)
+
+-- interval i and its group lie in their lists: "a group is outside its list when its start is above its end or its end is above the data length"
+unfoldable pub lies : Layer → ℕ → Bool
+lies l i = ltb i (length (l .intervals)) && (leb (groupFrom l i) (groupTo l i) && leb (groupTo l i) (length (l .keys)))
+
+-- ---- what every call asks first
+
+-- the layer in which a cursor below the root stands
+abbrev pub layerOf : List ℕ → ColumnTrie → ColumnTrieIter → Layer
+layerOf pool t it = layerIn pool t (it .depth - 1)
+
+-- below the root: the depth is not over the arity, interval index and group are in their lists, and the offset is not over the run's length
+unfoldable pub standsBelow : List ℕ → ColumnTrie → ColumnTrieIter → Bool
+standsBelow pool t it =
+    leb (it .depth) (t .arity) &&
+    (lies (layerOf pool t it) (it .«interval_i») && leb (it .«slice_offset») (length (keysOf (layerOf pool t it) (it .«interval_i»))))
+
+-- not 7: at depth 0 the other numbers are 0
+unfoldable pub stands : List ℕ → ColumnTrie → ColumnTrieIter → Bool
+unfolding standsBelow
+stands pool t it = pick (eqb (it .depth) 0) (eqb (it .«interval_i») 0 && eqb (it .«slice_offset») 0) (standsBelow pool t it)
+
+-- 6 for the header, then 7; 0 where neither is given
+unfoldable pub refusal : List ℕ → ColumnTrie → ColumnTrieIter → ℕ
+unfolding stands
+refusal pool t it = pick (headerSound (length pool) t) (pick (stands pool t it) 0 7) 6
+
+-- the siblings not yet passed, the present key first; none at depth 0
+unfoldable pub remaining : List ℕ → ColumnTrie → ColumnTrieIter → List ℕ
+remaining pool t it = pick (eqb (it .depth) 0) [] (drop (it .«slice_offset») (keysOf (layerOf pool t it) (it .«interval_i»)))
+
+-- with a number, the refusal by it; with 0, the answer
+abbrev pub unless : {A : Type 0} → ℕ → (ℕ → A) → A → A
+unless n refused answer = pick (eqb n 0) answer (refused n)
+
+-- ---- the calls
+
+-- a list's first key, if it has one
+abbrev pub some : List ℕ → Bool
+some [] = false
+some (k ∷ ks) = true
+
+abbrev pub first : List ℕ → ℕ
+first [] = 0
+first (k ∷ ks) = k
+
+abbrev pub noKey : ℕ → KeyAnswer
+noKey n = record { number = n; found = false; key = 0 }
+
+unfoldable pub keyOf : List ℕ → ColumnTrie → ColumnTrieIter → KeyAnswer
+unfolding refusal remaining
+keyOf pool t it =
+    unless (refusal pool t it) noKey
+    (record { number = 0; found = some (remaining pool t it); key = first (remaining pool t it) })
+
+abbrev pub unmoved : ColumnTrieIter → ℕ → NextAnswer
+unmoved it n = record { number = n; found = false; key = 0; iter = it }
+
+-- the key behind the present one; at the end it stays
+abbrev pub nextIn : ColumnTrieIter → List ℕ → NextAnswer
+nextIn it [] = unmoved it 0
+nextIn it (k ∷ ks) = record { number = 0; found = some ks; key = first ks; iter = past it 1 }
+
+unfoldable pub nextOf : List ℕ → ColumnTrie → ColumnTrieIter → NextAnswer
+unfolding refusal remaining
+nextOf pool t it = unless (refusal pool t it) (unmoved it) (nextIn it (remaining pool t it))
+
+abbrev pub unsought : ColumnTrieIter → ℕ → SeekAnswer
+unsought it n = record { number = n; found = false; probes = 0; iter = it }
+
+-- past the siblings that the strategy passes, by its probes; where no sibling is left nothing is searched
+abbrev pub seekIn : SeekStrategy → ℕ → ColumnTrieIter → List ℕ → SeekAnswer
+seekIn s target it [] = unsought it 0
+seekIn s target it (k ∷ ks) =
+    record {
+      number = 0;
+      found = some (drop (seekOf s (k ∷ ks) target .offset) (k ∷ ks));
+      probes = seekOf s (k ∷ ks) target .probes;
+      iter = past it (seekOf s (k ∷ ks) target .offset);
+    }
+
+unfoldable pub soughtOf : List ℕ → ColumnTrie → ColumnTrieIter → SeekStrategy → ℕ → SeekAnswer
+unfolding refusal remaining
+soughtOf pool t it s target = unless (refusal pool t it) (unsought it) (seekIn s target it (remaining pool t it))
+
+abbrev pub ended : List ℕ → Bool
+ended [] = true
+ended (k ∷ ks) = false
+
+abbrev pub noEnd : ℕ → EndAnswer
+noEnd n = record { number = n; «at_end» = false }
+
+unfoldable pub endOf : List ℕ → ColumnTrie → ColumnTrieIter → EndAnswer
+unfolding refusal remaining
+endOf pool t it = unless (refusal pool t it) noEnd (record { number = 0; «at_end» = ended (remaining pool t it) })
+
+abbrev pub unopened : ColumnTrieIter → ℕ → OpenAnswer
+unopened it n = record { number = n; opened = false; iter = it }
+
+-- there is something to open: above full depth, at the root over data in layer 0, below it on a key
+unfoldable pub opens : List ℕ → ColumnTrie → ColumnTrieIter → Bool
+unfolding remaining
+opens pool t it = ltb (it .depth) (t .arity) && pick (eqb (it .depth) 0) (ltb 0 (length (layerIn pool t 0 .keys))) (some (remaining pool t it))
+
+-- the interval of the children: the one interval of layer 0, or the place of the present key in its layer
+unfoldable pub child : List ℕ → ColumnTrie → ColumnTrieIter → ℕ
+child pool t it = pick (eqb (it .depth) 0) 0 (groupFrom (layerOf pool t it) (it .«interval_i») + it .«slice_offset»)
+
+-- 6 where that interval or its group is outside its list
+abbrev pub openAt : List ℕ → ColumnTrie → ColumnTrieIter → ℕ → OpenAnswer
+openAt pool t it i = pick (lies (layerIn pool t (it .depth)) i) (record { number = 0; opened = true; iter = cursor (it .depth + 1) i 0 }) (unopened it 6)
+
+unfoldable pub openOf : List ℕ → ColumnTrie → ColumnTrieIter → OpenAnswer
+unfolding refusal opens child
+openOf pool t it = unless (refusal pool t it) (unopened it) (pick (opens pool t it) (openAt pool t it (child pool t it)) (unopened it 0))
+
+abbrev pub unrisen : ColumnTrieIter → ℕ → UpAnswer
+unrisen it n = record { number = n; risen = false; iter = it }
+
+-- how many intervals the halving rule counts as not above i
+abbrev pub countUpTo : ℕ → List ℕ → ℕ
+countUpTo i ints = halving ints (i + 1) 0 (length ints) 0 .offset
+
+-- to the interval `owner` of the layer above: 6 where it or its group is outside its list, or the cursor's interval index is not inside the group
+abbrev pub ownedBy : Layer → ColumnTrieIter → ℕ → UpAnswer
+ownedBy l it owner =
+    pick (lies l owner && (leb (groupFrom l owner) (it .«interval_i») && ltb (it .«interval_i») (groupTo l owner)))
+    (record { number = 0; risen = true; iter = cursor (it .depth - 1) owner (it .«interval_i» - groupFrom l owner) })
+    (unrisen it 6)
+
+-- the last interval counted is the owner; 6 where none is
+unfoldable pub risesIn : Layer → ColumnTrieIter → UpAnswer
+unfolding halves
+risesIn l it = pick (eqb (countUpTo (it .«interval_i») (l .intervals)) 0) (unrisen it 6) (ownedBy l it (countUpTo (it .«interval_i») (l .intervals) - 1))
+
+unfoldable pub upOf : List ℕ → ColumnTrie → ColumnTrieIter → UpAnswer
+unfolding refusal risesIn
+upOf pool t it =
+    unless (refusal pool t it) (unrisen it)
+    (pick (eqb (it .depth) 0) (unrisen it 0)
+    (pick (eqb (it .depth) 1) (record { number = 0; risen = true; iter = fresh }) (risesIn (layerIn pool t (it .depth - 2)) it)))
+
+-- ---- what the calls share inside
+
+-- interval i's group in its layer, if it lies there
+abbrev pub outside : Group
+outside = record { inside = false; from = 0; to = 0 }
+
+abbrev pub between : ℕ → ℕ → Group
+between from to = record { inside = true; from = from; to = to }
+
+unfoldable pub groupOf : Layer → ℕ → Group
+groupOf l i = pick (lies l i) (between (groupFrom l i) (groupTo l i)) outside
+
+abbrev pub placeRefused : ℕ → Place
+placeRefused n = record { number = n; index = 0; at = 0; end = 0 }
+
+-- a cursor below the root: 7, or its place in the pool
+unfoldable pub placeBelow : List ℕ → ColumnTrie → ColumnTrieIter → Place
+unfolding standsBelow
+placeBelow pool t it =
+    let l = layerOf pool t it in
+    let from = groupFrom l (it .«interval_i») + it .«slice_offset» in
+    let data-at = spot (t .start) (t .capacity) (it .depth - 1) in
+    pick (standsBelow pool t it) (record { number = 0; index = from; at = data-at + from; end = data-at + groupTo l (it .«interval_i») }) (placeRefused 7)
+
+-- What the first checks find: the number and, if it is 0, where the present key and the end of its run stand in the pool, and the interval of its
+-- children.
+pub record Placed (pool : List ℕ) (t : ColumnTrie) (it : ColumnTrieIter) (p : Place) : Type 0 where
+  pub number : p .number ≡ refusal pool t it
+  pub ordered : p .at ≤ p .end
+  pub inside : p .end ≤ length pool
+  pub passed : p .number ≡ 0 → it .«slice_offset» ≤ p .at
+  pub rest : p .number ≡ 0 → take (p .end - p .at) (drop (p .at) pool) ≡ remaining pool t it
+  pub index : p .number ≡ 0 → p .index ≡ child pool t it

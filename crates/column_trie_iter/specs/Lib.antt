@@ -1,0 +1,2 @@
+-- Cursor has the definitions that the contracts cite.
+pub mod Cursor

@@ -1,0 +1,175 @@
+// The cursor over a table in the pool: the port of kermit-ds/src/ds/column_trie/column_trie_iter.rs of the Rust.
+//
+// A cursor is three numbers by value; pool and header are passed along. Each call's answer is the one that specs/Cursor.antt gives, for any
+// pool, header and cursor. Nothing is asked of them, and nothing is changed but the cursor that comes back.
+ghost use mathlib.Core.Path.{_≡_};
+ghost use mathlib.Core.Bool.{true, false};
+ghost use Prim.Native.Nat.{_+_, _-_, _≤_, _<_, _^_};
+ghost use lib.ListN.{length, getD};
+ghost use Rattle.column_trie.specs.Table.{layerIn, headerSound};
+ghost use Rattle.column_trie_iter.specs.Cursor.{fresh, past, outside, groupOf, placeRefused, placeBelow, Placed, keyOf, nextOf, soughtOf, endOf, opens, openOf, risesIn, upOf};
+use column_trie::ColumnTrie;
+use seek::SeekStrategy;
+
+// depth: 0 at the root, else one more than the number of the layer. interval_i: whose children are looked at. slice_offset: how many of them
+// are passed.
+pub struct ColumnTrieIter {
+    pub depth: usize,
+    pub interval_i: usize,
+    pub slice_offset: usize,
+}
+
+// Of each answer `number` is the refusal's, 0 for none. Where `found` is false the key is 0.
+pub struct KeyAnswer {
+    pub number: u64,
+    pub found: bool,
+    pub key: u64,
+}
+
+pub struct NextAnswer {
+    pub number: u64,
+    pub found: bool,
+    pub key: u64,
+    pub iter: ColumnTrieIter,
+}
+
+pub struct SeekAnswer {
+    pub number: u64,
+    pub found: bool,
+    pub probes: usize,
+    pub iter: ColumnTrieIter,
+}
+
+pub struct EndAnswer {
+    pub number: u64,
+    pub at_end: bool,
+}
+
+pub struct OpenAnswer {
+    pub number: u64,
+    pub opened: bool,
+    pub iter: ColumnTrieIter,
+}
+
+pub struct UpAnswer {
+    pub number: u64,
+    pub risen: bool,
+    pub iter: ColumnTrieIter,
+}
+
+// A group of a layer, by places in the layer's data; `inside` is false where interval or group is outside its list.
+struct Group {
+    inside: bool,
+    from: usize,
+    to: usize,
+}
+
+// Where a cursor stands: the checks' number, the interval of the children of its key, and the places in the pool of that key and of the end
+// of its run. The two places are equal at the end of a run and at the root.
+struct Place {
+    number: u64,
+    index: usize,
+    at: usize,
+    end: usize,
+}
+
+fn outside() -> Group
+    ensures { λ r. ⌜ r ≡ outside ⌝ }
+{
+    Group {
+        inside: false,
+        from: 0,
+        to: 0,
+    }
+}
+
+// Interval i of a layer's list, or what stands for one past its end.
+fn start_or(interval: &[u64], i: usize, past: usize) -> usize
+    ensures { λ r. ⌜ r ≡ getD (now (interval .entry)) i past ⌝ }
+{
+    if i < interval.len() {
+        return interval[i] as usize;
+    }
+    past
+}
+
+// The group of interval i in layer d.
+fn group_of(pool: &[u64], table: ColumnTrie, d: usize, i: usize) -> Group
+    requires { ⌜ (headerSound (length (now pool)) table ≡ true) × (d < table .arity) ⌝ }
+    ensures { λ r. ⌜ r ≡ groupOf (layerIn (now (pool .entry)) table d) i ⌝ }
+{
+    let keys = table.data_len[d];
+    let intervals = table.interval_len[d];
+    if intervals <= i {
+        return outside();
+    }
+    let a = column_trie::layer_at(table, d) + table.capacity;
+    let e = a + intervals;
+    let interval = &pool[a..e];
+    let from = start_or(interval, i, 0);
+    let to = start_or(interval, i + 1, keys);
+    if to < from {
+        return outside();
+    }
+    if keys < to {
+        return outside();
+    }
+    Group {
+        inside: true,
+        from,
+        to,
+    }
+}
+
+fn place_refused(number: u64) -> Place
+    ensures { λ r. ⌜ r ≡ placeRefused number ⌝ }
+{
+    Place {
+        number,
+        index: 0,
+        at: 0,
+        end: 0,
+    }
+}
+
+// The checks below the root, under a header that passed: 7, or where the cursor stands.
+fn place_below(pool: &[u64], table: ColumnTrie, iter: ColumnTrieIter) -> Place
+    requires { ⌜ (headerSound (length (now pool)) table ≡ true) × (0 < iter .depth) ⌝ }
+    ensures { λ r. ⌜ r ≡ placeBelow (now (pool .entry)) table iter ⌝ }
+{
+    if table.arity < iter.depth {
+        return place_refused(7);
+    }
+    let d = iter.depth - 1;
+    let g = group_of(pool, table, d, iter.interval_i);
+    if !g.inside {
+        return place_refused(7);
+    }
+    if g.to - g.from < iter.slice_offset {
+        return place_refused(7);
+    }
+    let layer = column_trie::layer_at(table, d);
+    let index = g.from + iter.slice_offset;
+    Place {
+        number: 0,
+        index,
+        at: layer + index,
+        end: layer + g.to,
+    }
+}
+
+// What every call asks first: 6 for the header, then 7; else where the cursor stands.
+fn place_of(pool: &[u64], table: ColumnTrie, iter: ColumnTrieIter) -> Place
+    ensures { λ r. ⌜ Placed (now (pool .entry)) table iter r ⌝ }
+{
+    if !column_trie::header_sound(pool.len(), table) {
+        return place_refused(6);
+    }
+    if 0 < iter.depth {
+        return place_below(pool, table, iter);
+    }
+    if iter.interval_i != 0 || iter.slice_offset != 0 {
+        return place_refused(7);
+    }
+    place_refused(0)
+}
