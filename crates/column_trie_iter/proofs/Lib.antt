@@ -1,2 +1,5 @@
+mod Answers
 mod Groups
 mod Places
+mod Rests
+mod Seeks

@@ -160,7 +160,7 @@ run-part pool s n from to o h =
 module _ (pool : List ℕ) (t : ColumnTrie) (it : ColumnTrieIter) where
   refused-as : (n : ℕ) → (n ≡ 0 → ⊥) → n ≡ refusal pool t it → Placed pool t it (placeRefused n)
   refused-as n z e =
-      record { number = e; ordered = omega arith; inside = omega arith; passed = λ x. absurd (z x); rest = λ x. absurd (z x); index = λ x. absurd (z x) }
+      record { number = e; ordered = omega arith; inside = omega arith; left = λ x. absurd (omega arith); passed = λ x. absurd (z x); rest = λ x. absurd (z x); index = λ x. absurd (z x) }
 
   pub header-refused : headerSound (length pool) t ≡ false → Placed pool t it (placeRefused 6)
   unfolding refusal
@@ -190,6 +190,7 @@ module _ (pool : List ℕ) (t : ColumnTrie) (it : ColumnTrieIter) where
             number = sym (refusal-is ∙ ap (λ (b : Bool). pick b 0 7) (stands-root ∙ and-true (eqb (it .«interval_i») 0) (eqb (it .«slice_offset») 0) (eq-eqb (it .«interval_i») 0 i) (eq-eqb (it .«slice_offset») 0 o)));
             ordered = omega arith;
             inside = omega arith;
+            left = λ x. refl;
             passed = λ x. omega arith;
             rest = λ x. simp (eq-eqb (it .depth) 0 z);
             index = λ x. simp (eq-eqb (it .depth) 0 z);
@@ -213,6 +214,7 @@ module _ (pool : List ℕ) (t : ColumnTrie) (it : ColumnTrieIter) where
             number = sym (refusal-is ∙ ap (λ (b : Bool). pick b 0 7) (stands-below ∙ e));
             ordered = omega arith;
             inside = omega arith;
+            left = λ x. refl;
             passed = λ x. omega arith;
             rest = λ x. run-part pool (spot (t .start) (t .capacity) (it .depth - 1)) (dataLen t (it .depth - 1)) (groupFrom l i) (groupTo l i) (it .«slice_offset») (omega arith) ∙ simp n;
             index = λ x. simp n;

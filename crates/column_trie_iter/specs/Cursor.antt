@@ -1,6 +1,6 @@
 -- The cursor's calls as document 01's array rules give them, for any pool, header and cursor. A table's layers are lists here: what the header's
 -- lengths cut out of the pool.
-use Prim.Native.Nat.{ℕ, zero, suc, _+_, _-_, _≤_}
+use Prim.Native.Nat.{ℕ, suc, _+_, _-_, _≤_, _<_}
 use mathlib.Core.Path.{_≡_}
 use mathlib.Core.Bool.{Bool, true, false, _&&_}
 use mathlib.Core.List.{List, [], _∷_}
@@ -96,11 +96,13 @@ first (k ∷ ks) = k
 abbrev pub noKey : ℕ → KeyAnswer
 noKey n = record { number = n; found = false; key = 0 }
 
+abbrev pub keyIn : List ℕ → KeyAnswer
+keyIn [] = noKey 0
+keyIn (k ∷ ks) = record { number = 0; found = true; key = k }
+
 unfoldable pub keyOf : List ℕ → ColumnTrie → ColumnTrieIter → KeyAnswer
 unfolding refusal remaining
-keyOf pool t it =
-    unless (refusal pool t it) noKey
-    (record { number = 0; found = some (remaining pool t it); key = first (remaining pool t it) })
+keyOf pool t it = unless (refusal pool t it) noKey (keyIn (remaining pool t it))
 
 abbrev pub unmoved : ColumnTrieIter → ℕ → NextAnswer
 unmoved it n = record { number = n; found = false; key = 0; iter = it }
@@ -132,16 +134,16 @@ unfoldable pub soughtOf : List ℕ → ColumnTrie → ColumnTrieIter → SeekStr
 unfolding refusal remaining
 soughtOf pool t it s target = unless (refusal pool t it) (unsought it) (seekIn s target it (remaining pool t it))
 
-abbrev pub ended : List ℕ → Bool
-ended [] = true
-ended (k ∷ ks) = false
-
 abbrev pub noEnd : ℕ → EndAnswer
 noEnd n = record { number = n; «at_end» = false }
 
+abbrev pub endIn : List ℕ → EndAnswer
+endIn [] = record { number = 0; «at_end» = true }
+endIn (k ∷ ks) = noEnd 0
+
 unfoldable pub endOf : List ℕ → ColumnTrie → ColumnTrieIter → EndAnswer
 unfolding refusal remaining
-endOf pool t it = unless (refusal pool t it) noEnd (record { number = 0; «at_end» = ended (remaining pool t it) })
+endOf pool t it = unless (refusal pool t it) noEnd (endIn (remaining pool t it))
 
 abbrev pub unopened : ColumnTrieIter → ℕ → OpenAnswer
 unopened it n = record { number = n; opened = false; iter = it }
@@ -219,6 +221,7 @@ pub record Placed (pool : List ℕ) (t : ColumnTrie) (it : ColumnTrieIter) (p : 
   pub number : p .number ≡ refusal pool t it
   pub ordered : p .at ≤ p .end
   pub inside : p .end ≤ length pool
+  pub left : p .at < p .end → p .number ≡ 0
   pub passed : p .number ≡ 0 → it .«slice_offset» ≤ p .at
   pub rest : p .number ≡ 0 → take (p .end - p .at) (drop (p .at) pool) ≡ remaining pool t it
   pub index : p .number ≡ 0 → p .index ≡ child pool t it

@@ -65,7 +65,7 @@ struct Group {
 }
 
 // Where a cursor stands: the checks' number, the interval of the children of its key, and the places in the pool of that key and of the end
-// of its run. The two places are equal at the end of a run and at the root.
+// of its run. Where nothing is left of a run, at the root and after a refusal the two places are equal.
 struct Place {
     number: u64,
     index: usize,
@@ -172,4 +172,121 @@ fn place_of(pool: &[u64], table: ColumnTrie, iter: ColumnTrieIter) -> Place
         return place_refused(7);
     }
     place_refused(0)
+}
+
+impl ColumnTrieIter {
+    pub fn new() -> Self
+        ensures { λ r. ⌜ r ≡ fresh ⌝ }
+    {
+        Self {
+            depth: 0,
+            interval_i: 0,
+            slice_offset: 0,
+        }
+    }
+
+    // n siblings further.
+    fn past(self, n: usize) -> Self
+        requires { ⌜ self .«slice_offset» + n < 2 ^ 64 ⌝ }
+        ensures { λ r. ⌜ r ≡ past self n ⌝ }
+    {
+        Self {
+            depth: self.depth,
+            interval_i: self.interval_i,
+            slice_offset: self.slice_offset + n,
+        }
+    }
+
+    // The key at the cursor, if it stands on one.
+    pub fn key(self, pool: &[u64], table: ColumnTrie) -> KeyAnswer
+        ensures { λ r. ⌜ r ≡ keyOf (now (pool .entry)) table self ⌝ }
+    {
+        let p = place_of(pool, table, self);
+        let at = p.at;
+        if p.end <= at {
+            return KeyAnswer {
+                number: p.number,
+                found: false,
+                key: 0,
+            };
+        }
+        KeyAnswer {
+            number: 0,
+            found: true,
+            key: pool[at],
+        }
+    }
+
+    // To the key behind, which it gives; from the last key to the end, where it stays.
+    pub fn next(self, pool: &[u64], table: ColumnTrie) -> NextAnswer
+        ensures { λ r. ⌜ r ≡ nextOf (now (pool .entry)) table self ⌝ }
+    {
+        let p = place_of(pool, table, self);
+        if p.end <= p.at {
+            return NextAnswer {
+                number: p.number,
+                found: false,
+                key: 0,
+                iter: self,
+            };
+        }
+        let iter = self.past(1);
+        let at = p.at + 1;
+        if p.end <= at {
+            return NextAnswer {
+                number: 0,
+                found: false,
+                key: 0,
+                iter,
+            };
+        }
+        NextAnswer {
+            number: 0,
+            found: true,
+            key: pool[at],
+            iter,
+        }
+    }
+
+    // To the first sibling not yet passed that is not below the target, if there is one, else to the end. The strategy is handed the words
+    // from the present key to the group's end.
+    pub fn seek(
+        self,
+        pool: &[u64],
+        table: ColumnTrie,
+        strategy: SeekStrategy,
+        target: u64,
+    ) -> SeekAnswer
+        ensures { λ r. ⌜ r ≡ soughtOf (now (pool .entry)) table self strategy target ⌝ }
+    {
+        let p = place_of(pool, table, self);
+        let at = p.at;
+        let end = p.end;
+        if end <= at {
+            return SeekAnswer {
+                number: p.number,
+                found: false,
+                probes: 0,
+                iter: self,
+            };
+        }
+        let s = seek::partition_point(strategy, &pool[at..end], target);
+        SeekAnswer {
+            number: 0,
+            found: s.offset < end - at,
+            probes: s.probes,
+            iter: self.past(s.offset),
+        }
+    }
+
+    // Whether no sibling is left; yes at the root.
+    pub fn at_end(self, pool: &[u64], table: ColumnTrie) -> EndAnswer
+        ensures { λ r. ⌜ r ≡ endOf (now (pool .entry)) table self ⌝ }
+    {
+        let p = place_of(pool, table, self);
+        EndAnswer {
+            number: p.number,
+            at_end: p.number == 0 && p.end <= p.at,
+        }
+    }
 }
