@@ -1,5 +1,6 @@
 mod Answers
 mod Groups
+mod Opens
 mod Places
 mod Rests
 mod Seeks

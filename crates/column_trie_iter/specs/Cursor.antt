@@ -12,7 +12,7 @@ use Rattle.relation.specs.Layers.{Layer}
 use Rattle.seek.specs.Seek.{halving, halves, seekOf}
 use Rattle.seek.specs.declared.SeekStrategy.{SeekStrategy}
 use Rattle.column_trie.specs.Pool.{spot}
-use Rattle.column_trie.specs.Table.{layerIn, headerSound}
+use Rattle.column_trie.specs.Table.{dataLen, layerIn, headerSound}
 use Rattle.column_trie.specs.declared.ColumnTrie.{ColumnTrie}
 use Rattle.column_trie_iter.specs.declared.ColumnTrieIter.{ColumnTrieIter}
 use Rattle.column_trie_iter.specs.declared.Group.{Group}
@@ -66,12 +66,10 @@ standsBelow pool t it =
 
 -- not 7: at depth 0 the other numbers are 0
 unfoldable pub stands : List ℕ → ColumnTrie → ColumnTrieIter → Bool
-unfolding standsBelow
 stands pool t it = pick (eqb (it .depth) 0) (eqb (it .«interval_i») 0 && eqb (it .«slice_offset») 0) (standsBelow pool t it)
 
 -- 6 for the header, then 7; 0 where neither is given
 unfoldable pub refusal : List ℕ → ColumnTrie → ColumnTrieIter → ℕ
-unfolding stands
 refusal pool t it = pick (headerSound (length pool) t) (pick (stands pool t it) 0 7) 6
 
 -- the siblings not yet passed, the present key first; none at depth 0
@@ -101,7 +99,6 @@ keyIn [] = noKey 0
 keyIn (k ∷ ks) = record { number = 0; found = true; key = k }
 
 unfoldable pub keyOf : List ℕ → ColumnTrie → ColumnTrieIter → KeyAnswer
-unfolding refusal remaining
 keyOf pool t it = unless (refusal pool t it) noKey (keyIn (remaining pool t it))
 
 abbrev pub unmoved : ColumnTrieIter → ℕ → NextAnswer
@@ -113,7 +110,6 @@ nextIn it [] = unmoved it 0
 nextIn it (k ∷ ks) = record { number = 0; found = some ks; key = first ks; iter = past it 1 }
 
 unfoldable pub nextOf : List ℕ → ColumnTrie → ColumnTrieIter → NextAnswer
-unfolding refusal remaining
 nextOf pool t it = unless (refusal pool t it) (unmoved it) (nextIn it (remaining pool t it))
 
 abbrev pub unsought : ColumnTrieIter → ℕ → SeekAnswer
@@ -131,7 +127,6 @@ seekIn s target it (k ∷ ks) =
     }
 
 unfoldable pub soughtOf : List ℕ → ColumnTrie → ColumnTrieIter → SeekStrategy → ℕ → SeekAnswer
-unfolding refusal remaining
 soughtOf pool t it s target = unless (refusal pool t it) (unsought it) (seekIn s target it (remaining pool t it))
 
 abbrev pub noEnd : ℕ → EndAnswer
@@ -142,7 +137,6 @@ endIn [] = record { number = 0; «at_end» = true }
 endIn (k ∷ ks) = noEnd 0
 
 unfoldable pub endOf : List ℕ → ColumnTrie → ColumnTrieIter → EndAnswer
-unfolding refusal remaining
 endOf pool t it = unless (refusal pool t it) noEnd (endIn (remaining pool t it))
 
 abbrev pub unopened : ColumnTrieIter → ℕ → OpenAnswer
@@ -150,7 +144,6 @@ unopened it n = record { number = n; opened = false; iter = it }
 
 -- there is something to open: above full depth, at the root over data in layer 0, below it on a key
 unfoldable pub opens : List ℕ → ColumnTrie → ColumnTrieIter → Bool
-unfolding remaining
 opens pool t it = ltb (it .depth) (t .arity) && pick (eqb (it .depth) 0) (ltb 0 (length (layerIn pool t 0 .keys))) (some (remaining pool t it))
 
 -- the interval of the children: the one interval of layer 0, or the place of the present key in its layer
@@ -162,7 +155,6 @@ abbrev pub openAt : List ℕ → ColumnTrie → ColumnTrieIter → ℕ → OpenA
 openAt pool t it i = pick (lies (layerIn pool t (it .depth)) i) (record { number = 0; opened = true; iter = cursor (it .depth + 1) i 0 }) (unopened it 6)
 
 unfoldable pub openOf : List ℕ → ColumnTrie → ColumnTrieIter → OpenAnswer
-unfolding refusal opens child
 openOf pool t it = unless (refusal pool t it) (unopened it) (pick (opens pool t it) (openAt pool t it (child pool t it)) (unopened it 0))
 
 abbrev pub unrisen : ColumnTrieIter → ℕ → UpAnswer
@@ -181,11 +173,9 @@ ownedBy l it owner =
 
 -- the last interval counted is the owner; 6 where none is
 unfoldable pub risesIn : Layer → ColumnTrieIter → UpAnswer
-unfolding halves
 risesIn l it = pick (eqb (countUpTo (it .«interval_i») (l .intervals)) 0) (unrisen it 6) (ownedBy l it (countUpTo (it .«interval_i») (l .intervals) - 1))
 
 unfoldable pub upOf : List ℕ → ColumnTrie → ColumnTrieIter → UpAnswer
-unfolding refusal risesIn
 upOf pool t it =
     unless (refusal pool t it) (unrisen it)
     (pick (eqb (it .depth) 0) (unrisen it 0)
@@ -208,7 +198,6 @@ placeRefused n = record { number = n; index = 0; at = 0; end = 0 }
 
 -- a cursor below the root: 7, or its place in the pool
 unfoldable pub placeBelow : List ℕ → ColumnTrie → ColumnTrieIter → Place
-unfolding standsBelow
 placeBelow pool t it =
     let l = layerOf pool t it in
     let from = groupFrom l (it .«interval_i») + it .«slice_offset» in
@@ -225,3 +214,7 @@ pub record Placed (pool : List ℕ) (t : ColumnTrie) (it : ColumnTrieIter) (p : 
   pub passed : p .number ≡ 0 → it .«slice_offset» ≤ p .at
   pub rest : p .number ≡ 0 → take (p .end - p .at) (drop (p .at) pool) ≡ remaining pool t it
   pub index : p .number ≡ 0 → p .index ≡ child pool t it
+
+-- open's test, by the run's two places in the pool
+unfoldable pub hasChildren : ColumnTrie → ℕ → ℕ → ℕ → Bool
+hasChildren t depth at end = pick (eqb depth 0) (ltb 0 (dataLen t 0)) (ltb depth (t .arity) && ltb at end)

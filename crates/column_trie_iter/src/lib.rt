@@ -7,7 +7,7 @@ ghost use mathlib.Core.Bool.{true, false};
 ghost use Prim.Native.Nat.{_+_, _-_, _≤_, _<_, _^_};
 ghost use lib.ListN.{length, getD};
 ghost use Rattle.column_trie.specs.Table.{layerIn, headerSound};
-ghost use Rattle.column_trie_iter.specs.Cursor.{fresh, past, outside, groupOf, placeRefused, placeBelow, Placed, keyOf, nextOf, soughtOf, endOf, opens, openOf, risesIn, upOf};
+ghost use Rattle.column_trie_iter.specs.Cursor.{fresh, past, outside, groupOf, placeRefused, placeBelow, Placed, keyOf, nextOf, soughtOf, endOf, hasChildren, unopened, openOf, risesIn, upOf};
 use column_trie::ColumnTrie;
 use seek::SeekStrategy;
 
@@ -289,4 +289,51 @@ impl ColumnTrieIter {
             at_end: p.number == 0 && p.end <= p.at,
         }
     }
+
+    // To the first of the present key's children, or of the root's.
+    pub fn open(self, pool: &[u64], table: ColumnTrie) -> OpenAnswer
+        ensures { λ r. ⌜ r ≡ openOf (now (pool .entry)) table self ⌝ }
+    {
+        let p = place_of(pool, table, self);
+        if p.number != 0 {
+            return self.unopened(p.number);
+        }
+        if !has_children(table, self.depth, p.at, p.end) {
+            return self.unopened(0);
+        }
+        let index = p.index;
+        let g = group_of(pool, table, self.depth, index);
+        if !g.inside {
+            return self.unopened(6);
+        }
+        OpenAnswer {
+            number: 0,
+            opened: true,
+            iter: Self {
+                depth: self.depth + 1,
+                interval_i: index,
+                slice_offset: 0,
+            },
+        }
+    }
+
+    fn unopened(self, number: u64) -> OpenAnswer
+        ensures { λ r. ⌜ r ≡ unopened self number ⌝ }
+    {
+        OpenAnswer {
+            number,
+            opened: false,
+            iter: self,
+        }
+    }
+}
+
+// Whether there is something to open, for a cursor that is not refused and stands at `at` of a run that ends at `end`.
+fn has_children(table: ColumnTrie, depth: usize, at: usize, end: usize) -> bool
+    ensures { λ r. ⌜ r ≡ hasChildren table depth at end ⌝ }
+{
+    if depth == 0 {
+        return 0 < table.data_len[0];
+    }
+    depth < table.arity && at < end
 }
