@@ -3,4 +3,5 @@ mod Groups
 mod Opens
 mod Places
 mod Rests
+mod Rises
 mod Seeks

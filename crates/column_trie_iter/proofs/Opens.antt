@@ -16,18 +16,8 @@ use Rattle.column_trie_iter.specs.Cursor.{Placed, cursor, refusal, stand
 use Rattle.column_trie_iter.specs.declared.ColumnTrieIter.{ColumnTrieIter}
 use Rattle.column_trie_iter.specs.declared.Place.{Place}
 use Rattle.column_trie_iter.proofs.Groups.{keys-long}
+use Rattle.column_trie_iter.proofs.Places.{unrefused}
 use Rattle.column_trie_iter.proofs.Rests.{refuses, answers, part-none, part-more}
-
--- what no refusal tells: the header is sound, and the cursor stands in its list
-module _ (pool : List ℕ) (t : ColumnTrie) (it : ColumnTrieIter) where
-  pub unrefused : refusal pool t it ≡ 0 → (headerSound (length pool) t ≡ true) × (stands pool t it ≡ true)
-  unfolding refusal
-  unrefused z = go (headerSound (length pool) t) (stands pool t it) refl refl z
-    where
-      go : (h s : Bool) → headerSound (length pool) t ≡ h → stands pool t it ≡ s → _≡_ {A = ℕ} (pick h (pick s 0 7) 6) 0 → (headerSound (length pool) t ≡ true) × (stands pool t it ≡ true)
-      go true true e f q = (e, f)
-      go true false e f q = absurd (omega arith)
-      go false s e f q = absurd (omega arith)
 
 -- keys are left from at to end exactly if at is before end
 some-part : (pool : List ℕ) (at end : ℕ) → end ≤ length pool → ltb at end ≡ some (take (end - at) (drop at pool))

@@ -158,6 +158,23 @@ run-part pool s n from to o h =
     )
 
 module _ (pool : List ℕ) (t : ColumnTrie) (it : ColumnTrieIter) where
+  -- what no refusal tells: the header is sound, and the cursor stands in its list
+  pub unrefused : refusal pool t it ≡ 0 → (headerSound (length pool) t ≡ true) × (stands pool t it ≡ true)
+  unfolding refusal
+  unrefused z = go (headerSound (length pool) t) (stands pool t it) refl refl z
+    where
+      go : (h s : Bool) → headerSound (length pool) t ≡ h → stands pool t it ≡ s → _≡_ {A = ℕ} (pick h (pick s 0 7) 6) 0 → (headerSound (length pool) t ≡ true) × (stands pool t it ≡ true)
+      go true true e f q = (e, f)
+      go true false e f q = absurd (omega arith)
+      go false s e f q = absurd (omega arith)
+
+  pub stands-below : 0 < it .depth → stands pool t it ≡ standsBelow pool t it
+  unfolding stands
+  stands-below b = simp (ne-eqb (it .depth) 0 (λ z. omega arith))
+
+  pub standing : refusal pool t it ≡ 0 → 0 < it .depth → Standing pool t it
+  standing z b = stands-told pool t it (sym (stands-below b) ∙ unrefused z .1)
+
   refused-as : (n : ℕ) → (n ≡ 0 → ⊥) → n ≡ refusal pool t it → Placed pool t it (placeRefused n)
   refused-as n z e =
       record { number = e; ordered = omega arith; inside = omega arith; left = λ x. absurd (omega arith); passed = λ x. absurd (z x); rest = λ x. absurd (z x); index = λ x. absurd (z x) }
@@ -177,7 +194,7 @@ module _ (pool : List ℕ) (t : ColumnTrie) (it : ColumnTrieIter) where
       stands-root = simp (eq-eqb (it .depth) 0 z)
 
       pub root-refused : (it .«interval_i» ≡ 0 → ⊥) ⊎ (it .«slice_offset» ≡ 0 → ⊥) → Placed pool t it (placeRefused 7)
-      root-refused n = refused-as 7 (λ x. omega arith) (sym (refusal-is ∙ ap (λ (b : Bool). pick b 0 7) (stands-root ∙ other n)))
+      root-refused n = refused-as 7 (λ x. omega arith) (sym (refusal-is ∙ ap (λ (x : Bool). pick x 0 7) (stands-root ∙ other n)))
         where
           other : (it .«interval_i» ≡ 0 → ⊥) ⊎ (it .«slice_offset» ≡ 0 → ⊥) → (eqb (it .«interval_i») 0 && eqb (it .«slice_offset») 0) ≡ false
           other (inl n) = and-false-left (eqb (it .«interval_i») 0) (eqb (it .«slice_offset») 0) (ne-eqb (it .«interval_i») 0 n)
@@ -187,7 +204,7 @@ module _ (pool : List ℕ) (t : ColumnTrie) (it : ColumnTrieIter) where
       unfolding remaining child
       root-placed i o =
           record {
-            number = sym (refusal-is ∙ ap (λ (b : Bool). pick b 0 7) (stands-root ∙ and-true (eqb (it .«interval_i») 0) (eqb (it .«slice_offset») 0) (eq-eqb (it .«interval_i») 0 i) (eq-eqb (it .«slice_offset») 0 o)));
+            number = sym (refusal-is ∙ ap (λ (x : Bool). pick x 0 7) (stands-root ∙ and-true (eqb (it .«interval_i») 0) (eqb (it .«slice_offset») 0) (eq-eqb (it .«interval_i») 0 i) (eq-eqb (it .«slice_offset») 0 o)));
             ordered = omega arith;
             inside = omega arith;
             left = λ x. refl;
@@ -197,10 +214,6 @@ module _ (pool : List ℕ) (t : ColumnTrie) (it : ColumnTrieIter) where
           }
 
     module _ (b : 0 < it .depth) where
-      stands-below : stands pool t it ≡ standsBelow pool t it
-      unfolding stands
-      stands-below = simp (ne-eqb (it .depth) 0 (λ z. omega arith))
-
       there : Standing pool t it → standsBelow pool t it ≡ true → Placed pool t it (placeBelow pool t it)
       unfolding placeBelow remaining child
       there w e =
@@ -211,7 +224,7 @@ module _ (pool : List ℕ) (t : ColumnTrie) (it : ColumnTrieIter) where
           let k = keys-long pool f in
           simp e (
           record {
-            number = sym (refusal-is ∙ ap (λ (b : Bool). pick b 0 7) (stands-below ∙ e));
+            number = sym (refusal-is ∙ ap (λ (x : Bool). pick x 0 7) (stands-below b ∙ e));
             ordered = omega arith;
             inside = omega arith;
             left = λ x. refl;
@@ -225,5 +238,5 @@ module _ (pool : List ℕ) (t : ColumnTrie) (it : ColumnTrieIter) where
       below-placed = go (standsBelow pool t it) refl
         where
           go : (x : Bool) → standsBelow pool t it ≡ x → Placed pool t it (placeBelow pool t it)
-          go false e = subst (Placed pool t it) (misplaced pool t it e) (refused-as 7 (λ x. omega arith) (sym (refusal-is ∙ ap (λ (b : Bool). pick b 0 7) (stands-below ∙ e))))
+          go false e = subst (Placed pool t it) (misplaced pool t it e) (refused-as 7 (λ x. omega arith) (sym (refusal-is ∙ ap (λ (x : Bool). pick x 0 7) (stands-below b ∙ e))))
           go true e = there (stands-told pool t it e) e

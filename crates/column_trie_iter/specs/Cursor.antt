@@ -164,12 +164,17 @@ unrisen it n = record { number = n; risen = false; iter = it }
 abbrev pub countUpTo : ℕ → List ℕ → ℕ
 countUpTo i ints = halving ints (i + 1) 0 (length ints) 0 .offset
 
--- to the interval `owner` of the layer above: 6 where it or its group is outside its list, or the cursor's interval index is not inside the group
+-- interval and group of `owner` are in their lists, and the key at place i is in the group
+unfoldable pub owns : Layer → ℕ → ℕ → Bool
+owns l owner i = lies l owner && (leb (groupFrom l owner) i && ltb i (groupTo l owner))
+
+-- on that key
+abbrev pub risenTo : Layer → ColumnTrieIter → ℕ → UpAnswer
+risenTo l it owner = record { number = 0; risen = true; iter = cursor (it .depth - 1) owner (it .«interval_i» - groupFrom l owner) }
+
+-- to the key of the layer above whose place is the cursor's interval index; 6 where the owner does not have it
 abbrev pub ownedBy : Layer → ColumnTrieIter → ℕ → UpAnswer
-ownedBy l it owner =
-    pick (lies l owner && (leb (groupFrom l owner) (it .«interval_i») && ltb (it .«interval_i») (groupTo l owner)))
-    (record { number = 0; risen = true; iter = cursor (it .depth - 1) owner (it .«interval_i» - groupFrom l owner) })
-    (unrisen it 6)
+ownedBy l it owner = pick (owns l owner (it .«interval_i»)) (risenTo l it owner) (unrisen it 6)
 
 -- the last interval counted is the owner; 6 where none is
 unfoldable pub risesIn : Layer → ColumnTrieIter → UpAnswer
@@ -218,3 +223,10 @@ pub record Placed (pool : List ℕ) (t : ColumnTrie) (it : ColumnTrieIter) (p : 
 -- open's test, by the run's two places in the pool
 unfoldable pub hasChildren : ColumnTrie → ℕ → ℕ → ℕ → Bool
 hasChildren t depth at end = pick (eqb depth 0) (ltb 0 (dataLen t 0)) (ltb depth (t .arity) && ltb at end)
+
+-- what is known of a cursor below depth 1 that is not refused
+pub record Rising (len : ℕ) (t : ColumnTrie) (it : ColumnTrieIter) : Type 0 where
+  pub sound : headerSound len t ≡ true
+  pub below : 1 < it .depth
+  pub deep : it .depth ≤ t .arity
+  pub index : it .«interval_i» < t .capacity

@@ -7,7 +7,7 @@ ghost use mathlib.Core.Bool.{true, false};
 ghost use Prim.Native.Nat.{_+_, _-_, _≤_, _<_, _^_};
 ghost use lib.ListN.{length, getD};
 ghost use Rattle.column_trie.specs.Table.{layerIn, headerSound};
-ghost use Rattle.column_trie_iter.specs.Cursor.{fresh, past, outside, groupOf, placeRefused, placeBelow, Placed, keyOf, nextOf, soughtOf, endOf, hasChildren, unopened, openOf, risesIn, upOf};
+ghost use Rattle.column_trie_iter.specs.Cursor.{fresh, past, outside, groupOf, placeRefused, placeBelow, Placed, keyOf, nextOf, soughtOf, endOf, hasChildren, unopened, openOf, Rising, risesIn, unrisen, upOf};
 use column_trie::ColumnTrie;
 use seek::SeekStrategy;
 
@@ -317,12 +317,43 @@ impl ColumnTrieIter {
         }
     }
 
+    // Back to the key that was opened.
+    pub fn up(self, pool: &[u64], table: ColumnTrie) -> UpAnswer
+        ensures { λ r. ⌜ r ≡ upOf (now (pool .entry)) table self ⌝ }
+    {
+        let p = place_of(pool, table, self);
+        if p.number != 0 {
+            return self.unrisen(p.number);
+        }
+        if self.depth == 0 {
+            return self.unrisen(0);
+        }
+        if self.depth == 1 {
+            return UpAnswer {
+                number: 0,
+                risen: true,
+                iter: ColumnTrieIter::new(),
+            };
+        }
+        rise(pool, table, self)
+    }
+
     fn unopened(self, number: u64) -> OpenAnswer
         ensures { λ r. ⌜ r ≡ unopened self number ⌝ }
     {
         OpenAnswer {
             number,
             opened: false,
+            iter: self,
+        }
+    }
+
+    fn unrisen(self, number: u64) -> UpAnswer
+        ensures { λ r. ⌜ r ≡ unrisen self number ⌝ }
+    {
+        UpAnswer {
+            number,
+            risen: false,
             iter: self,
         }
     }
@@ -336,4 +367,37 @@ fn has_children(table: ColumnTrie, depth: usize, at: usize, end: usize) -> bool
         return 0 < table.data_len[0];
     }
     depth < table.arity && at < end
+}
+
+// From below depth 1, by the upper layer's list: the last interval that is not above the cursor's interval index is the owner.
+fn rise(pool: &[u64], table: ColumnTrie, iter: ColumnTrieIter) -> UpAnswer
+    requires { ⌜ Rising (length (now pool)) table iter ⌝ }
+    ensures { λ r. ⌜ r ≡ risesIn (layerIn (now (pool .entry)) table (iter .depth - 2)) iter ⌝ }
+{
+    let d = iter.depth - 2;
+    let i = iter.interval_i;
+    let intervals = table.interval_len[d];
+    let a = column_trie::layer_at(table, d) + table.capacity;
+    let e = a + intervals;
+    let counted = seek::halve(&pool[a..e], i as u64 + 1, 0, intervals, 0).offset;
+    if counted == 0 {
+        return iter.unrisen(6);
+    }
+    let owner = counted - 1;
+    let g = group_of(pool, table, d, owner);
+    if !g.inside {
+        return iter.unrisen(6);
+    }
+    if g.to <= i {
+        return iter.unrisen(6);
+    }
+    UpAnswer {
+        number: 0,
+        risen: true,
+        iter: ColumnTrieIter {
+            depth: iter.depth - 1,
+            interval_i: owner,
+            slice_offset: i - g.from,
+        },
+    }
 }
