@@ -13,7 +13,8 @@ use Rattle.seek.specs.declared.Sought.{Sought}
 use Rattle.seek.specs.declared.SeekStrategy.{SeekStrategy}
 use Rattle.column_trie.specs.declared.ColumnTrie.{ColumnTrie}
 use Rattle.column_trie.proofs.Header.{length-part}
-use Rattle.column_trie_iter.specs.Cursor.{Placed, past, noKey, keyIn, keyOf, unmoved, nextIn, nextOf, some, unsought, seekIn, soughtOf, noEnd, endIn, endOf, remaining}
+use Rattle.column_trie_iter.specs.Cursor.{past, noKey, keyIn, keyOf, unmoved, nextIn, nextOf, some, unsought, seekIn, soughtOf, noEnd, endIn, endOf, remaining}
+use Rattle.column_trie_iter.specs.Inside.{Placed}
 use Rattle.column_trie_iter.specs.declared.ColumnTrieIter.{ColumnTrieIter}
 use Rattle.column_trie_iter.specs.declared.Place.{Place}
 use Rattle.column_trie_iter.proofs.Rests.{refuses, part-none, part-more, by-rest, nothing, something}

@@ -5,15 +5,15 @@ use mathlib.Core.Bool.{true}
 use mathlib.Core.List.{List, [], _∷_}
 use native.Mathlib.Omega.{arith}
 use native.Mathlib.Numerals.{add-one}
-use lib.ListN.{length, getD, take, drop, List·getD-eq-default}
+use lib.ListN.{length, getD, take, drop}
 use borrow.Author.Tests.{lt-ltb, le-ltb, le-leb, lt-leb}
 use Rattle.relation.specs.Layers.{Layer}
 use Rattle.column_trie.specs.Pool.{spot}
 use Rattle.column_trie.specs.Table.{layerIn, dataLen, intervalLen}
 use Rattle.column_trie.specs.declared.ColumnTrie.{ColumnTrie}
 use Rattle.column_trie.proofs.Header.{LayerFits, length-part}
-use Rattle.column_trie_iter.specs.Cursor.{groupFrom, groupTo, lies, outside, groupOf}
-use Rattle.column_trie_iter.specs.declared.Group.{Group}
+use Rattle.column_trie_iter.specs.Cursor.{groupFrom, groupTo, lies}
+use Rattle.column_trie_iter.specs.Inside.{outside, groupOf}
 
 -- inside a list what stands for the elements past its end does not matter
 pub getD-any : (l : List ℕ) (i x y : ℕ) → i < length l → getD l i x ≡ getD l i y

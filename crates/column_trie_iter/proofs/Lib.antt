@@ -1,7 +1,8 @@
+-- The modules that are not `pub` are steps of the functions' own proofs; the crate trie_iterator cites the others.
 mod Answers
-mod Groups
+pub mod Groups
 mod Opens
-mod Places
-mod Rests
-mod Rises
-mod Seeks
+pub mod Places
+pub mod Rests
+pub mod Rises
+pub mod Seeks

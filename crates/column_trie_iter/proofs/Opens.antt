@@ -1,18 +1,19 @@
 -- The answers of open: whether there is something to open, and whether its group lies in the layer below.
-use Prim.Native.Nat.{ℕ, suc, _+_, _-_, _≤_, _<_}
+use Prim.Native.Nat.{ℕ, _+_, _-_, _≤_, _<_}
 use mathlib.Core.Path.{_≡_, refl, sym, ap, _∙_}
 use mathlib.Core.Bool.{Bool, true, false, _&&_}
-use mathlib.Core.List.{List, [], _∷_}
+use mathlib.Core.List.{List}
 use native.Mathlib.Omega.{arith}
-use lib.ListN.{length, getD, take, drop}
-use lib.Dec.{ltb, leb, eqb}
-use borrow.Author.Tests.{ltb-true, ltb-false, lt-ltb, le-ltb, eqb-true, eqb-false, eq-eqb, ne-eqb}
+use lib.ListN.{length, take, drop}
+use lib.Dec.{ltb, eqb}
+use borrow.Author.Tests.{ltb-true, ltb-false, lt-ltb, eqb-true}
 use Rattle.relation.specs.Order.{pick}
-use Rattle.relation.proofs.Tests.{and-left, not-both}
-use Rattle.column_trie.specs.Table.{dataLen, layerIn, headerSound}
+use Rattle.relation.proofs.Tests.{and-left}
+use Rattle.column_trie.specs.Table.{layerIn, headerSound}
 use Rattle.column_trie.specs.declared.ColumnTrie.{ColumnTrie}
 use Rattle.column_trie.proofs.Header.{layer-fits, header-told}
-use Rattle.column_trie_iter.specs.Cursor.{Placed, cursor, refusal, stands, remaining, some, lies, opens, child, openAt, unopened, openOf, hasChildren}
+use Rattle.column_trie_iter.specs.Cursor.{cursor, refusal, remaining, some, lies, opens, child, openAt, unopened, openOf}
+use Rattle.column_trie_iter.specs.Inside.{Placed, hasChildren}
 use Rattle.column_trie_iter.specs.declared.ColumnTrieIter.{ColumnTrieIter}
 use Rattle.column_trie_iter.specs.declared.Place.{Place}
 use Rattle.column_trie_iter.proofs.Groups.{keys-long}

@@ -5,17 +5,18 @@ use mathlib.Core.Logic.{_⊎_, inl, inr}
 use mathlib.Core.Bool.{Bool, true, false, _&&_}
 use mathlib.Core.List.{List, [], _∷_}
 use native.Mathlib.Omega.{arith}
-use lib.ListN.{length, getD, take, drop}
+use lib.ListN.{length, take, drop}
 use lib.Seq.{slice, length-slice, take-nil, take-take, drop-drop}
 use lib.Dec.{ltb, leb, eqb}
-use borrow.Author.Tests.{ltb-true, leb-true, lt-ltb, le-ltb, le-leb, lt-leb, eq-eqb, ne-eqb}
+use borrow.Author.Tests.{ltb-true, leb-true, le-leb, lt-leb, eq-eqb, ne-eqb}
 use Rattle.relation.specs.Order.{pick}
 use Rattle.relation.specs.Layers.{Layer}
 use Rattle.relation.proofs.Tests.{and-left, and-right, and-true, and-false-left, and-false-right, not-both}
 use Rattle.column_trie.specs.Pool.{spot}
-use Rattle.column_trie.specs.Table.{layerIn, headerSound, dataLen}
+use Rattle.column_trie.specs.Table.{headerSound, dataLen}
 use Rattle.column_trie.specs.declared.ColumnTrie.{ColumnTrie}
-use Rattle.column_trie_iter.specs.Cursor.{groupFrom, groupTo, keysOf, lies, between, outside, groupOf, layerOf, standsBelow, stands, refusal, remaining, child, placeRefused, placeBelow, Placed}
+use Rattle.column_trie_iter.specs.Cursor.{groupFrom, groupTo, keysOf, lies, layerOf, standsBelow, stands, refusal, remaining, child}
+use Rattle.column_trie_iter.specs.Inside.{between, outside, groupOf, placeRefused, placeBelow, Placed}
 use Rattle.column_trie.proofs.Header.{layer-fits, header-told}
 use Rattle.column_trie_iter.proofs.Groups.{keys-long}
 use Rattle.column_trie_iter.specs.declared.Group.{Group}
@@ -147,7 +148,7 @@ drop-take (suc k) zero l = sym (ap (λ (m : ℕ). take m (drop (suc k) l)) (let 
 drop-take (suc k) (suc n) [] = sym (take-nil (suc n - suc k))
 drop-take (suc k) (suc n) (x ∷ l) = drop-take k n l ∙ ap (λ (m : ℕ). take m (drop k l)) (let e : n - k ≡ suc n - suc k = omega arith in e)
 
-run-part : (pool : List ℕ) (s n from to o : ℕ) → to ≤ n → take (s + to - (s + (from + o))) (drop (s + (from + o)) pool) ≡ drop o (slice from to (take n (drop s pool)))
+pub run-part : (pool : List ℕ) (s n from to o : ℕ) → to ≤ n → take (s + to - (s + (from + o))) (drop (s + (from + o)) pool) ≡ drop o (slice from to (take n (drop s pool)))
 run-part pool s n from to o h =
     sym (
     drop-drop o from (take to (take n (drop s pool))) ∙

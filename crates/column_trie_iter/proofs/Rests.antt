@@ -1,5 +1,5 @@
 -- What a call answers from the siblings that are left, found in the pool: none, or the present key and those behind it.
-use Prim.Native.Nat.{ℕ, suc, _+_, _-_, _≤_, _<_}
+use Prim.Native.Nat.{ℕ, suc, _-_, _≤_, _<_}
 use mathlib.Core.Path.{_≡_, refl, sym, ap, _∙_}
 use mathlib.Core.Bool.{Bool, true, false}
 use mathlib.Core.List.{List, [], _∷_}
@@ -10,7 +10,8 @@ use lib.Dec.{eqb}
 use borrow.Author.Tests.{eqb-true, eqb-false, eq-eqb, ne-eqb}
 use Rattle.relation.specs.Order.{pick}
 use Rattle.column_trie.specs.declared.ColumnTrie.{ColumnTrie}
-use Rattle.column_trie_iter.specs.Cursor.{refusal, remaining, unless, Placed}
+use Rattle.column_trie_iter.specs.Cursor.{refusal, remaining, unless}
+use Rattle.column_trie_iter.specs.Inside.{Placed}
 use Rattle.column_trie_iter.specs.declared.ColumnTrieIter.{ColumnTrieIter}
 use Rattle.column_trie_iter.specs.declared.Place.{Place}
 

@@ -1,7 +1,7 @@
 -- The answers of up from below depth 1. The halving rule's last counted interval is not above the index, on any list: what it has passed last
 -- was below its target. So the offset in the owner's group never falls below 0.
-use Prim.Native.Nat.{ℕ, suc, _+_, _-_, _≤_, _<_}
-use mathlib.Core.Path.{_≡_, refl, sym, ap, _∙_}
+use Prim.Native.Nat.{ℕ, _+_, _-_, _≤_, _<_}
+use mathlib.Core.Path.{_≡_, sym, ap, _∙_}
 use mathlib.Core.Bool.{Bool, true, false, _&&_}
 use mathlib.Core.List.{List}
 use native.Mathlib.Omega.{arith}
@@ -14,13 +14,12 @@ use Rattle.relation.proofs.Tests.{and-true}
 use Rattle.column_trie.specs.Table.{layerIn}
 use Rattle.column_trie.specs.declared.ColumnTrie.{ColumnTrie}
 use Rattle.column_trie.proofs.Header.{layer-fits, header-told}
-use Rattle.seek.specs.Seek.{halving, midOf}
-use Rattle.seek.specs.declared.Sought.{Sought}
-use Rattle.seek.proofs.HalvingLaws.{keeps, halving-within}
-use Rattle.column_trie_iter.specs.Cursor.{cursor, groupFrom, groupTo, lies, countUpTo, owns, risenTo, ownedBy, unrisen, risesIn, upOf, fresh, Placed, Rising}
+use Rattle.seek.specs.Seek.{midOf}
+use Rattle.seek.proofs.HalvingLaws.{keeps}
+use Rattle.column_trie_iter.specs.Cursor.{groupFrom, groupTo, lies, countUpTo, owns, risenTo, ownedBy, unrisen, risesIn, upOf, fresh, refusal}
+use Rattle.column_trie_iter.specs.Inside.{Rising}
 use Rattle.column_trie_iter.specs.declared.ColumnTrieIter.{ColumnTrieIter}
 use Rattle.column_trie_iter.specs.declared.UpAnswer.{UpAnswer}
-use Rattle.column_trie_iter.specs.declared.Place.{Place}
 use Rattle.column_trie_iter.proofs.Groups.{intervals-long}
 use Rattle.column_trie_iter.proofs.Places.{unrefused, standing}
 use Rattle.column_trie_iter.proofs.Rests.{refuses, answers}
@@ -73,35 +72,34 @@ module _ (l : Layer) (it : ColumnTrieIter) {n : ℕ} (c : n ≡ countUpTo (it .�
         ) ∙
         by-owner
 
-module _ {pool : List ℕ} {t : ColumnTrie} {it : ColumnTrieIter} {p : Place} (w : Placed pool t it p) where
+-- the answers of up
+module _ (pool : List ℕ) (t : ColumnTrie) (it : ColumnTrieIter) where
   abbrev moved : UpAnswer
   moved = pick (eqb (it .depth) 0) (unrisen it 0) (pick (eqb (it .depth) 1) (record { number = 0; risen = true; iter = fresh }) (risesIn (layerIn pool t (it .depth - 2)) it))
 
-  pub up-refused : (p .number ≡ 0 → ⊥) → unrisen it (p .number) ≡ upOf pool t it
+  pub up-refused : {n : ℕ} → n ≡ refusal pool t it → (n ≡ 0 → ⊥) → unrisen it n ≡ upOf pool t it
   unfolding upOf
-  up-refused n = refuses (unrisen it) moved (w .number) n
+  up-refused e n = refuses (unrisen it) moved e n
 
-  module _ (z : p .number ≡ 0) where
+  module _ (z : refusal pool t it ≡ 0) where
     up-is : moved ≡ upOf pool t it
     unfolding upOf
-    up-is = answers (unrisen it) moved (sym (w .number) ∙ z)
+    up-is = answers (unrisen it) moved z
 
     pub up-root : it .depth ≡ 0 → unrisen it 0 ≡ upOf pool t it
     up-root e = sym (simp (eq-eqb (it .depth) 0 e)) ∙ up-is
 
-    module _ (n : it .depth ≡ 0 → ⊥) where
-      pub up-top : it .depth ≡ 1 → {x : ColumnTrieIter} → x ≡ fresh → record { number = 0; risen = true; iter = x } ≡ upOf pool t it
-      up-top e f =
-          ap (λ (y : ColumnTrieIter). record { number = 0; risen = true; iter = y }) f ∙ sym (simp (ne-eqb (it .depth) 0 n, eq-eqb (it .depth) 1 e)) ∙ up-is
+    pub up-top : it .depth ≡ 1 → {x : ColumnTrieIter} → x ≡ fresh → record { number = 0; risen = true; iter = x } ≡ upOf pool t it
+    up-top e f =
+        ap (λ (y : ColumnTrieIter). record { number = 0; risen = true; iter = y }) f ∙ sym (simp (ne-eqb (it .depth) 0 (λ d. omega arith), eq-eqb (it .depth) 1 e)) ∙ up-is
 
-      module _ (m : it .depth ≡ 1 → ⊥) where
-        pub up-below : risesIn (layerIn pool t (it .depth - 2)) it ≡ upOf pool t it
-        up-below = sym (simp (ne-eqb (it .depth) 0 n, ne-eqb (it .depth) 1 m)) ∙ up-is
+    module _ (d : 1 < it .depth) where
+      pub up-below : risesIn (layerIn pool t (it .depth - 2)) it ≡ upOf pool t it
+      up-below = sym (simp (ne-eqb (it .depth) 0 (λ e. omega arith), ne-eqb (it .depth) 1 (λ e. omega arith))) ∙ up-is
 
-        pub rising : Rising (length pool) t it
-        rising =
-            let c = sym (w .number) ∙ z in
-            let h = unrefused pool t it c .0 in
-            let s = standing pool t it c (omega (arith, n)) in
-            let f = layer-fits {d = it .depth - 1} (header-told (length pool) t h) (omega (arith, n, s .deep)) in
-            record { sound = h; below = omega (arith, n, m); deep = s .deep; index = omega (arith, s .listed, intervals-long pool f, f .intervals) }
+      pub rising : Rising (length pool) t it
+      rising =
+          let h = unrefused pool t it z .0 in
+          let s = standing pool t it z (omega arith) in
+          let f = layer-fits {d = it .depth - 1} (header-told (length pool) t h) (omega (arith, s .deep)) in
+          record { sound = h; below = d; deep = s .deep; index = omega (arith, s .listed, intervals-long pool f, f .intervals) }

@@ -6,9 +6,8 @@ use mathlib.Core.List.{List, [], _∷_}
 use native.Mathlib.Omega.{arith}
 use lib.ListN.{length, getD, drop}
 use lib.Dec.{ltb, leb·suc-suc}
-use borrow.Author.Tests.{ltb-true, ltb-false, lt-ltb, le-ltb}
-use Rattle.seek.specs.Seek.{sought, gallops, gallopingOf, seekOf}
-use Rattle.seek.specs.declared.Sought.{Sought}
+use borrow.Author.Tests.{ltb-true, lt-ltb, le-ltb}
+use Rattle.seek.specs.Seek.{gallops, gallopingOf, seekOf}
 use Rattle.seek.specs.declared.SeekStrategy.{SeekStrategy}
 use Rattle.seek.specs.declared.SeekStrategy.the-variants.{Linear, Binary, Galloping}
 use Rattle.seek.proofs.Laws.{halving-within, linear-leading}

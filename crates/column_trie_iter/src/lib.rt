@@ -7,7 +7,8 @@ ghost use mathlib.Core.Bool.{true, false};
 ghost use Prim.Native.Nat.{_+_, _-_, _≤_, _<_, _^_};
 ghost use lib.ListN.{length, getD};
 ghost use Rattle.column_trie.specs.Table.{layerIn, headerSound};
-ghost use Rattle.column_trie_iter.specs.Cursor.{fresh, past, outside, groupOf, placeRefused, placeBelow, Placed, keyOf, nextOf, soughtOf, endOf, hasChildren, unopened, openOf, Rising, risesIn, unrisen, upOf};
+ghost use Rattle.column_trie_iter.specs.Cursor.{fresh, past, keyOf, nextOf, soughtOf, endOf, unopened, openOf, risesIn, unrisen, upOf};
+ghost use Rattle.column_trie_iter.specs.Inside.{outside, groupOf, placeRefused, placeBelow, Placed, hasChildren, Rising};
 use column_trie::ColumnTrie;
 use seek::SeekStrategy;
 

@@ -1,12 +1,9 @@
 -- `column_trie_iter::group_of` meets its contract: the header puts the layer's list of intervals into the pool, and each way out is one of the
 -- definition's tests (Groups.antt).
-use Prim.Native.Nat.{ℕ, suc, _+_, _<_}
-use mathlib.Core.Path.{_≡_, refl, sym, ap, _∙_}
-use mathlib.Core.List.{List}
+use Prim.Native.Nat.{ℕ, _<_}
+use mathlib.Core.Path.{_≡_, _∙_}
 use native.Mathlib.Omega.{arith}
-use native.Mathlib.Numerals.{add-one}
-use lib.ListN.{length, getD}
-use Rattle.relation.specs.Layers.{Layer}
+use lib.ListN.{length}
 use Rattle.column_trie.specs.Table.{layerIn}
 use Rattle.column_trie.proofs.Header.{LayerFits, layer-fits, header-told}
 use Rattle.column_trie_iter.specs.Cursor.{groupFrom, groupTo}
@@ -14,11 +11,6 @@ use Rattle.column_trie_iter.proofs.Groups.{unlisted, falling, over, lyi
 use borrow.Author.Needs.{needs}
 use Rattle.column_trie_iter.proofs.group_of.Statement.{statement}
 use Rattle.column_trie_iter.proofs.group_of.Tie as tie
-use Rattle.column_trie_iter.proofs.group_of.Reads as reads
-use Rattle.column_trie_iter.proofs.group_of.Lts as lts
-use Rattle.column_trie.proofs.layer_at.Reads as layer-at-reads
-use Rattle.column_trie_iter.proofs.outside.Reads as outside-reads
-use Rattle.column_trie_iter.proofs.start_or.Reads as start-or-reads
 
 told : (s : tie.Start) → LayerFits (length (s .args .pool .now)) (s .args .t2) (s .args .d)
 told s = layer-fits (header-told (length (s .args .pool .now)) (s .args .t2) (s .pre .0)) (s .pre .1)

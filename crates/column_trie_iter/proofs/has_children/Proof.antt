@@ -1,8 +1,6 @@
 -- `column_trie_iter::has_children` meets its contract: its tests are the definition's.
-use mathlib.Core.Bool.{Bool}
-use lib.Dec.{ltb}
 use borrow.Author.Tests.{lt-ltb, le-ltb, eq-eqb, ne-eqb}
-use Rattle.column_trie_iter.specs.Cursor.{hasChildren}
+use Rattle.column_trie_iter.specs.Inside.{hasChildren}
 use borrow.Author.Needs.{needs}
 use Rattle.column_trie_iter.proofs.has_children.Statement.{statement}
 use Rattle.column_trie_iter.proofs.has_children.Tie as tie

@@ -1,13 +1,12 @@
 -- `column_trie_iter::place_below` meets its contract: the tests stand in the sequence of the definition's (Places.antt), and the header puts the
 -- layer into the pool.
-use Prim.Native.Nat.{ℕ, _+_, _-_, _≤_, _<_}
-use mathlib.Core.Path.{_≡_, _∙_}
-use mathlib.Core.Bool.{true}
+use Prim.Native.Nat.{_-_, _≤_}
+use mathlib.Core.Path.{_∙_}
 use native.Mathlib.Omega.{arith}
 use lib.ListN.{length}
 use borrow.Author.Tests.{not-true, not-false}
 use Rattle.column_trie.proofs.Header.{LayerFits, layer-fits, header-told}
-use Rattle.column_trie_iter.specs.Cursor.{layerOf, standsBelow}
+use Rattle.column_trie_iter.specs.Cursor.{layerOf}
 use Rattle.column_trie_iter.proofs.Groups.{keys-long}
 use Rattle.column_trie_iter.proofs.Places.{Lying, group-out, group-in, too-deep, no-group, too-far, stands-there, misplaced, well-placed}
 use borrow.Author.Needs.{needs}

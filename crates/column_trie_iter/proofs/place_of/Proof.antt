@@ -1,5 +1,4 @@
 -- `column_trie_iter::place_of` meets its contract: the tests stand in the sequence of the definition's (Places.antt).
-use Prim.Native.Nat.{ℕ, _<_}
 use mathlib.Core.Path.{_≡_, sym, subst}
 use mathlib.Core.Bool.{true}
 use mathlib.Core.Logic.{inl, inr, ⊎-elim}
@@ -9,7 +8,7 @@ use lib.Dec.{eqb}
 use borrow.Author.Tests.{eqb-true, eqb-false, not-true, not-false}
 use Rattle.relation.proofs.Tests.{passed, failed}
 use Rattle.column_trie.specs.Table.{headerSound}
-use Rattle.column_trie_iter.specs.Cursor.{Placed}
+use Rattle.column_trie_iter.specs.Inside.{Placed}
 use Rattle.column_trie_iter.proofs.Places.{header-refused, root-refused, root-placed, below-placed}
 use borrow.Author.Needs.{needs}
 use Rattle.column_trie_iter.proofs.place_of.Statement.{statement}

@@ -1,7 +1,7 @@
 -- `column_trie_iter::rise` meets its contract: the part that is halved is the upper layer's list of intervals, and each way out is the definition's
 -- (Rises.antt).
-use Prim.Native.Nat.{ℕ, _+_, _-_, _≤_, _<_}
-use mathlib.Core.Path.{_≡_, refl, sym, ap, ap₂, _∙_}
+use Prim.Native.Nat.{ℕ, _+_, _-_, _≤_}
+use mathlib.Core.Path.{_≡_, sym, ap, ap₂, _∙_}
 use mathlib.Core.Bool.{true}
 use native.Mathlib.Omega.{arith}
 use lib.ListN.{length}
@@ -12,7 +12,6 @@ use Rattle.seek.specs.declared.Sought.{Sought}
 use Rattle.column_trie.specs.Table.{layerIn}
 use Rattle.column_trie.proofs.Header.{LayerFits, layer-fits, header-told}
 use Rattle.column_trie_iter.specs.Cursor.{cursor, countUpTo}
-use Rattle.column_trie_iter.specs.declared.UpAnswer.{UpAnswer}
 use Rattle.column_trie_iter.proofs.Groups.{intervals-long, part-intervals}
 use Rattle.column_trie_iter.proofs.Places.{Lying, group-out, group-in}
 use Rattle.column_trie_iter.proofs.Rises.{rises-none, not-above, rises-out, rises-past, rises-in}

@@ -7,7 +7,7 @@ use borrow.Author.Tests.{not-true, not-false}
 use Rattle.relation.proofs.Tests.{passed, failed}
 use Rattle.column_trie.specs.Table.{layerIn}
 use Rattle.column_trie.proofs.Header.{header-told}
-use Rattle.column_trie_iter.specs.Cursor.{hasChildren}
+use Rattle.column_trie_iter.specs.Inside.{hasChildren}
 use Rattle.column_trie_iter.proofs.Places.{group-out, group-in}
 use Rattle.column_trie_iter.proofs.Opens.{header-fine, open-refused, open-none, deeper, open-out, open-in}
 use borrow.Author.Needs.{needs}
