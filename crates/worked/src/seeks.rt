@@ -1,8 +1,8 @@
 // The seeks: document 01's run, and runs and targets at their limits.
-use crate::print::labelled;
-use crate::print::text;
-use crate::print::verdict;
 use seek::SeekStrategy;
+use show::labelled;
+use show::text;
+use show::verdict;
 
 const MOST: u64 = 18446744073709551615;
 

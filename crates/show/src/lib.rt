@@ -1,4 +1,4 @@
-// What a line is made of.
+// What the programs print a line with: words, numbers, and whether what came is what was expected. For the programs only.
 use libc::STDOUT_FILENO;
 
 pub fn text(words: &[u8]) {

@@ -1,10 +1,10 @@
--- `worked::builds::fall` is safe: the loop keeps the slice's length. The measure is the words left.
+-- `worked_tables::builds::fall` is safe: the loop keeps the slice's length. The measure is the words left.
 use borrow.Author.Needs.{needs}
 use Prim.Native.Nat.{_≤_, _-_}
 use mathlib.Core.Path.{_≡_}
 use lib.ListN.{length}
-use Rattle.worked.proofs.builds.fall.Statement.{statement}
-use Rattle.worked.proofs.builds.fall.Tie as tie
+use Rattle.worked_tables.proofs.builds.fall.Statement.{statement}
+use Rattle.worked_tables.proofs.builds.fall.Tie as tie
 
 abbrev Inv-loop : tie.InvT-loop
 Inv-loop rows₀ n i₀ rows i = (i ≤ n) × (length rows ≡ length rows₀) × (n ≡ length rows₀)

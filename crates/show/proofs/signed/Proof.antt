@@ -1,9 +1,9 @@
--- `worked::print::signed` is safe: a number from 0 up is a word, and one below 0 has the mirror -1 - n, whose successor fits a word.
+-- `show::signed` is safe: a number from 0 up is a word, and one below 0 has the mirror -1 - n, whose successor fits a word.
 use native.Mathlib.Omega.{arith}
 use Rattle.grade.proofs.Mirror.{cast-up, mirror-at, mirror-back}
 use borrow.Author.Needs.{needs}
-use Rattle.worked.proofs.print.signed.Statement.{statement}
-use Rattle.worked.proofs.print.signed.Tie as tie
+use Rattle.show.proofs.signed.Statement.{statement}
+use Rattle.show.proofs.signed.Tie as tie
 
 cast-number : tie.Need-cast-number
 cast-number c = cast-up (c .before .args .n) (c .before .fits .n) (c .if1 .taken)

@@ -1,10 +1,10 @@
 // The builds: document 01's four rows, no rows, the greatest table, and each refusal at both sides of its limit.
-use crate::print::labelled;
-use crate::print::number;
-use crate::print::text;
-use crate::print::verdict;
 use column_trie::ColumnTrie;
 use column_trie_build::build;
+use show::labelled;
+use show::number;
+use show::text;
+use show::verdict;
 
 // The greatest start that can be given.
 const LAST: usize = 18446744073709551615;
@@ -44,7 +44,7 @@ fn line(
     table
 }
 
-fn same(run: &[u64], expected: &[u64]) -> bool {
+pub fn same(run: &[u64], expected: &[u64]) -> bool {
     if run.len() != expected.len() {
         return false;
     }
