@@ -6,7 +6,7 @@ use seek::SeekStrategy;
 
 const MOST: u64 = 18446744073709551615;
 
-fn name(strategy: SeekStrategy) {
+pub fn name(strategy: SeekStrategy) {
     match strategy {
         SeekStrategy::Linear => text(b"linear"),
         SeekStrategy::Binary => text(b"binary"),
