@@ -1,5 +1,6 @@
 // What the programs print a line with: words, numbers, and whether what came is what was expected. For the programs only.
 use libc::STDOUT_FILENO;
+use seek::SeekStrategy;
 
 pub fn text(words: &[u8]) {
     io::write_all(STDOUT_FILENO, words);
@@ -33,5 +34,13 @@ pub fn verdict(same: bool) {
         text(b" ok\n");
     } else {
         text(b" WRONG\n");
+    }
+}
+
+pub fn strategy(by: SeekStrategy) {
+    match by {
+        SeekStrategy::Linear => text(b"linear"),
+        SeekStrategy::Binary => text(b"binary"),
+        SeekStrategy::Galloping => text(b"galloping"),
     }
 }
