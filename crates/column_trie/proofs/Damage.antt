@@ -18,7 +18,7 @@ use Rattle.column_trie.specs.Limits.{maxArity, maxCapacity}
 use Rattle.column_trie.specs.Pool.{spot}
 use Rattle.column_trie.specs.Table.{dataLen, intervalLen, layersIn, layerIn, arityOk, capacityOk, liesIn, withinAt, pastAt, headerSound, Undamaged, undamaged}
 use Rattle.column_trie.specs.declared.ColumnTrie.{ColumnTrie}
-use Rattle.column_trie.proofs.Header.{InPool, header-told, layer-fits, length-part, within-told, past-told}
+use Rattle.column_trie.proofs.Header.{InPool, header-told, told-header, layer-fits, length-part, within-told, past-told}
 use Rattle.column_trie.proofs.Layers.{Whole, layers-length, layers-at}
 
 module _ (pool : List ℕ) {t : ColumnTrie} (o : Whole t) (p : InPool (length pool) t) where
@@ -73,19 +73,20 @@ undamaged-told pool t e =
 pub told-undamaged : (pool : List ℕ) (t : ColumnTrie) → Undamaged pool t → undamaged pool t ≡ true
 unfolding undamaged
 told-undamaged pool t u =
-    let w = every maxArity (withinAt t) in
-    let l = liesIn (length pool) (t .start) (t .arity) (t .capacity) in
     let past = every maxArity (pastAt t) in
     let inner = layers.undamaged (t .arity) (t .capacity) (layersIn pool t) (t .«tuple_count») in
     and-true (headerSound (length pool) t) (past && inner)
-    (and-true (arityOk (t .arity)) (capacityOk (t .capacity) && (l && w)) (and-true (ltb 0 (t .arity)) (leb (t .arity) maxArity) (lt-ltb 0 (t .arity) (u .arity .0)) (le-leb (t .arity) maxArity (u .arity .1)))
-    (and-true (capacityOk (t .capacity)) (l && w) (and-true (ltb 0 (t .capacity)) (leb (t .capacity) maxCapacity) (lt-ltb 0 (t .capacity) (u .capacity .0)) (le-leb (t .capacity) maxCapacity (u .capacity .1)))
-    (and-true l w (le-leb (t .start + 2 * t .arity * t .capacity) (length pool) (u .fits)) (every-all (withinAt t) maxArity (λ d h. within-told t d (u .within d h .0) (u .within d h .1))))))
+    (told-header (length pool) t (record { some = u .arity .0; few = u .arity .1; roomy = u .capacity .0; small = u .capacity .1; fits = u .fits; within = u .within }))
     (and-true past inner (every-all (pastAt t) maxArity (λ d h. past-told t d (side d h (ltb d (t .arity)) refl))) (T-true inner (layer-laws.→undamaged (u .layers))))
   where
     side : (d : ℕ) → d < maxArity → (b : Bool) → ltb d (t .arity) ≡ b → (d < t .arity) ⊎ ((dataLen t d ≡ 0) × (intervalLen t d ≡ 0))
     side d h true e = inl (ltb-true d (t .arity) e)
     side d h false e = inr (u .past d (ltb-false d (t .arity) e) h)
+
+pub undamaged-header : (pool : List ℕ) (t : ColumnTrie) → undamaged pool t ≡ true → headerSound (length pool) t ≡ true
+unfolding undamaged
+undamaged-header pool t e =
+    and-left (headerSound (length pool) t) (every maxArity (pastAt t) && layers.undamaged (t .arity) (t .capacity) (layersIn pool t) (t .«tuple_count»)) e
 
 -- the check's ways out
 module _ (pool : List ℕ) (t : ColumnTrie) where

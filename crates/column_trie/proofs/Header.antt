@@ -11,7 +11,7 @@ use lib.Seq.{length-take-le}
 use lib.Dec.{ltb, leb, eqb}
 use borrow.Author.Tests.{ltb-true, leb-true, leb-false, lt-ltb, le-ltb, le-leb, lt-leb, eq-eqb, ne-eqb}
 use Rattle.relation.specs.Tests.{every}
-use Rattle.relation.proofs.Tests.{and-left, and-right, and-true, and-false-left, and-false-right, every-at, or-right}
+use Rattle.relation.proofs.Tests.{and-left, and-right, and-true, and-false-left, and-false-right, every-at, every-all, or-right}
 use Rattle.column_trie.specs.Limits.{maxArity, maxCapacity}
 use Rattle.column_trie.specs.Pool.{spot}
 use Rattle.column_trie.specs.Table.{arityOk, capacityOk, liesIn, withinAt, pastAt, headerSound, dataLen, intervalLen}
@@ -128,3 +128,12 @@ layer-fits {len} {t} {d} p h =
 -- the lists there are as long as the header says
 pub length-part : (pool : List ℕ) (at n : ℕ) → at + n ≤ length pool → length (take n (drop at pool)) ≡ n
 length-part pool at n h = length-take-le n (drop at pool) (omega (arith, length-drop at pool))
+
+-- and back
+pub told-header : (len : ℕ) (t : ColumnTrie) → InPool len t → headerSound len t ≡ true
+told-header len t p =
+    let w = every maxArity (withinAt t) in
+    let l = liesIn len (t .start) (t .arity) (t .capacity) in
+    and-true (arityOk (t .arity)) (capacityOk (t .capacity) && (l && w)) (and-true (ltb 0 (t .arity)) (leb (t .arity) maxArity) (lt-ltb 0 (t .arity) (p .some)) (le-leb (t .arity) maxArity (p .few)))
+    (and-true (capacityOk (t .capacity)) (l && w) (and-true (ltb 0 (t .capacity)) (leb (t .capacity) maxCapacity) (lt-ltb 0 (t .capacity) (p .roomy)) (le-leb (t .capacity) maxCapacity (p .small)))
+    (and-true l w (le-leb (t .start + 2 * t .arity * t .capacity) len (p .fits)) (every-all (withinAt t) maxArity (λ d h. within-told t d (p .within d h .0) (p .within d h .1)))))

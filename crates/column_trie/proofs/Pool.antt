@@ -180,3 +180,31 @@ store-own at c (k ∷ ks) (n ∷ ns) pool e r f =
     ap (store (at + c + c) c (reads (at + c + c) c ks ns pool))
     (ap (λ (p : List ℕ). lay p (at + c) (take n (drop (at + c) pool))) (lay-own pool at k (omega (arith, f, r 0 (omega arith) .0))) ∙ lay-own pool (at + c) n (omega (arith, f, r 0 (omega arith) .1))) ∙
     store-own (at + c + c) c ks ns pool (omega arith) (λ d h. r (suc d) (omega arith)) f
+
+-- words laid before the table
+pub store-lay : (at c : ℕ) (ls : List Layer) (pool : List ℕ) (b : ℕ) (xs : List ℕ) → b + length xs ≤ at → store at c ls (lay pool b xs) ≡ lay (store at c ls pool) b xs
+unfolding lay
+store-lay at c ls pool b [] h = refl
+store-lay at c ls pool b (x ∷ xs) h =
+    store-lay at c ls (set pool b x) (suc b) xs (omega arith) ∙ ap (λ (l : List ℕ). lay l (suc b) xs) (store-set at c ls pool b x (omega arith))
+
+-- a layer whose lists are laid anew over lists that are no longer: as if stored so from the start
+pub store-replace :
+    (at c : ℕ) (ls : List Layer) (pool : List ℕ) (d : ℕ) (l : Layer) → d < length ls → length (layer ls d .keys) ≤ length (l .keys) → length (l .keys) ≤ c → length (layer ls d .intervals) ≤ length (l .intervals) → length (l .intervals) ≤ c →
+    lay (lay (store at c ls pool) (spot at c d) (l .keys)) (spot at c d + c) (l .intervals) ≡ store at c (set ls d l) pool
+unfolding store spot
+store-replace at c [] pool d l h k₀ k₁ i₀ i₁ = absurd (omega arith)
+store-replace at c (m ∷ ls) pool zero l h k₀ k₁ i₀ i₁ =
+    ap (λ (p : List ℕ). lay p (at + c) (l .intervals)) (sym (store-lay (at + c + c) c ls P at (l .keys) (omega arith)))
+    ∙ sym (store-lay (at + c + c) c ls (lay P at (l .keys)) (at + c) (l .intervals) (omega arith))
+    ∙ ap (store (at + c + c) c ls) over
+  where
+    P : List ℕ
+    P = lay (lay pool at (m .keys)) (at + c) (m .intervals)
+
+    over : lay (lay (lay (lay pool at (m .keys)) (at + c) (m .intervals)) at (l .keys)) (at + c) (l .intervals) ≡ lay (lay pool at (l .keys)) (at + c) (l .intervals)
+    over =
+        ap (λ (p : List ℕ). lay p (at + c) (l .intervals)) (sym (lay-apart (lay pool at (m .keys)) at (l .keys) (at + c) (m .intervals) (omega arith)))
+        ∙ lay-over (lay (lay pool at (m .keys)) at (l .keys)) (at + c) (m .intervals) (l .intervals) i₀
+        ∙ ap (λ (p : List ℕ). lay p (at + c) (l .intervals)) (lay-over pool at (m .keys) (l .keys) k₀)
+store-replace at c (m ∷ ls) pool (suc d) l h k₀ k₁ i₀ i₁ = store-replace (at + c + c) c ls (lay (lay pool at (m .keys)) (at + c) (m .intervals)) d l (omega arith) k₀ k₁ i₀ i₁

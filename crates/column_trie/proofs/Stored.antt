@@ -7,7 +7,7 @@ use mathlib.Core.Logic.{⊎-elim}
 use native.Mathlib.Omega.{arith}
 use native.Mathlib.Decide.{decLt}
 use native.Mathlib.Nat.{mul-comm, mul-assoc}
-use lib.ListN.{length, take, drop, getD, replicate, length-append, length-replicate, length-map, getD-replicate, List·getD-eq-default, List·getD-append, List·getD-map}
+use lib.ListN.{length, take, drop, getD, set, replicate, length-set, length-append, length-replicate, length-map, getD-replicate, List·getD-eq-default, List·getD-append, List·getD-map}
 use lib.Seq.{take-at, getD-append-add, getD-take, ext-getD, length-take-le}
 use Rattle.relation.specs.Layers.{Layer, layer, noLayer}
 use Rattle.relation.specs.Undamaged as layers
@@ -160,3 +160,21 @@ module _ {pool : List ℕ} {t : ColumnTrie} (o : Whole t) (u : Undamaged pool t)
         where
           l : length (take (t .arity) ns) ≡ t .arity
           l = length-take-le (t .arity) ns (omega (arith, u .arity))
+
+-- ---- one layer changed in the header
+
+map-set : (f : Layer → ℕ) (ls : List Layer) (d : ℕ) (l : Layer) → map f (set ls d l) ≡ set (map f ls) d (f l)
+map-set f [] d l = refl
+map-set f (m ∷ ls) zero l = refl
+map-set f (m ∷ ls) (suc d) l = ap (λ (ns : List ℕ). f m ∷ ns) (map-set f ls d l)
+
+append-set : (ns ms : List ℕ) (d x : ℕ) → d < length ns → set ns d x ++ ms ≡ set (ns ++ ms) d x
+append-set [] ms d x h = absurd (omega arith)
+append-set (n ∷ ns) ms zero x h = refl
+append-set (n ∷ ns) ms (suc d) x h = ap (λ (l : List ℕ). n ∷ l) (append-set ns ms d x (omega arith))
+
+pub padded-set : (f : Layer → ℕ) (ls : List Layer) (d : ℕ) (l : Layer) → d < length ls → padded (map f (set ls d l)) ≡ set (padded (map f ls)) d (f l)
+padded-set f ls d l h =
+    ap padded (map-set f ls d l)
+    ∙ ap (λ (n : ℕ). set (map f ls) d (f l) ++ replicate (maxArity - n) 0) (length-set (map f ls) d (f l))
+    ∙ append-set (map f ls) (replicate (maxArity - length (map f ls)) 0) d (f l) (omega (arith, length-map ls f))

@@ -21,7 +21,7 @@ pub part-at : (pool : List ℕ) (at n j : ℕ) → j < n → getD (take n (drop 
 part-at pool at n j h = getD-take n (drop at pool) j 0 h ∙ getD-drop at pool j 0
 
 module _ {pool : List ℕ} {t : ColumnTrie} {rows : List Row} (o : Whole t) (p : InPool (length pool) t) (h : Holds pool t rows) (d : ℕ) (b : d < t .arity) where
-  layer-is : layerIn pool t d ≡ rankedAt d rows
+  pub layer-is : layerIn pool t d ≡ rankedAt d rows
   layer-is =
       sym (layers-at pool t o (p .few) d b)
       ∙ ap (λ (ls : List Layer). layer ls d) (h .layers ∙ sym (ranked (h .width)))

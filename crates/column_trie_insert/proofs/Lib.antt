@@ -1,0 +1,5 @@
+mod Shifts
+mod Grows
+mod Places
+mod Walks
+mod Rows

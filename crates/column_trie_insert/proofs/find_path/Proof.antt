@@ -1,0 +1,100 @@
+-- `column_trie_insert::find_path` meets its contract: each turn goes down one stored key (Walks.antt).
+use Prim.Native.Nat.{_-_, _<_}
+use mathlib.Core.Path.{_≡_, refl, sym, subst}
+use mathlib.Core.Bool.{true}
+use native.Mathlib.Omega.{arith}
+use lib.ListN.{length, getD}
+use borrow.Author.Needs.{needs}
+use borrow.Author.Tests.{not-true, not-false}
+use Rattle.relation.specs.Layers.{Layer}
+use Rattle.relation.proofs.Layers.{rankedAt}
+use Rattle.column_trie.specs.Table.{rowsIn, layerIn, Undamaged}
+use Rattle.column_trie.proofs.Layers.{Whole}
+use Rattle.column_trie.proofs.Damage.{undamaged-told, undamaged-header}
+use Rattle.column_trie.proofs.Stored.{in-pool}
+use Rattle.column_trie.proofs.Tables.{Holds, holds}
+use Rattle.column_trie.proofs.Words.{layer-is}
+use Rattle.column_trie_insert.specs.Grow.{Grouped, PlaceOf}
+use Rattle.column_trie_insert.proofs.Walks.{Walking, walking-start, walking-grouped, walking-found, walking-left, walking-end}
+use Rattle.column_trie_insert.proofs.find_path.Statement.{statement}
+use Rattle.column_trie_insert.proofs.find_path.Tie as tie
+
+abbrev Inv-loop : tie.InvT-loop
+Inv-loop pool t tuple d₀ i₀ d i = Walking (t .arity) (rowsIn pool t) tuple d i
+
+abbrev μ-loop : tie.MeasureT-loop
+μ-loop pool t tuple d₀ i₀ d i = t .arity - d
+
+-- the table holds its rows
+whole : (s : tie.Start Inv-loop μ-loop) → Whole (s .args .t)
+whole s = record { data-long = search needs; interval-long = search needs }
+
+sound : (s : tie.Start Inv-loop μ-loop) → Undamaged (s .args .pool .now) (s .args .t)
+sound s = undamaged-told (s .args .pool .now) (s .args .t) (s .pre .0)
+
+held : (s : tie.Start Inv-loop μ-loop) → Holds (s .args .pool .now) (s .args .t) (rowsIn (s .args .pool .now) (s .args .t))
+held s = holds (whole s) (sound s)
+
+-- the layer's words are the relation's
+layer-words : (s : tie.Start Inv-loop μ-loop) (d : _) → d < s .args .t .arity → layerIn (s .args .pool .now) (s .args .t) d ≡ rankedAt d (rowsIn (s .args .pool .now) (s .args .t))
+layer-words s d h = layer-is (whole s) (in-pool (sound s)) (held s) d h
+
+loop-holds : tie.Need-loop-holds Inv-loop μ-loop
+loop-holds c = let s = c .before .before in walking-start (s .args .t .arity) (rowsIn (s .args .pool .now) (s .args .t)) (s .args .tuple .now) (omega (arith, held s .counted, s .pre .2))
+
+mul-find-place : tie.Need-mul-find-place Inv-loop μ-loop
+mul-find-place c = omega arith
+
+shared-slice-read-find-place : tie.Need-shared-slice-read-find-place Inv-loop μ-loop
+shared-slice-read-find-place c = omega (arith, c .before .before .before .before .before .before .pre .1)
+
+find-place-requires : tie.Need-find-place-requires Inv-loop μ-loop
+find-place-requires c κs =
+    let s = c .before .before .before .before .before .before in
+    let d = c .before .before .before .loop .d in
+    let h = c .before .if1 .taken in (
+      undamaged-header (s .args .pool .now) (s .args .t) (s .pre .0),
+      h,
+      subst (λ (l : Layer). Grouped l (c .before .before .before .loop .i)) (sym (layer-words s d h)) (walking-grouped (held s .width) (s .pre .1) (c .before .before .before .loop .inv) h),
+    )
+
+returns : tie.Need-returns Inv-loop μ-loop
+returns c =
+    let s = c .before .before .before .before .before .before .before .before .before in
+    let d = c .before .before .before .before .before .before .loop .d in
+    let h = c .before .before .before .before .if1 .taken in
+    walking-left (held s .width) (s .pre .1) (c .before .before .before .before .before .before .loop .inv) h refl
+    (subst (λ (l : Layer). PlaceOf l (c .before .before .before .before .before .before .loop .i) (getD (s .args .tuple .now) d 0) (c .before .before .find-place .result)) (layer-words s d h) (c .before .before .find-place .ensures)) (not-true _ (c .if2 .taken))
+
+add-d : tie.Need-add-d Inv-loop μ-loop
+add-d c = omega (arith, sound (c .before .before .before .before .before .before .before .before .before))
+
+loop-less : tie.Need-loop-less Inv-loop μ-loop
+loop-less c = omega arith
+
+loop-again : tie.Need-loop-again Inv-loop μ-loop
+loop-again c =
+    let s = c .before .before .before .before .before .before .before .before .before in
+    let d = c .before .before .before .before .before .before .loop .d in
+    let h = c .before .before .before .before .if1 .taken in
+    walking-found (held s .width) (s .pre .1) (c .before .before .before .before .before .before .loop .inv) h refl
+    (subst (λ (l : Layer). PlaceOf l (c .before .before .before .before .before .before .loop .i) (getD (s .args .tuple .now) d 0) (c .before .before .find-place .result)) (layer-words s d h) (c .before .before .find-place .ensures)) (not-false _ (c .if2 .left))
+
+returns-2 : tie.Need-returns-2 Inv-loop μ-loop
+returns-2 c = walking-end (c .before .before .loop .inv) (c .if1 .left)
+
+pub find-path-spec : {M : Type 1} → statement M
+find-path-spec =
+    tie.close
+    (tie.spec
+    Inv-loop
+    μ-loop
+    loop-holds
+    mul-find-place
+    shared-slice-read-find-place
+    find-place-requires
+    returns
+    add-d
+    loop-less
+    loop-again
+    returns-2)

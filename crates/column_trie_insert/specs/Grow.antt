@@ -1,0 +1,84 @@
+-- A layer that gains a key, the pool and the header with that layer, and where a key goes in its group.
+use Prim.Native.Nat.{ℕ, suc, _+_, _≤_, _<_}
+use mathlib.Core.Path.{_≡_}
+use mathlib.Core.Bool.{Bool, true, false}
+use mathlib.Core.List.{List, _∷_, _++_, map}
+use lib.ListN.{length, take, drop, getD, set}
+use Rattle.relation.specs.Order.{Row, pick}
+use Rattle.relation.specs.Layers.{Layer}
+use Rattle.relation.proofs.Insert.{Stored, number}
+use Rattle.column_trie.specs.Pool.{lay, spot}
+use Rattle.column_trie.specs.Table.{dataLen, intervalLen, layerIn, headerSound}
+use Rattle.column_trie.specs.declared.ColumnTrie.{ColumnTrie}
+use Rattle.column_trie_insert.specs.Shift.{SmallFrom}
+use Rattle.column_trie_insert.specs.declared.Place.{Place}
+use Rattle.column_trie_insert.specs.declared.Path.{Path}
+
+-- a key more at place `at` of the data. Under a parent that was there, i, the later groups start one further on; a new parent i has a new interval,
+-- which starts there
+abbrev pub branched : ℕ → ℕ → ℕ → Layer → Layer
+branched i at key l = record { keys = take at (l .keys) ++ key ∷ drop at (l .keys); intervals = take (suc i) (l .intervals) ++ map suc (drop (suc i) (l .intervals)) }
+
+abbrev pub sprouted : ℕ → ℕ → ℕ → Layer → Layer
+sprouted i at key l = record { keys = take at (l .keys) ++ key ∷ drop at (l .keys); intervals = take i (l .intervals) ++ at ∷ map suc (drop i (l .intervals)) }
+
+abbrev pub grown : Bool → ℕ → ℕ → ℕ → Layer → Layer
+grown fresh i at key l = pick fresh (sprouted i at key l) (branched i at key l)
+
+-- the pool with the lists of layer d written anew, and the header with their lengths
+abbrev pub relaid : List ℕ → ColumnTrie → ℕ → Layer → List ℕ
+relaid pool t d l = lay (lay pool (spot (t .start) (t .capacity) d) (l .keys)) (spot (t .start) (t .capacity) d + t .capacity) (l .intervals)
+
+abbrev pub resized : ColumnTrie → ℕ → Layer → ColumnTrie
+resized t d l =
+    record {
+      start = t .start;
+      arity = t .arity;
+      capacity = t .capacity;
+      «data_len» = set (t .«data_len») d (length (l .keys));
+      «interval_len» = set (t .«interval_len») d (length (l .intervals));
+      «tuple_count» = t .«tuple_count»;
+    }
+
+pub record Added (pool pool′ : List ℕ) (t : ColumnTrie) (d : ℕ) (l : Layer) (r : ColumnTrie) : Type 0 where
+  pub words : pool′ ≡ relaid pool t d l
+  pub header : r ≡ resized t d l
+
+-- layer d has room for a key at place `at`, and for an interval i where the parent is new
+pub record Roomy (pool : List ℕ) (t : ColumnTrie) (d i at : ℕ) (fresh : Bool) : Type 0 where
+  pub sound : headerSound (length pool) t ≡ true
+  pub depth : d < t .arity
+  pub key-room : dataLen t d < t .capacity
+  pub place : at ≤ dataLen t d
+  pub old : fresh ≡ false → i < intervalLen t d
+  pub new : fresh ≡ true → (i ≤ intervalLen t d) × (intervalLen t d < t .capacity)
+  pub small : SmallFrom (spot (t .start) (t .capacity) d + t .capacity) (spot (t .start) (t .capacity) d + t .capacity + intervalLen t d) pool
+
+-- the group of interval i lies in the layer's data, and ascends strictly
+abbrev pub groupFrom : Layer → ℕ → ℕ
+groupFrom l i = getD (l .intervals) i 0
+
+abbrev pub groupTo : Layer → ℕ → ℕ
+groupTo l i = getD (l .intervals) (suc i) (length (l .keys))
+
+pub record Grouped (l : Layer) (i : ℕ) : Type 0 where
+  pub there : i < length (l .intervals)
+  pub from : groupFrom l i ≤ groupTo l i
+  pub to : groupTo l i ≤ length (l .keys)
+  pub rises : (j k : ℕ) → groupFrom l i ≤ j → j ≤ k → k < groupTo l i → getD (l .keys) j 0 ≤ getD (l .keys) k 0
+
+-- where a key stands in its group, or where it goes; nothing is said of how it is searched
+pub record PlaceOf (l : Layer) (i key : ℕ) (p : Place) : Type 0 where
+  pub from : groupFrom l i ≤ p .at
+  pub to : p .at ≤ groupTo l i
+  pub below : (j : ℕ) → groupFrom l i ≤ j → j < p .at → getD (l .keys) j 0 < key
+  pub found : p .there ≡ true → (p .at < groupTo l i) × (getD (l .keys) (p .at) 0 ≡ key)
+  pub absent : p .there ≡ false → p .at < groupTo l i → key < getD (l .keys) (p .at) 0
+
+-- how many of the tuple's leading keys are stored, the place of the last of them, and the place of the next, which isn't
+pub record PathOf (a : ℕ) (rows : List Row) (r : Row) (p : Path) : Type 0 where
+  pub depth : p .depth ≤ a
+  pub stored : Stored rows r (p .depth)
+  pub interval : p .interval ≡ number rows r (p .depth)
+  pub leaves : p .depth < a → Stored rows r (suc (p .depth)) → ⊥
+  pub place : p .depth < a → p .at ≡ number rows r (suc (p .depth))

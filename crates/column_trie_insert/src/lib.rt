@@ -1,0 +1,161 @@
+// Inserts a row into a table in the pool.
+ghost use mathlib.Core.Path.{_≡_};
+ghost use mathlib.Core.Bool.{true};
+ghost use mathlib.Core.List.{_∷_, _++_, map};
+ghost use Prim.Native.Nat.{ℕ, suc, _+_, _≤_, _<_, _^_};
+ghost use lib.ListN.{length, take, drop, getD};
+ghost use Rattle.column_trie.specs.Pool.{lay};
+ghost use Rattle.column_trie.specs.Table.{dataLen, layerIn, rowsIn, headerSound, undamaged};
+ghost use Rattle.column_trie_insert.specs.Shift.{SmallFrom};
+ghost use Rattle.column_trie_insert.specs.Grow.{grown, Roomy, Added, Grouped, PlaceOf, PathOf};
+use column_trie::ColumnTrie;
+use column_trie::layer_at;
+use seek::SeekStrategy;
+use seek::partition_point;
+
+// Puts `word` at place `at` of the n words from `base` on: those from `at` on move one up.
+fn wedge(pool: &mut [u64], base: usize, at: usize, n: usize, word: u64)
+    requires { ⌜ (at ≤ n) × (base + n < length (now pool)) ⌝ }
+    ensures { λ r. ⌜ now (pool .exit) ≡ lay (now (pool .entry)) base (take at (take n (drop base (now (pool .entry)))) ++ word ∷ drop at (take n (drop base (now (pool .entry))))) ⌝ }
+{
+    let end = base + at;
+    let mut i = base + n;
+    while end < i {
+        pool[i] = pool[i - 1];
+        i -= 1;
+    }
+    pool[end] = word;
+}
+
+// The same, and each word that moves becomes one more.
+fn wedge_raised(pool: &mut [u64], base: usize, at: usize, n: usize, word: u64)
+    requires { ⌜ (at ≤ n) × (base + n < length (now pool)) × SmallFrom (base + at) (base + n) (now pool) ⌝ }
+    ensures { λ r. ⌜ now (pool .exit) ≡ lay (now (pool .entry)) base (take at (take n (drop base (now (pool .entry)))) ++ word ∷ map suc (drop at (take n (drop base (now (pool .entry)))))) ⌝ }
+{
+    let end = base + at;
+    let mut i = base + n;
+    while end < i {
+        pool[i] = pool[i - 1] + 1;
+        i -= 1;
+    }
+    pool[end] = word;
+}
+
+// Each of the n words from `base` on becomes one more from place `from` on.
+fn raise(pool: &mut [u64], base: usize, from: usize, n: usize)
+    requires { ⌜ (from ≤ n) × (base + n ≤ length (now pool)) × SmallFrom (base + from) (base + n) (now pool) ⌝ }
+    ensures { λ r. ⌜ now (pool .exit) ≡ lay (now (pool .entry)) base (take from (take n (drop base (now (pool .entry)))) ++ map suc (drop from (take n (drop base (now (pool .entry)))))) ⌝ }
+{
+    let end = base + n;
+    let mut i = base + from;
+    while i < end {
+        pool[i] = pool[i] + 1;
+        i += 1;
+    }
+}
+
+// Where a key stands in its group, or where it goes.
+pub struct Place {
+    pub at: usize,
+    pub there: bool,
+}
+
+// How many leading keys of a tuple are stored, the place of the last of them in its layer, and the place where the next one goes.
+pub struct Path {
+    pub depth: usize,
+    pub interval: usize,
+    pub at: usize,
+}
+
+// The layer's lists with a key more, in the pool, and the header with their lengths.
+fn add_layer(
+    pool: &mut [u64],
+    t: ColumnTrie,
+    d: usize,
+    i: usize,
+    at: usize,
+    key: u64,
+    fresh: bool,
+) -> ColumnTrie
+    requires { ⌜ Roomy (now pool) t d i at fresh ⌝ }
+    ensures { λ r. ⌜ Added (now (pool .entry)) (now (pool .exit)) t d (grown fresh i at key (layerIn (now (pool .entry)) t d)) r ⌝ }
+{
+    let data_from = layer_at(t, d);
+    let interval_from = data_from + t.capacity;
+    let keys = t.data_len[d];
+    let intervals = t.interval_len[d];
+    let mut out = t;
+    out.data_len[d] = keys + 1;
+    wedge(pool, data_from, at, keys, key);
+    if fresh {
+        wedge_raised(pool, interval_from, i, intervals, at as u64);
+        out.interval_len[d] = intervals + 1;
+    } else {
+        raise(pool, interval_from, i + 1, intervals);
+    }
+    out
+}
+
+// Where the children of a new interval i start: where those of the interval that stood there did, or behind all keys.
+fn begins(pool: &[u64], t: ColumnTrie, d: usize, i: usize) -> usize
+    requires { ⌜ (headerSound (length (now pool)) t ≡ true) × (d < t .arity) ⌝ }
+    ensures { λ r. ⌜ r ≡ getD (layerIn (now (pool .entry)) t d .intervals) i (dataLen t d) ⌝ }
+{
+    let keys = t.data_len[d];
+    let intervals = t.interval_len[d];
+    if intervals <= i {
+        return keys;
+    }
+    let from = layer_at(t, d) + t.capacity + i;
+    pool[from] as usize
+}
+
+// Where `key` stands in the group of interval i of layer d, or where it goes. How it is searched is no part of the contract.
+fn find_place(pool: &[u64], t: ColumnTrie, d: usize, i: usize, key: u64) -> Place
+    requires { ⌜ (headerSound (length (now pool)) t ≡ true) × (d < t .arity) × Grouped (layerIn (now pool) t d) i ⌝ }
+    ensures { λ r. ⌜ PlaceOf (layerIn (now (pool .entry)) t d) i key r ⌝ }
+{
+    let from = begins(pool, t, d, i);
+    let to = begins(pool, t, d, i + 1);
+    let data_from = layer_at(t, d);
+    let a = data_from + from;
+    let e = data_from + to;
+    let run = &pool[a..e];
+    let offset = partition_point(SeekStrategy::Linear, run, key).offset;
+    if offset < run.len() {
+        return Place {
+            at: from + offset,
+            there: run[offset] == key,
+        };
+    }
+    Place {
+        at: to,
+        there: false,
+    }
+}
+
+// Down the layers while the tuple's keys are stored. The table has rows.
+fn find_path(pool: &[u64], t: ColumnTrie, tuple: &[u64]) -> Path
+    requires { ⌜ (undamaged (now pool) t ≡ true) × (length (now tuple) ≡ t .arity) × (0 < t .«tuple_count») ⌝ }
+    ensures { λ r. ⌜ PathOf (t .arity) (rowsIn (now (pool .entry)) t) (now (tuple .entry)) r ⌝ }
+{
+    let mut d = 0;
+    let mut i = 0;
+    while d < t.arity {
+        let p = find_place(pool, t, d, i, tuple[d]);
+        if !p.there {
+            return Path {
+                depth: d,
+                interval: i,
+                at: p.at,
+            };
+        }
+        i = p.at;
+        d += 1;
+    }
+    Path {
+        depth: d,
+        interval: i,
+        at: i,
+    }
+}

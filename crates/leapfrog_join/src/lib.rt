@@ -1,0 +1,183 @@
+// Internal: every function here asks something of its caller by a `requires`. The leapfrog join of sorted runs, Algorithms 1 to 4 of Veldhuizen 2014.
+//
+// The runs lie in one pool. Atom a stands at pool[at[a]], and its run ends before end[a]. The ring's first k entries are the atoms that take part;
+// p is a place of the ring. From p round, the keys on which the atoms stand do not fall: the atom at p has the least, the one before it the greatest.
+ghost use mathlib.Core.Path.{_≡_};
+ghost use mathlib.Core.List.{[], _∷_, _++_};
+ghost use Prim.Native.Nat.{_+_, _<_, _≤_};
+ghost use lib.ListN.{length, getD, take, drop};
+ghost use Rattle.relation.specs.Lists.{Ascends};
+ghost use Rattle.query.specs.Meet.{meet, from};
+ghost use Rattle.leapfrog_join.specs.Ring.{keyOf, place, sorted, Rises, Keyed, Follows};
+ghost use Rattle.leapfrog_join.specs.Leapfrog.{part, runsIn, Ready, Ordered, Agreed, Left, Begun, Reached};
+use seek::SeekStrategy;
+use seek::partition_point;
+
+// How many atoms there may be.
+pub const MAX_ATOMS: usize = 8;
+
+// How a search ends: with the key on which all stand, or with none, the atom at p having no key left. p is where the ring goes on.
+pub enum Hit {
+    Key { key: u64, p: usize },
+    Nothing { p: usize },
+}
+
+// The place of the ring after p.
+fn after(p: usize, k: usize) -> usize
+    requires { ⌜ p < k ⌝ }
+    ensures { λ r. ⌜ Follows k p r ⌝ }
+{
+    if p + 1 == k { 0 } else { p + 1 }
+}
+
+// The place of the ring before p.
+fn before(p: usize, k: usize) -> usize
+    requires { ⌜ p < k ⌝ }
+    ensures { λ r. ⌜ Follows k r p ⌝ }
+{
+    if p == 0 { k - 1 } else { p - 1 }
+}
+
+// Lets ring entry j sink to its place among the entries before it, whose keys do not fall: behind those whose keys are not above its own.
+fn sink(pool: &[u64], at: &[usize; MAX_ATOMS], ring: &mut [usize; MAX_ATOMS], j: usize)
+    requires { ⌜ Keyed (now pool) (now at) (now ring) (j + 1) ⌝ }
+    requires { ⌜ Rises (keyOf (now pool) (now at)) (take j (now ring)) ⌝ }
+    ensures { λ _. ⌜ now (ring .exit) ≡ place (keyOf (now (pool .entry)) (now (at .entry))) (getD (now (ring .entry)) j 0) (take j (now (ring .entry))) ++ drop (j + 1) (now (ring .entry)) ⌝ }
+{
+    let mut i = j;
+    while 0 < i {
+        let a = ring[i];
+        let b = ring[i - 1];
+        let x = at[a];
+        let y = at[b];
+        if pool[y] <= pool[x] {
+            break;
+        }
+        ring[i] = b;
+        ring[i - 1] = a;
+        i -= 1;
+    }
+}
+
+// Sorts the first k entries of the ring by key, equal keys in their old sequence.
+fn sort_ring(pool: &[u64], at: &[usize; MAX_ATOMS], ring: &mut [usize; MAX_ATOMS], k: usize)
+    requires { ⌜ Keyed (now pool) (now at) (now ring) k ⌝ }
+    requires { ⌜ 0 < k ⌝ }
+    ensures { λ _. ⌜ now (ring .exit) ≡ sorted (keyOf (now (pool .entry)) (now (at .entry))) (now (ring .entry)) k ++ drop k (now (ring .entry)) ⌝ }
+{
+    let mut j = 1;
+    while j < k {
+        sink(pool, at, ring, j);
+        j += 1;
+    }
+}
+
+// The place of the first key not below `target` in the run from x to e, or e. The seek is handed the keys not yet passed.
+fn seek_run(pool: &[u64], x: usize, e: usize, target: u64, strategy: SeekStrategy) -> usize
+    requires { ⌜ (x ≤ e) × (e ≤ length (now pool)) ⌝ }
+    requires { ⌜ Ascends _<_ (part (now pool) x e) ⌝ }
+    ensures { λ r. ⌜ Reached (now (pool .entry)) x e target r ⌝ }
+{
+    x + partition_point(strategy, &pool[x..e], target).offset
+}
+
+// Algorithm 2, from place `start` of an ordered ring: the atom with the least key seeks the greatest, until all agree or one has no key left.
+pub fn leapfrog_search(
+    pool: &[u64],
+    at: &mut [usize; MAX_ATOMS],
+    end: &[usize; MAX_ATOMS],
+    ring: &[usize; MAX_ATOMS],
+    k: usize,
+    start: usize,
+    strategy: SeekStrategy,
+) -> Hit
+    requires { ⌜ Ready (now pool) (now at) (now end) (now ring) k ⌝ }
+    requires { ⌜ Ordered (now pool) (now at) (now ring) k start ⌝ }
+    requires { ⌜ start < k ⌝ }
+    ensures { λ r. ⌜ Left (now (pool .entry)) (now (end .entry)) (now (ring .entry)) k (now (at .entry)) (now (at .exit)) (meet (runsIn (now (pool .entry)) (now (at .entry)) (now (end .entry)) (now (ring .entry)) k)) [] r ⌝ }
+{
+    let mut p = start;
+    let z = ring[before(start, k)];
+    let y = at[z];
+    let mut most = pool[y];
+    let hit: Hit = loop {
+        let a = ring[p];
+        let x = at[a];
+        if pool[x] == most {
+            break Hit::Key { key: most, p };
+        }
+        let e = end[a];
+        let q = seek_run(pool, x, e, most, strategy);
+        at[a] = q;
+        if q == e {
+            break Hit::Nothing { p };
+        }
+        most = pool[q];
+        p = after(p, k);
+    };
+    hit
+}
+
+// Algorithm 1, on a ring in atom order: sorts it, and searches from its first place.
+pub fn leapfrog_init(
+    pool: &[u64],
+    at: &mut [usize; MAX_ATOMS],
+    end: &[usize; MAX_ATOMS],
+    ring: &mut [usize; MAX_ATOMS],
+    k: usize,
+    strategy: SeekStrategy,
+) -> Hit
+    requires { ⌜ Ready (now pool) (now at) (now end) (now ring) k ⌝ }
+    requires { ⌜ Ascends _<_ (take k (now ring)) ⌝ }
+    ensures { λ r. ⌜ Begun (now (pool .entry)) (now (end .entry)) k (now (ring .entry)) (now (ring .exit)) (now (at .entry)) (now (at .exit)) r ⌝ }
+{
+    sort_ring(pool, at, ring, k);
+    leapfrog_search(pool, at, end, ring, k, 0, strategy)
+}
+
+// Algorithm 3, where all agree: the atom at p goes past the common key, and the search goes on from the next place.
+pub fn leapfrog_next(
+    pool: &[u64],
+    at: &mut [usize; MAX_ATOMS],
+    end: &[usize; MAX_ATOMS],
+    ring: &[usize; MAX_ATOMS],
+    k: usize,
+    p: usize,
+    strategy: SeekStrategy,
+) -> Hit
+    requires { ⌜ Agreed (now pool) (now at) (now end) (now ring) k (keyOf (now pool) (now at) (getD (now ring) p 0)) p ⌝ }
+    ensures { λ r. ⌜ Left (now (pool .entry)) (now (end .entry)) (now (ring .entry)) k (now (at .entry)) (now (at .exit)) (meet (runsIn (now (pool .entry)) (now (at .entry)) (now (end .entry)) (now (ring .entry)) k)) (keyOf (now (pool .entry)) (now (at .entry)) (getD (now (ring .entry)) p 0) ∷ []) r ⌝ }
+{
+    let a = ring[p];
+    let q = at[a] + 1;
+    at[a] = q;
+    if q == end[a] {
+        return Hit::Nothing { p };
+    }
+    leapfrog_search(pool, at, end, ring, k, after(p, k), strategy)
+}
+
+// Algorithm 4, where all agree: the atom at p seeks `target`, and the search goes on from the next place. A target not above the common key finds that key.
+pub fn leapfrog_seek(
+    pool: &[u64],
+    at: &mut [usize; MAX_ATOMS],
+    end: &[usize; MAX_ATOMS],
+    ring: &[usize; MAX_ATOMS],
+    k: usize,
+    p: usize,
+    target: u64,
+    strategy: SeekStrategy,
+) -> Hit
+    requires { ⌜ Agreed (now pool) (now at) (now end) (now ring) k (keyOf (now pool) (now at) (getD (now ring) p 0)) p ⌝ }
+    ensures { λ r. ⌜ Left (now (pool .entry)) (now (end .entry)) (now (ring .entry)) k (now (at .entry)) (now (at .exit)) (from target (meet (runsIn (now (pool .entry)) (now (at .entry)) (now (end .entry)) (now (ring .entry)) k))) [] r ⌝ }
+{
+    let a = ring[p];
+    let x = at[a];
+    let e = end[a];
+    let q = seek_run(pool, x, e, target, strategy);
+    at[a] = q;
+    if q == e {
+        return Hit::Nothing { p };
+    }
+    leapfrog_search(pool, at, end, ring, k, after(p, k), strategy)
+}
