@@ -3,7 +3,7 @@
 use Prim.Native.Nat.{ℕ, suc, _+_, _≤_, _<_}
 use native.Mathlib.Omega.{arith}
 use native.Mathlib.Numerals.{add-one}
-use native.Mathlib.Decide.{ℕ-discrete}
+use native.Mathlib.Decide.{ℕ-discrete, decLt}
 use mathlib.Core.Path.{_≡_, refl, sym, subst, ap, _∙_}
 use mathlib.Core.Bool.{Bool, true, false, _&&_, _||_, not, false≢true}
 use mathlib.Core.List.{List, [], _∷_, _++_, map}
@@ -24,7 +24,8 @@ use Rattle.query.proofs.Meet.{in-has, has-in, has-not, getD-in, in-getD}
 use Rattle.query.proofs.Checks.{permutes-true, true-permutes, permutes-false, distinct-at, at-distinct, listed-is, listed-true, some-in, in-some, covers-false}
 use Rattle.column_trie.specs.Limits.{maxArity}
 use Rattle.column_trie.specs.Table.{undamaged}
-use Rattle.leapfrog_triejoin.specs.Query.{maxAtoms, maxTables, noAtom, atomAt, tableAt, orderOf, varsOf, atomsIn, listsOf, orderOk, namedOk, listedAt, listOk, Listed, named, soundAt, joinNumber}
+use Rattle.leapfrog_join.specs.Ring.{maxAtoms}
+use Rattle.leapfrog_triejoin.specs.Query.{maxTables, noAtom, atomAt, tableAt, orderOf, varsOf, atomsIn, listsOf, orderOk, namedOk, listedAt, listOk, Listed, named, soundAt, joinNumber}
 use Rattle.leapfrog_triejoin.specs.Plan.{reached}
 use Rattle.leapfrog_triejoin.specs.declared.Atom.{Atom}
 use Rattle.leapfrog_triejoin.specs.declared.Query.{Query}
@@ -49,6 +50,14 @@ module _ (l : List ℕ) (n : ℕ) (fits : n ≤ length l) where
   pub headed-past : (v j : ℕ) → n ≤ j → headed v (drop j (take n l)) ≡ false
   unfolding headed
   headed-past v j h = ap (headed v) (drop-of-length-le (take n l) (let g : length (take n l) ≤ j = omega (arith, long) in g))
+
+pub headed-inside : (v j : ℕ) (xs : List ℕ) → headed v (drop j xs) ≡ true → j < length xs
+unfolding headed
+headed-inside v j xs e = go (decLt j (length xs))
+  where
+    go : Dec (j < length xs) → j < length xs
+    go (yes h) = h
+    go (no h) = absurd (false≢true (sym (ap (headed v) (drop-of-length-le xs (let g : length xs ≤ j = omega arith in g))) ∙ e))
 
 -- ---- how far an order reaches into a list
 

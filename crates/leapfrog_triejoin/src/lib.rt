@@ -1,5 +1,6 @@
 // The leapfrog triejoin of tables in the pool.
 mod checks;
+mod plan;
 
 use column_trie::ColumnTrie;
 
@@ -17,7 +18,7 @@ pub struct Query {
 }
 
 impl Query {
-    pub const MAX_ATOMS: usize = 8;
+    pub const MAX_ATOMS: usize = leapfrog_join::MAX_ATOMS;
 }
 
 pub struct Tables {
