@@ -1,3 +1,4 @@
 pub mod Lists
 pub mod Whole
 pub mod Plans
+pub mod Openings

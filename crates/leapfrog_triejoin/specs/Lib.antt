@@ -1,2 +1,3 @@
 pub mod Query
 pub mod Plan
+pub mod Descent

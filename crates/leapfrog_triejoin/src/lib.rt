@@ -1,5 +1,6 @@
 // The leapfrog triejoin of tables in the pool.
 mod checks;
+mod descent;
 mod plan;
 
 use column_trie::ColumnTrie;
