@@ -2,32 +2,30 @@
 -- words, and a table without rows leaves no key in common.
 use Prim.Native.Nat.{ℕ, zero, suc, _+_, _-_, _≤_, _<_}
 use native.Mathlib.Omega.{arith}
-use native.Mathlib.Nat.{add-zero}
 use native.Mathlib.Decide.{decLt}
 use mathlib.Core.Path.{_≡_, refl, sym, subst, ap, ap₂, _∙_}
-use mathlib.Core.Bool.{Bool, true, false, false≢true}
+use mathlib.Core.Bool.{true, false≢true}
 use mathlib.Core.List.{List, [], _∷_, map, Memᴰ·map}
-use lib.ListN.{length, getD, take, drop, length-map, List·getD-eq-default}
+use lib.ListN.{length, getD, take, drop, List·getD-eq-default}
 use lib.Seq.{length-take-le, getD-take, ext-getD}
 use Rattle.relation.specs.Order.{Row}
 use Rattle.relation.specs.Lists.{_∈_, hd, tl, Ascends, anone, amore}
 use Rattle.relation.specs.Rows.{asSet}
 use Rattle.relation.specs.Layers.{prefixes, keysUnder, layerAt}
 use Rattle.query.specs.Meaning as meaning
-use Rattle.query.specs.Meet.{meet}
-use Rattle.query.specs.Descend.{standings, prefixAt, nobody, holders, Joinable}
-use Rattle.query.proofs.Meet.{getD-in, in-getD}
+use Rattle.query.specs.Descend.{standings, nobody, holders, Joinable}
+use Rattle.query.proofs.Meet.{getD-in}
 use Rattle.query.proofs.Leap.{meet-nil}
 use Rattle.query.proofs.Holders.{holders-some}
 use Rattle.query.proofs.Under.{keys-none}
 use Rattle.column_trie.specs.Pool.{spot}
-use Rattle.column_trie.specs.Table.{dataLen, intervalLen, rowsIn, Undamaged}
+use Rattle.column_trie.specs.Table.{intervalLen, rowsIn, Undamaged}
 use Rattle.leapfrog_join.specs.Ring.{maxAtoms}
 use Rattle.leapfrog_join.specs.Leapfrog.{part, runOf, runsIn, OnKey, Ready}
 use Rattle.leapfrog_join.proofs.Laws.{order-apart}
-use Rattle.leapfrog_triejoin.specs.Query.{atomAt, orderOf, atomsOf}
+use Rattle.leapfrog_triejoin.specs.Query.{orderOf, atomsOf}
 use Rattle.leapfrog_triejoin.specs.Plan.{openingAt, aboveOf, takers, Opening}
-use Rattle.leapfrog_triejoin.specs.Descent.{countAt, whoAt, keysAt, intervalAt, groupLow, groupHigh, Readable, Openable, Opens, Refuses, tableOf, Placed, Based, Stands, takesPart, Within, Opened, commonAt}
+use Rattle.leapfrog_triejoin.specs.Descent.{countAt, whoAt, keysAt, intervalAt, groupLow, groupHigh, Readable, Openable, Opens, Refuses, tableOf, Placed, Stands, takesPart, Within, Opened, commonAt}
 use Rattle.leapfrog_triejoin.specs.declared.Query.{Query}
 use Rattle.leapfrog_triejoin.specs.declared.Tables.{Tables}
 use Rattle.leapfrog_triejoin.proofs.Plans.{takers-few}
@@ -162,6 +160,13 @@ module _ {pool : List ℕ} {ts : Tables} {q : Query} {plan : List ℕ} {n d : �
     abbrev k : ℕ
     k = countAt plan d
 
+    -- a ring in atom order has them
+    pub ring-takers : (r : List ℕ) → length r ≡ maxAtoms → ((j : ℕ) → j < k → getD r j 0 ≡ whoAt plan d j) → take k r ≡ takers q d
+    ring-takers r l e =
+        let c = count-is (s .based) below in
+        let m : length (take k r) ≡ k = length-take-le k r (omega (arith, l, openable .few)) in
+        ext-getD 0 (take k r) (takers q d) (m ∙ c) (λ j h. let g : j < k = omega arith in getD-take k r j 0 g ∙ e j g ∙ who-is (s .based) below j g)
+
     -- what is opened of one
     within-at : (j : ℕ) → j < k → Within pool (tableOf ts q (whoAt plan d j)) (getD at′ (whoAt plan d j) 0) (getD end (whoAt plan d j) 0) (f (whoAt plan d j))
     within-at j h =
@@ -174,10 +179,11 @@ module _ {pool : List ℕ} {ts : Tables} {q : Query} {plan : List ℕ} {n d : �
           high = p .high j h ∙ high-is j h some;
         }
 
-    pub opened : Opened pool ts q plan n d at′ end f
+    pub opened : Opened pool ts q plan n d at′ end fresh f
     opened = record {
       based = s .based;
       below = below;
+      ring = ring-takers fresh (p .arrays .fresh-size) (p .fresh-is);
       taking = λ i h e.
           let t = taker-place (s .based) below (record { atom = h; takes = e }) in
           subst (λ (i : ℕ). Within pool (tableOf ts q i) (getD at′ i 0) (getD end i 0) (f i)) (t .2) (within-at (t .0) (t .1));
@@ -186,13 +192,6 @@ module _ {pool : List ℕ} {ts : Tables} {q : Query} {plan : List ℕ} {n d : �
           (sym (p .others i (λ j l w. false≢true (sym e ∙ subst (λ (i : ℕ). takesPart q d f i ≡ true) w (takes j l .takes)))))
           (s .placed i h);
     }
-
-    -- a ring in atom order has them
-    ring-takers : (r : List ℕ) → length r ≡ maxAtoms → ((j : ℕ) → j < k → getD r j 0 ≡ whoAt plan d j) → take k r ≡ takers q d
-    ring-takers r l e =
-        let c = count-is (s .based) below in
-        let m : length (take k r) ≡ k = length-take-le k r (omega (arith, l, openable .few)) in
-        ext-getD 0 (take k r) (takers q d) (m ∙ c) (λ j h. let g : j < k = omega arith in getD-take k r j 0 g ∙ e j g ∙ who-is (s .based) below j g)
 
     on-key : (j : ℕ) → j < k → OnKey pool at′ end (whoAt plan d j)
     on-key j h =
@@ -213,8 +212,12 @@ module _ {pool : List ℕ} {ts : Tables} {q : Query} {plan : List ℕ} {n d : �
 
       pub ring-ready : Ready pool at′ end r k
       ring-ready = record {
-        some = omega (arith, count-is (s .based) below, ap length (takers-are (s .based) below),
-            holders-some (getD (orderOf q) d 0) (drop (suc d) (orderOf q)) (standings f (atomsOf pool ts q)) (subst (λ (vs : List ℕ). Joinable vs (standings f (atomsOf pool ts q))) (order-next (s .based) below) (s .based .joinable)));
+        some = omega (
+          arith,
+          count-is (s .based) below,
+          ap length (takers-are (s .based) below),
+          holders-some (getD (orderOf q) d 0) (drop (suc d) (orderOf q)) (standings f (atomsOf pool ts q)) (subst (λ (vs : List ℕ). Joinable vs (standings f (atomsOf pool ts q))) (order-next (s .based) below) (s .based .joinable)),
+        );
         few = openable .few;
         size = l;
         places = p .arrays .places;

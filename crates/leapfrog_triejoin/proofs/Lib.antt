@@ -5,3 +5,6 @@ pub mod Openings
 pub mod Groups
 pub mod Standing
 pub mod Depths
+pub mod Stepping
+pub mod Beginnings
+pub mod Walking

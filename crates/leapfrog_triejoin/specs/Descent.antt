@@ -18,12 +18,12 @@ use Rattle.column_trie.specs.Limits.{maxArity}
 use Rattle.column_trie.specs.Pool.{spot}
 use Rattle.column_trie.specs.Table.{rowsIn}
 use Rattle.column_trie.specs.declared.ColumnTrie.{ColumnTrie}
-use Rattle.leapfrog_join.specs.Ring.{maxAtoms, keyOf}
+use Rattle.leapfrog_join.specs.Ring.{maxAtoms}
 use Rattle.leapfrog_join.specs.Leapfrog.{runsIn, Agreed, Moved, leftOf}
 use Rattle.leapfrog_join.specs.declared.Hit.{Hit}
 use Rattle.leapfrog_join.specs.declared.Hit.the-variants.{Key, Nothing}
 use Rattle.leapfrog_triejoin.specs.Query.{atomAt, tableAt, orderOf, varsOf, atomsOf, joinNumber}
-use Rattle.leapfrog_triejoin.specs.Plan.{depthAt, openingAt, aboveOf, layerAt, Planned}
+use Rattle.leapfrog_triejoin.specs.Plan.{depthAt, openingAt, aboveOf, layerAt, takers, Planned}
 use Rattle.leapfrog_triejoin.specs.declared.Query.{Query}
 use Rattle.leapfrog_triejoin.specs.declared.Tables.{Tables}
 
@@ -160,10 +160,11 @@ pub record Within (pool : List ℕ) (t : ColumnTrie) (at end : ℕ) (p : Row) : 
   pub low : spot (t .start) (t .capacity) (length p) + getD (layers.layerAt (length p) (rowsIn pool t) .intervals) interval 0 ≤ at
   pub high : end ≡ spot (t .start) (t .capacity) (length p) + getD (layers.layerAt (length p) (rowsIn pool t) .intervals) (suc interval) (length (layers.layerAt (length p) (rowsIn pool t) .keys))
 
--- the atoms that take part are opened, the others stand where they stood
-pub record Opened (pool : List ℕ) (ts : Tables) (q : Query) (plan : List ℕ) (n d : ℕ) (at end : List ℕ) (f : ℕ → Row) : Type 0 where
+-- the atoms that take part, which `fresh` has in atom order, are opened; the others stand where they stood
+pub record Opened (pool : List ℕ) (ts : Tables) (q : Query) (plan : List ℕ) (n d : ℕ) (at end fresh : List ℕ) (f : ℕ → Row) : Type 0 where
   pub based : Based pool ts q plan n d f
   pub below : d < n
+  pub ring : take (countAt plan d) fresh ≡ takers q d
   pub taking : (i : ℕ) → i < q .«atom_count» → takesPart q d f i ≡ true → Within pool (tableOf ts q i) (getD at i 0) (getD end i 0) (f i)
   pub staying : (i : ℕ) → i < q .«atom_count» → takesPart q d f i ≡ false → Placed pool (tableOf ts q i) (getD at i 0) (f i)
 
@@ -192,7 +193,7 @@ commonAt pool ts q d f = meet (map (λ (i : ℕ). keysUnder (f i) (getD (atomsOf
 -- what the opening of a depth leaves, of one query: the common keys are left, and where there is one, the atoms are opened
 pub record Begins (pool : List ℕ) (ts : Tables) (q : Query) (plan : List ℕ) (n d : ℕ) (at end fresh : List ℕ) (f : ℕ → Row) (hit : Hit) : Type 0 where
   pub keys : leftOf (runsIn pool at end fresh (countAt plan d)) hit ≡ commonAt pool ts q d f
-  pub opened : IfFound hit (Opened pool ts q plan n d at end f)
+  pub opened : IfFound hit (Opened pool ts q plan n d at end fresh f)
 
 pub record Begun (pool plan : List ℕ) (n d : ℕ) (at₀ at end ring fresh : List ℕ) (hit : Hit) : Type 0 where
   pub agreed : AgreedAt pool at end fresh (countAt plan d) hit
