@@ -8,3 +8,4 @@ pub mod Depths
 pub mod Stepping
 pub mod Beginnings
 pub mod Walking
+pub mod Joining
