@@ -3,3 +3,5 @@ mod Grows
 mod Places
 mod Walks
 mod Rows
+pub mod Inserts
+pub mod Laws

@@ -2,36 +2,40 @@
 use Prim.Native.Nat.{ℕ, zero, suc, _+_, _*_, _-_, _≤_, _<_, _^_}
 use mathlib.Core.Path.{_≡_, refl, sym, ap, ap₂, subst, _∙_}
 use mathlib.Core.Bool.{Bool, true, false}
-use mathlib.Core.Logic.{⊎-elim}
+use mathlib.Core.Logic.{_⊎_, inl, inr}
 use mathlib.Core.List.{List, [], _∷_, _++_, map}
 use native.Mathlib.Omega.{arith}
-use native.Mathlib.Decide.{decLt}
+use native.Mathlib.Decide.{decLt, ℕ-discrete}
 use native.Mathlib.Numerals.{add-one}
 use lib.ListN.{length, take, drop, getD, set, length-set}
 use lib.Seq.{ext-getD, getD-set-same, getD-set-other, take-all}
-use lib.Dec.{ltb}
-use borrow.Author.Tests.{lt-ltb, le-ltb}
-use Rattle.relation.specs.Order.{Row, pick}
-use Rattle.relation.specs.Lists.{_∈_}
+use lib.Dec.{ltb, eqb}
+use borrow.Author.Tests.{lt-ltb, le-ltb, eqb-true, eqb-false}
+use Rattle.relation.specs.Order.{Row, pick, before}
+use Rattle.relation.specs.Lists.{_∈_, not-in-nil}
 use Rattle.relation.specs.Rows.{Asc, Width, put}
 use Rattle.relation.specs.Layers.{Layer, layer, noLayer, layersOf, prefixes}
 use Rattle.relation.proofs.Tests.{not-both}
 use Rattle.relation.proofs.Sorting.{put-asc}
 use Rattle.relation.proofs.Rank.{rank-at, rank-le}
-use Rattle.relation.proofs.Layers.{keysAt, intervalsAt, rankedAt, length-keys, length-intervals, prefixes-asc}
+use Rattle.relation.proofs.Layers.{keysAt, intervalsAt, rankedAt, length-keys, length-intervals, prefixes-asc, prefixes-grown, grown-put}
 use Rattle.relation.proofs.Paths.{rankedFrom, layer-from, length-layers, length-prefixes}
+use Rattle.relation.proofs.Children.{begin-is}
 use Rattle.relation.proofs.Insert.{Stored, number, stored-below, stored-whole, no-root, insert-known, insert-key, insert-first, insert-new, insert-count, below, put-width}
 use Rattle.relation.proofs.Tables.{ranked}
 use Rattle.column_trie.specs.Limits.{maxArity, maxCapacity}
 use Rattle.column_trie.specs.Pool.{store, spot}
-use Rattle.column_trie.specs.Table.{dataLen, intervalLen, header, tableOf, layerIn, layersIn, headerSound}
+use Rattle.column_trie.specs.Table.{dataLen, intervalLen, header, tableOf, layerIn, rowsIn, headerSound}
 use Rattle.column_trie.specs.declared.ColumnTrie.{ColumnTrie}
 use Rattle.column_trie.proofs.Pool.{Room, store-length, store-replace}
 use Rattle.column_trie.proofs.Header.{InPool, told-header, LayerFits, layer-fits}
 use Rattle.column_trie.proofs.Layers.{Whole, layers-at}
-use Rattle.column_trie.proofs.Stored.{header-whole, header-keys, header-intervals, header-past, stored-layers, padded-set}
-use Rattle.column_trie.proofs.Tables.{Holds}
-use Rattle.column_trie_insert.specs.Grow.{branched, sprouted, grown, relaid, resized, Added, Roomy}
+use Rattle.column_trie.proofs.Stored.{header-whole, header-keys, header-intervals, header-past, stored-layers, padded-set, in-pool}
+use Rattle.column_trie.proofs.Damage.{undamaged-told}
+use Rattle.column_trie.proofs.Tables.{Holds, holds}
+use Rattle.column_trie.proofs.Words.{part-at}
+use Rattle.column_trie_insert.specs.Grow.{branched, sprouted, grown, relaid, resized, Added, Roomy, PathOf, Addable}
+use Rattle.column_trie_insert.specs.declared.Path.{Path}
 
 -- layers by their depth
 tabulated : (ℕ → Layer) → ℕ → ℕ → List Layer
@@ -105,6 +109,17 @@ module _ (a : ℕ) (rows : List Row) (r : Row) where
     pub mixed-last : mixed a ≡ layersOf a (put r rows)
     mixed-last = same (mixed a) (put r rows) (mixed-long a) (λ k h. mixed-new a k h h) ∙ ranked (put-width r w lr)
 
+-- a list of rows does not get shorter by a row
+put-longer : (r : Row) (qs : List Row) → length qs ≤ length (put r qs)
+unfolding put
+put-longer r [] = omega arith
+put-longer r (q ∷ qs) = go (before r q) (before q r) (put-longer r qs)
+  where
+    go : (b c : Bool) → length qs ≤ length (put r qs) → suc (length qs) ≤ length (pick b (r ∷ (q ∷ qs)) (pick c (q ∷ put r qs) (q ∷ qs)))
+    go true c h = omega arith
+    go false true h = omega arith
+    go false false h = omega arith
+
 -- ---- the loop that adds a row
 
 -- an undamaged table with room, and a row that it lacks
@@ -127,6 +142,10 @@ pub record Growing (pool₀ : List ℕ) (t : ColumnTrie) (rows : List Row) (r : 
 module _ {pool₀ : List ℕ} {t : ColumnTrie} {rows : List Row} {r : Row} (y : Ready pool₀ t rows r) where
   put-rows : length (put r rows) ≤ t .capacity
   put-rows = omega (arith, insert-count (t .arity) rows r (y .held .width) (y .long) (y .absent), y .room)
+
+  prefixes-grow : (d : ℕ) → length (prefixes d rows) ≤ length (prefixes d (put r rows))
+  prefixes-grow d =
+      omega (arith, ap length (prefixes-grown (t .arity) rows r (put r rows) (y .held .width) (y .long) (grown-put rows r) d), put-longer (take d r) (prefixes d rows))
 
   -- every layer on the way has room
   layer-room : (qs : List Row) → length qs ≤ t .capacity → (k : ℕ) → (length (keysAt k qs) ≤ t .capacity) × (length (intervalsAt k qs) ≤ t .capacity)
@@ -197,3 +216,187 @@ module _ {pool₀ : List ℕ} {t : ColumnTrie} {rows : List Row} {r : Row} (y : 
           ap₂ (λ (l : Layer) (n : ℕ). getD (l .intervals) i n) layer-old (lens .0)
           ∙ ap (λ (n : ℕ). getD (intervalsAt d rows) n (length (keysAt d rows))) (g .place)
           ∙ sym (below (t .arity) rows r (y .held .width) (y .long) d h (g .new f) .1)
+
+      -- the words of the intervals are small
+      small-words : (j : ℕ) → spot (out .start) (out .capacity) d + out .capacity ≤ j → j < spot (out .start) (out .capacity) d + out .capacity + intervalLen out d → getD pool j 0 < 2 ^ 32
+      small-words j p q =
+          let b = spot (out .start) (out .capacity) d + out .capacity in
+          let k = j - b in
+          let e : b + k ≡ j = omega arith in
+          let l : k < length (prefixes d rows) = omega (arith, lens .1, length-intervals d rows) in
+          let x : getD (layerIn pool out d .intervals) k 0 ≡ getD pool (b + k) 0 = part-at pool b (intervalLen out d) k (omega arith) in
+          let z : getD (layerIn pool out d .intervals) k 0 ≡ getD (intervalsAt d rows) k 0 = ap (λ (m : Layer). getD (m .intervals) k 0) layer-old in
+          omega (arith, ap (λ (n : ℕ). getD pool n 0) e, begin-is (t .arity) d rows (y .held .width) h k l, rank-le (getD (prefixes d rows) k []) (prefixes (suc d) rows), length-prefixes (suc d) rows, y .room, y .inside .small)
+
+      -- the layer takes one more
+      pub room-here : at ≡ number rows r (suc d) → Roomy pool out d i at fresh
+      room-here e =
+          record {
+            sound = out-sound;
+            depth = subst (λ (z : ColumnTrie). d < z .arity) (sym (g .header)) h;
+            key-room = omega (arith, lens .0, length-keys d rows, length-prefixes (suc d) rows, y .room, capacity-is);
+            place = omega (arith, lens .0, length-keys d rows, rank-le (take (suc d) r) (prefixes (suc d) rows));
+            old = λ f. omega (arith, lens .1, length-intervals d rows, g .place, rank-at (prefixes-asc d rows) (g .old f .1) .0);
+            new = λ f. (
+              omega (arith, lens .1, length-intervals d rows, g .place, rank-le (take d r) (prefixes d rows)),
+              omega (arith, lens .1, length-intervals d rows, length-prefixes d rows, y .room, capacity-is),
+            );
+            small = small-words;
+          }
+        where
+          capacity-is : out .capacity ≡ t .capacity
+          capacity-is = ap (λ (z : ColumnTrie). z .capacity) (g .header)
+
+      -- and is then the layer with the row
+      grown-is : at ≡ number rows r (suc d) → grown fresh i at (getD r d 0) (layerIn pool out d) ≡ rankedAt d (put r rows)
+      grown-is e = ap (grown fresh i at (getD r d 0)) layer-old ∙ go fresh refl
+        where
+          go : (b : Bool) → fresh ≡ b → grown fresh i at (getD r d 0) (rankedAt d rows) ≡ rankedAt d (put r rows)
+          go true f =
+              ap (λ (b : Bool). grown b i at (getD r d 0) (rankedAt d rows)) f
+              ∙ ap₂ (λ (m n : ℕ). sprouted m n (getD r d 0) (rankedAt d rows)) (g .place) e
+              ∙ ap₂ {C = Layer} (λ x z. record { keys = x; intervals = z })
+              (sym (insert-key (t .arity) rows r (y .held .width) (y .long) d h (below (t .arity) rows r (y .held .width) (y .long) d h (g .new f) .0)))
+              (sym (insert-new (t .arity) rows r (y .held .width) (y .long) d h (g .new f)))
+          go false f =
+              ap (λ (b : Bool). grown b i at (getD r d 0) (rankedAt d rows)) f
+              ∙ ap₂ (λ (m n : ℕ). branched m n (getD r d 0) (rankedAt d rows)) (g .place) e
+              ∙ ap₂ {C = Layer} (λ x z. record { keys = x; intervals = z })
+              (sym (insert-key (t .arity) rows r (y .held .width) (y .long) d h (g .old f .2)))
+              (sym (insert-first (t .arity) rows r (y .held .width) (y .long) d h (g .old f .1) (g .old f .2)))
+
+      pub growing-step :
+          {pool′ : List ℕ} {out′ : ColumnTrie} → at ≡ number rows r (suc d) → Added pool pool′ out d (grown fresh i at (getD r d 0) (layerIn pool out d)) out′ →
+          Growing pool₀ t rows r pool′ out′ (d + 1) at at true
+      growing-step {pool′} {out′} e s =
+          record {
+            inside = omega arith;
+            words = s .words ∙ ap (relaid pool out d) (grown-is e) ∙ ap₂ (λ (p : List ℕ) (z : ColumnTrie). relaid p z d (rankedAt d (put r rows))) (g .words) (g .header) ∙ replaced ∙ ap (λ (ls : List Layer). store (t .start) (t .capacity) ls pool₀) (mixed-step (t .arity) rows r d h);
+            header = s .header ∙ ap (resized out d) (grown-is e) ∙ ap (λ (z : ColumnTrie). resized z d (rankedAt d (put r rows))) (g .header) ∙ counted ∙ ap (λ (ls : List Layer). header (t .start) (t .arity) (t .capacity) ls (t .«tuple_count»)) (mixed-step (t .arity) rows r d h);
+            place = e ∙ ap (number rows r) (sym (add-one d));
+            old = λ f. not-both true refl f;
+            new = λ f m. deeper fresh refl (subst (Stored rows r) (add-one d) m);
+          }
+        where
+          deeper : (b : Bool) → fresh ≡ b → Stored rows r (suc d) → ⊥
+          deeper true f = below (t .arity) rows r (y .held .width) (y .long) d h (g .new f) .0
+          deeper false f = g .old f .2
+
+          -- no list gets shorter
+          longer : (length (keysAt d rows) ≤ length (keysAt d (put r rows))) × (length (intervalsAt d rows) ≤ length (intervalsAt d (put r rows)))
+          longer = (
+            omega (arith, length-keys d rows, length-keys d (put r rows), prefixes-grow (suc d)),
+            omega (arith, length-intervals d rows, length-intervals d (put r rows), prefixes-grow d),
+          )
+
+          replaced : relaid (store (t .start) (t .capacity) (mixed (t .arity) rows r d) pool₀) H d (rankedAt d (put r rows)) ≡ store (t .start) (t .capacity) (set (mixed (t .arity) rows r d) d (rankedAt d (put r rows))) pool₀
+          replaced =
+              let o = mixed-old (t .arity) rows r d d h (omega arith) in
+              let m = layer-room (put r rows) put-rows d in
+              store-replace (t .start) (t .capacity) (mixed (t .arity) rows r d) pool₀ d (rankedAt d (put r rows)) (omega (arith, mixed-long (t .arity) rows r d))
+              (omega (arith, ap (λ (l : Layer). length (l .keys)) o, longer .0)) (m .0) (omega (arith, ap (λ (l : Layer). length (l .intervals)) o, longer .1)) (m .1)
+
+          counted : resized H d (rankedAt d (put r rows)) ≡ header (t .start) (t .arity) (t .capacity) (set (mixed (t .arity) rows r d) d (rankedAt d (put r rows))) (t .«tuple_count»)
+          counted =
+              let b : d < length (mixed (t .arity) rows r d) = omega (arith, mixed-long (t .arity) rows r d) in
+              ap₂ {C = ColumnTrie}
+              (λ x z. record { start = t .start; arity = t .arity; capacity = t .capacity; «data_len» = x; «interval_len» = z; «tuple_count» = t .«tuple_count» })
+              (sym (padded-set (λ l. length (l .keys)) (mixed (t .arity) rows r d) d (rankedAt d (put r rows)) b))
+              (sym (padded-set (λ l. length (l .intervals)) (mixed (t .arity) rows r d) d (rankedAt d (put r rows)) b))
+
+    -- all layers have their key
+    pub grown-words : t .arity ≤ d → pool ≡ store (t .start) (t .capacity) (layersOf (t .arity) (put r rows)) pool₀
+    grown-words h =
+        let e : d ≡ t .arity = omega (arith, g .inside) in
+        g .words ∙ ap (λ (ls : List Layer). store (t .start) (t .capacity) ls pool₀) (ap (mixed (t .arity) rows r) e ∙ mixed-last (t .arity) rows r (y .held .width) (y .long))
+
+    pub grown-header :
+        t .arity ≤ d →
+        _≡_ {A = ColumnTrie} (record { start = out .start; arity = out .arity; capacity = out .capacity; «data_len» = out .«data_len»; «interval_len» = out .«interval_len»; «tuple_count» = t .«tuple_count» + 1 }) (tableOf (t .start) (t .arity) (t .capacity) (put r rows))
+    grown-header h =
+        let e : d ≡ t .arity = omega (arith, g .inside) in
+        let n : t .«tuple_count» + 1 ≡ length (put r rows) = omega (arith, y .held .counted, insert-count (t .arity) rows r (y .held .width) (y .long) (y .absent)) in
+        ap (λ (z : ColumnTrie). record { start = z .start; arity = z .arity; capacity = z .capacity; «data_len» = z .«data_len»; «interval_len» = z .«interval_len»; «tuple_count» = t .«tuple_count» + 1 }) (g .header)
+        ∙ ap₂ (λ (ls : List Layer) (m : ℕ). header (t .start) (t .arity) (t .capacity) ls m) (ap (mixed (t .arity) rows r) e ∙ mixed-last (t .arity) rows r (y .held .width) (y .long)) n
+
+  -- where it starts
+  starts : (d : ℕ) → ((k : ℕ) → k < d → Stored rows r (suc k)) → (pool₀ ≡ store (t .start) (t .capacity) (mixed (t .arity) rows r d) pool₀) × (t ≡ header (t .start) (t .arity) (t .capacity) (mixed (t .arity) rows r d) (t .«tuple_count»))
+  starts d s =
+      let e = mixed-first (t .arity) rows r (y .held .width) (y .long) d s in (
+        sym (ap (λ (ls : List Layer). store (t .start) (t .capacity) ls pool₀) e ∙ y .held .words),
+        y .held .table ∙ ap₂ (λ (ls : List Layer) (m : ℕ). header (t .start) (t .arity) (t .capacity) ls m) (sym e) (sym (y .held .counted)),
+      )
+
+  pub growing-start : {p : Path} → PathOf (t .arity) rows r p → p .depth < t .arity → Growing pool₀ t rows r pool₀ t (p .depth) (p .interval) (p .at) false
+  growing-start {p} q h =
+      let s = starts (p .depth) (λ k b. stored-below (t .arity) rows r (y .held .width) (y .long) (suc k) (p .depth) b (q .stored)) in
+      record { inside = omega arith; words = s .0; header = s .1; place = q .interval; old = λ f. (h, q .stored, q .leaves h, q .place h); new = λ f. not-both false f refl }
+
+  pub growing-empty : (at : ℕ) → rows ≡ [] → Growing pool₀ t rows r pool₀ t 0 0 at true
+  growing-empty at e =
+      let s = starts 0 (λ k b. absurd (omega arith)) in
+      record {
+        inside = omega arith;
+        words = s .0;
+        header = s .1;
+        place = omega (arith, rank-le (take 0 r) (prefixes 0 rows), length-prefixes 0 rows, ap length e);
+        old = λ f. not-both true refl f;
+        new = λ f m. no-root r 0 (subst (λ (qs : List Row). Stored qs r 0) e m);
+      }
+
+-- a place for the key, read or known
+pub placed :
+    {pool₀ : List ℕ} {t : ColumnTrie} {rows : List Row} {r : Row} {pool : List ℕ} {out : ColumnTrie} {d i at : ℕ} {fresh : Bool} → Ready pool₀ t rows r → Growing pool₀ t rows r pool out d i at fresh → d < t .arity → (at′ : ℕ) →
+    ((fresh ≡ true) × (at′ ≡ getD (layerIn pool out d .intervals) i (dataLen out d))) ⊎ ((fresh ≡ false) × (at′ ≡ at)) → Growing pool₀ t rows r pool out d i at′ fresh × (at′ ≡ number rows r (suc d))
+placed y g h at′ (inl w) = (
+  record { inside = g .inside; words = g .words; header = g .header; place = g .place; old = λ f. not-both _ (w .0) f; new = g .new },
+  w .1 ∙ begins-place y g h (w .0),
+)
+placed y g h at′ (inr w) = (
+  record { inside = g .inside; words = g .words; header = g .header; place = g .place; old = λ f. let o = g .old f in (o .0, o .1, o .2, w .1 ∙ o .3); new = g .new },
+  w .1 ∙ g .old (w .0) .3,
+)
+
+no-rows : (rows : List Row) → length rows ≡ 0 → rows ≡ []
+no-rows [] e = refl
+no-rows (q ∷ qs) e = absurd (omega arith)
+
+-- a path that leaves the stored rows leads to no row
+pub absent-row :
+    {pool : List ℕ} {t : ColumnTrie} {r : Row} {p : Path} → Holds pool t (rowsIn pool t) → length r ≡ t .arity → ((t .«tuple_count» ≡ 0 → ⊥) → PathOf (t .arity) (rowsIn pool t) r p × (p .depth < t .arity)) → r ∈ rowsIn pool t → ⊥
+absent-row {pool} {t} {r} {p} h l q m = go (ℕ-discrete (t .«tuple_count») 0)
+  where
+    go : Dec (t .«tuple_count» ≡ 0) → ⊥
+    go (yes e) = not-in-nil (subst (λ (qs : List Row). r ∈ qs) (no-rows (rowsIn pool t) (omega (arith, h .counted))) m)
+    go (no n) =
+        let z = q n in
+        z .0 .leaves (z .1) (stored-below (t .arity) (rowsIn pool t) r (h .width) l (suc (p .depth)) (t .arity) (z .1) (stored-whole (t .arity) (rowsIn pool t) r (h .width) l (h .asc) .0 m))
+
+-- what the function requires says all that
+module _ {pool : List ℕ} {t : ColumnTrie} {r : Row} {p : Path} (o : Whole t) (c : Addable pool t r p) where
+  held : Holds pool t (rowsIn pool t)
+  held = holds o (undamaged-told pool t (c .undamaged))
+
+  pub ready : Ready pool t (rowsIn pool t) r
+  ready =
+      record {
+        inside = in-pool (undamaged-told pool t (c .undamaged));
+        held = held;
+        long = c .long;
+        room = omega (arith, held .counted, c .room);
+        absent = absent-row held (c .long) (c .path);
+      }
+
+  pub growing-first : (fresh : Bool) → fresh ≡ eqb (t .«tuple_count») 0 → Growing pool t (rowsIn pool t) r pool t (p .depth) (p .interval) (p .at) fresh
+  growing-first fresh e = go (eqb (t .«tuple_count») 0) refl
+    where
+      go : (b : Bool) → eqb (t .«tuple_count») 0 ≡ b → Growing pool t (rowsIn pool t) r pool t (p .depth) (p .interval) (p .at) fresh
+      go true f =
+          let n = eqb-true (t .«tuple_count») 0 f in
+          let z = c .empty n in
+          subst (λ (b : Bool). Growing pool t (rowsIn pool t) r pool t (p .depth) (p .interval) (p .at) b) (sym (e ∙ f))
+          (subst (λ (x : ℕ). Growing pool t (rowsIn pool t) r pool t x (p .interval) (p .at) true) (sym (z .0))
+          (subst (λ (x : ℕ). Growing pool t (rowsIn pool t) r pool t 0 x (p .at) true) (sym (z .1)) (growing-empty ready (p .at) (no-rows (rowsIn pool t) (omega (arith, held .counted))))))
+      go false f =
+          let q = c .path (eqb-false (t .«tuple_count») 0 f) in
+          subst (λ (b : Bool). Growing pool t (rowsIn pool t) r pool t (p .depth) (p .interval) (p .at) b) (sym (e ∙ f)) (growing-start ready (q .0) (q .1))

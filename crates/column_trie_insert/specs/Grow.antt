@@ -5,10 +5,11 @@ use mathlib.Core.Bool.{Bool, true, false}
 use mathlib.Core.List.{List, _∷_, _++_, map}
 use lib.ListN.{length, take, drop, getD, set}
 use Rattle.relation.specs.Order.{Row, pick}
-use Rattle.relation.specs.Layers.{Layer}
+use Rattle.relation.specs.Rows.{put}
+use Rattle.relation.specs.Layers.{Layer, layersOf}
 use Rattle.relation.proofs.Insert.{Stored, number}
-use Rattle.column_trie.specs.Pool.{lay, spot}
-use Rattle.column_trie.specs.Table.{dataLen, intervalLen, layerIn, headerSound}
+use Rattle.column_trie.specs.Pool.{lay, store, spot}
+use Rattle.column_trie.specs.Table.{dataLen, intervalLen, layerIn, rowsIn, tableOf, headerSound, undamaged}
 use Rattle.column_trie.specs.declared.ColumnTrie.{ColumnTrie}
 use Rattle.column_trie_insert.specs.Shift.{SmallFrom}
 use Rattle.column_trie_insert.specs.declared.Place.{Place}
@@ -82,3 +83,16 @@ pub record PathOf (a : ℕ) (rows : List Row) (r : Row) (p : Path) : Type 0 wher
   pub interval : p .interval ≡ number rows r (p .depth)
   pub leaves : p .depth < a → Stored rows r (suc (p .depth)) → ⊥
   pub place : p .depth < a → p .at ≡ number rows r (suc (p .depth))
+
+-- the table has room for a tuple that it lacks, and the path leads to where it leaves the stored rows; in a table without rows, to the top
+pub record Addable (pool : List ℕ) (t : ColumnTrie) (tuple : Row) (p : Path) : Type 0 where
+  pub undamaged : undamaged pool t ≡ true
+  pub long : length tuple ≡ t .arity
+  pub room : t .«tuple_count» < t .capacity
+  pub empty : t .«tuple_count» ≡ 0 → (p .depth ≡ 0) × (p .interval ≡ 0)
+  pub path : (t .«tuple_count» ≡ 0 → ⊥) → PathOf (t .arity) (rowsIn pool t) tuple p × (p .depth < t .arity)
+
+-- the layers with the row, stored over the pool, and their header
+pub record RowAdded (pool pool′ : List ℕ) (t : ColumnTrie) (tuple : Row) (r : ColumnTrie) : Type 0 where
+  pub words : pool′ ≡ store (t .start) (t .capacity) (layersOf (t .arity) (put tuple (rowsIn pool t))) pool
+  pub header : r ≡ tableOf (t .start) (t .arity) (t .capacity) (put tuple (rowsIn pool t))

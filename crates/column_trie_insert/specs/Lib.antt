@@ -1,2 +1,3 @@
 pub mod Shift
 pub mod Grow
+pub mod Insert

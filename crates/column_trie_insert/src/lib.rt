@@ -1,15 +1,17 @@
 // Inserts a row into a table in the pool.
 ghost use mathlib.Core.Path.{_≡_};
-ghost use mathlib.Core.Bool.{true};
+ghost use mathlib.Core.Bool.{true, false};
 ghost use mathlib.Core.List.{_∷_, _++_, map};
 ghost use Prim.Native.Nat.{ℕ, suc, _+_, _≤_, _<_, _^_};
 ghost use lib.ListN.{length, take, drop, getD};
 ghost use Rattle.column_trie.specs.Pool.{lay};
 ghost use Rattle.column_trie.specs.Table.{dataLen, layerIn, rowsIn, headerSound, undamaged};
 ghost use Rattle.column_trie_insert.specs.Shift.{SmallFrom};
-ghost use Rattle.column_trie_insert.specs.Grow.{grown, Roomy, Added, Grouped, PlaceOf, PathOf};
+ghost use Rattle.column_trie_insert.specs.Grow.{grown, Roomy, Added, Grouped, PlaceOf, PathOf, Addable, RowAdded};
+ghost use Rattle.column_trie_insert.specs.Insert.{Inserts};
 use column_trie::ColumnTrie;
 use column_trie::layer_at;
+use column_trie::undamaged;
 use seek::SeekStrategy;
 use seek::partition_point;
 
@@ -157,5 +159,78 @@ fn find_path(pool: &[u64], t: ColumnTrie, tuple: &[u64]) -> Path
         depth: d,
         interval: i,
         at: i,
+    }
+}
+
+// Adds the tuple's keys, layer by layer from the first that isn't stored; below it each has a new parent, and so its own interval.
+fn add_row(pool: &mut [u64], t: ColumnTrie, tuple: &[u64], path: Path) -> ColumnTrie
+    requires { ⌜ Addable (now pool) t (now tuple) path ⌝ }
+    ensures { λ r. ⌜ RowAdded (now (pool .entry)) (now (pool .exit)) t (now (tuple .entry)) r ⌝ }
+{
+    let mut out = t;
+    let mut d = path.depth;
+    let mut i = path.interval;
+    let mut at = path.at;
+    let mut fresh = t.tuple_count == 0;
+    while d < t.arity {
+        if fresh {
+            at = begins(pool, out, d, i);
+        }
+        out = add_layer(pool, out, d, i, at, tuple[d], fresh);
+        i = at;
+        fresh = true;
+        d += 1;
+    }
+    out.tuple_count = t.tuple_count + 1;
+    out
+}
+
+// The refusal's number, 0 for none; whether the tuple was not there; and the header.
+pub struct Inserted {
+    pub number: u64,
+    pub is_new: bool,
+    pub table: ColumnTrie,
+}
+
+// Nothing is changed, and nothing was new.
+fn unchanged(number: u64, table: ColumnTrie) -> Inserted
+    ensures { λ r. ⌜ (r .number ≡ number) × (r .«is_new» ≡ false) × (r .table ≡ table) ⌝ }
+{
+    Inserted {
+        number,
+        is_new: false,
+        table,
+    }
+}
+
+// Inserts the tuple. Refused: 6, a damaged table; 4, a tuple whose length isn't the arity; 5, a new tuple in a table at capacity.
+pub fn insert(pool: &mut [u64], table: ColumnTrie, tuple: &[u64]) -> Inserted
+    ensures { λ r. ⌜ Inserts (now (pool .entry)) (now (pool .exit)) table (now (tuple .entry)) r ⌝ }
+{
+    if !undamaged(pool, table) {
+        return unchanged(6, table);
+    }
+    if tuple.len() != table.arity {
+        return unchanged(4, table);
+    }
+    let mut path = Path {
+        depth: 0,
+        interval: 0,
+        at: 0,
+    };
+    if table.tuple_count != 0 {
+        path = find_path(pool, table, tuple);
+    }
+    if path.depth == table.arity {
+        return unchanged(0, table);
+    }
+    if table.tuple_count == table.capacity {
+        return unchanged(5, table);
+    }
+    let grown = add_row(pool, table, tuple, path);
+    Inserted {
+        number: 0,
+        is_new: true,
+        table: grown,
     }
 }

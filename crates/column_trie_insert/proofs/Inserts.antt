@@ -1,0 +1,156 @@
+-- The ways out of an insert, and what each leaves.
+use Prim.Native.Nat.{ℕ, suc, _≤_, _<_}
+use mathlib.Core.Path.{_≡_, refl, sym, ap, subst, _∙_}
+use mathlib.Core.Bool.{Bool, true, false, not, _&&_, _||_}
+use mathlib.Core.List.{List, [], _∷_}
+use native.Mathlib.Omega.{arith}
+use native.Mathlib.Decide.{ℕ-discrete}
+use lib.Arith.{lt-of-le-ne}
+use lib.ListN.{length, take}
+use lib.Dec.{eqb}
+use borrow.Author.Tests.{eq-eqb, ne-eqb}
+use Rattle.relation.specs.Order.{Row, pick}
+use Rattle.relation.specs.Lists.{_∈_, hd, tl}
+use Rattle.relation.specs.Rows.{same, put}
+use Rattle.relation.specs.Layers.{prefixes, layersOf}
+use Rattle.relation.proofs.Tests.{T-true, true-T}
+use Rattle.relation.proofs.Sorting.{same→eq, same-refl}
+use Rattle.relation.proofs.Insert.{stored-whole}
+use Rattle.column_trie.specs.Pool.{store}
+use Rattle.column_trie.specs.Table.{rowsIn, tableOf, undamaged}
+use Rattle.column_trie.specs.declared.ColumnTrie.{ColumnTrie}
+use Rattle.column_trie.proofs.Layers.{Whole}
+use Rattle.column_trie.proofs.Damage.{undamaged-told}
+use Rattle.column_trie.proofs.Tables.{Holds, holds}
+use Rattle.column_trie_insert.specs.declared.Inserted.{Inserted}
+use Rattle.column_trie_insert.specs.declared.Path.{Path}
+use Rattle.column_trie_insert.specs.Grow.{PathOf, Addable, RowAdded}
+use Rattle.column_trie_insert.specs.Insert.{known, insertNumber, takesIn, Inserts}
+use Rattle.column_trie_insert.proofs.Rows.{absent-row}
+
+-- the test decides membership
+pub in-known : {r : Row} {rows : List Row} → r ∈ rows → known rows r ≡ true
+unfolding known
+in-known {r} (hd {x = q} {xs = qs} e) = ap (λ (b : Bool). b || known qs r) (subst (λ (z : Row). same r z ≡ true) e (T-true (same r r) (same-refl r)))
+in-known {r} (tl {x = q} {xs = qs} m) = go (same r q) (in-known m)
+  where
+    go : (b : Bool) → known qs r ≡ true → (b || known qs r) ≡ true
+    go true e = refl
+    go false e = e
+
+pub known-in : (rows : List Row) (r : Row) → known rows r ≡ true → r ∈ rows
+unfolding known
+known-in [] r e = let z : _≡_ {A = ℕ} 0 1 = cc in absurd (omega arith)
+known-in (q ∷ qs) r e = go (known-in qs r) (same r q) refl e
+  where
+    go : (known qs r ≡ true → r ∈ qs) → (b : Bool) → same r q ≡ b → (b || known qs r) ≡ true → r ∈ (q ∷ qs)
+    go ih true f e = hd (same→eq r q (true-T (same r q) f))
+    go ih false f e = tl (ih e)
+
+pub not-known : {r : Row} {rows : List Row} → (r ∈ rows → ⊥) → known rows r ≡ false
+not-known {r} {rows} n = go (known rows r) refl
+  where
+    go : (b : Bool) → known rows r ≡ b → known rows r ≡ false
+    go true e = absurd (n (known-in rows r e))
+    go false e = e
+
+-- what an insert knows when it has looked for the tuple
+pub record Located (pool : List ℕ) (t : ColumnTrie) (tuple : Row) (p : Path) : Type 0 where
+  pub empty : t .«tuple_count» ≡ 0 → (p .depth ≡ 0) × (p .interval ≡ 0)
+  pub path : (t .«tuple_count» ≡ 0 → ⊥) → PathOf (t .arity) (rowsIn pool t) tuple p
+
+module _ (pool : List ℕ) (t : ColumnTrie) (tuple : Row) where
+  -- nothing changes
+  kept : (n : ℕ) → insertNumber pool t tuple ≡ n → takesIn pool t tuple ≡ false → (r : Inserted) → (r .number ≡ n) × (r .«is_new» ≡ false) × (r .table ≡ t) → Inserts pool pool t tuple r
+  kept n e f r h =
+      record {
+        number = h .0 ∙ sym e;
+        is-new = h .1 ∙ sym f;
+        table = h .2 ∙ sym (ap (λ (b : Bool). pick b (tableOf (t .start) (t .arity) (t .capacity) (put tuple (rowsIn pool t))) t) f);
+        words = sym (ap (λ (b : Bool). pick b (store (t .start) (t .capacity) (layersOf (t .arity) (put tuple (rowsIn pool t))) pool) pool) f);
+      }
+
+  -- a number that isn't 0 takes nothing in
+  shut : (n : ℕ) → insertNumber pool t tuple ≡ n → (n ≡ 0 → ⊥) → takesIn pool t tuple ≡ false
+  unfolding takesIn
+  shut n e h = ap (λ (b : Bool). b && not (known (rowsIn pool t) tuple)) (ne-eqb (insertNumber pool t tuple) 0 (λ z. h (sym e ∙ z)))
+
+  number-6 : undamaged pool t ≡ false → insertNumber pool t tuple ≡ 6
+  unfolding insertNumber
+  number-6 e = simp e
+
+  pub damaged : undamaged pool t ≡ false → (r : Inserted) → (r .number ≡ 6) × (r .«is_new» ≡ false) × (r .table ≡ t) → Inserts pool pool t tuple r
+  damaged e = let n = number-6 e in kept 6 n (shut 6 n (λ z. omega arith))
+
+  module _ (sound : undamaged pool t ≡ true) where
+    number-4 : (length tuple ≡ t .arity → ⊥) → insertNumber pool t tuple ≡ 4
+    unfolding insertNumber
+    number-4 n = simp (sound, ne-eqb (length tuple) (t .arity) n)
+
+    pub another-length : (length tuple ≡ t .arity → ⊥) → (r : Inserted) → (r .number ≡ 4) × (r .«is_new» ≡ false) × (r .table ≡ t) → Inserts pool pool t tuple r
+    another-length n = let e = number-4 n in kept 4 e (shut 4 e (λ z. omega arith))
+
+    module _ (long : length tuple ≡ t .arity) where
+      rest : insertNumber pool t tuple ≡ pick (not (known (rowsIn pool t) tuple) && eqb (t .«tuple_count») (t .capacity)) 5 0
+      unfolding insertNumber
+      rest = simp (sound, eq-eqb (length tuple) (t .arity) long)
+
+      stays : tuple ∈ rowsIn pool t → takesIn pool t tuple ≡ false
+      unfolding takesIn
+      stays m = go (eqb (insertNumber pool t tuple) 0) (known (rowsIn pool t) tuple) (in-known m)
+        where
+          go : (b k : Bool) → k ≡ true → (b && not k) ≡ false
+          go true k e = ap not e
+          go false k e = refl
+
+      pub there-already : tuple ∈ rowsIn pool t → (r : Inserted) → (r .number ≡ 0) × (r .«is_new» ≡ false) × (r .table ≡ t) → Inserts pool pool t tuple r
+      there-already m = kept 0 (rest ∙ ap (λ (b : Bool). pick (not b && eqb (t .«tuple_count») (t .capacity)) 5 0) (in-known m)) (stays m)
+
+      pub full : (tuple ∈ rowsIn pool t → ⊥) → t .«tuple_count» ≡ t .capacity → (r : Inserted) → (r .number ≡ 5) × (r .«is_new» ≡ false) × (r .table ≡ t) → Inserts pool pool t tuple r
+      full n e =
+          let q = rest ∙ ap (λ (b : Bool). pick (not b && eqb (t .«tuple_count») (t .capacity)) 5 0) (not-known n) ∙ ap (λ (b : Bool). pick b 5 0) (eq-eqb (t .«tuple_count») (t .capacity) e) in
+          kept 5 q (shut 5 q (λ z. omega arith))
+
+      module _ (n : tuple ∈ rowsIn pool t → ⊥) (e : t .«tuple_count» ≡ t .capacity → ⊥) where
+        number-0 : insertNumber pool t tuple ≡ 0
+        number-0 = rest ∙ ap (λ (b : Bool). pick (not b && eqb (t .«tuple_count») (t .capacity)) 5 0) (not-known n) ∙ ap (λ (b : Bool). pick b 5 0) (ne-eqb (t .«tuple_count») (t .capacity) e)
+
+        takes : takesIn pool t tuple ≡ true
+        unfolding takesIn
+        takes = ap (λ (b : Bool). b && not (known (rowsIn pool t) tuple)) (eq-eqb (insertNumber pool t tuple) 0 number-0) ∙ ap not (not-known n)
+
+        pub taken-in : (pool′ : List ℕ) (r : Inserted) → (r .number ≡ 0) × (r .«is_new» ≡ true) → RowAdded pool pool′ t tuple (r .table) → Inserts pool pool′ t tuple r
+        taken-in pool′ r h a =
+            record {
+              number = h .0 ∙ sym number-0;
+              is-new = h .1 ∙ sym takes;
+              table = a .header ∙ sym (ap (λ (b : Bool). pick b (tableOf (t .start) (t .arity) (t .capacity) (put tuple (rowsIn pool t))) t) takes);
+              words = a .words ∙ sym (ap (λ (b : Bool). pick b (store (t .start) (t .capacity) (layersOf (t .arity) (put tuple (rowsIn pool t))) pool) pool) takes);
+            }
+
+      -- what the path's depth tells
+      module _ (o : Whole t) (p : Path) (l : Located pool t tuple p) where
+        held : Holds pool t (rowsIn pool t)
+        held = holds o (undamaged-told pool t sound)
+
+        pub whole-path : p .depth ≡ t .arity → tuple ∈ rowsIn pool t
+        whole-path e = go (ℕ-discrete (t .«tuple_count») 0)
+          where
+            go : Dec (t .«tuple_count» ≡ 0) → tuple ∈ rowsIn pool t
+            go (yes z) = absurd (omega (arith, l .empty z .0, undamaged-told pool t sound .arity .0))
+            go (no z) =
+                let q = l .path z in
+                stored-whole (t .arity) (rowsIn pool t) tuple (held .width) long (held .asc) .1 (subst (λ (n : ℕ). take n tuple ∈ prefixes n (rowsIn pool t)) e (q .stored))
+
+        pub part-path : (p .depth ≡ t .arity → ⊥) → tuple ∈ rowsIn pool t → ⊥
+        part-path n = absent-row held long (λ z. (l .path z, lt-of-le-ne (l .path z .depth) n))
+
+        pub addable : (p .depth ≡ t .arity → ⊥) → (t .«tuple_count» ≡ t .capacity → ⊥) → Addable pool t tuple p
+        addable n e =
+            record {
+              undamaged = sound;
+              long = long;
+              room = lt-of-le-ne (omega (arith, held .counted, held .room)) e;
+              empty = l .empty;
+              path = λ z. (l .path z, lt-of-le-ne (l .path z .depth) n);
+            }

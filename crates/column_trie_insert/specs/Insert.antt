@@ -1,0 +1,41 @@
+-- What an insert leaves, for every pool, header and tuple.
+use Prim.Native.Nat.{ℕ}
+use mathlib.Core.Path.{_≡_}
+use mathlib.Core.Bool.{Bool, true, false, not, _&&_, _||_}
+use mathlib.Core.List.{List, [], _∷_}
+use lib.ListN.{length}
+use lib.Dec.{eqb}
+use Rattle.relation.specs.Order.{Row, pick}
+use Rattle.relation.specs.Rows.{same, put}
+use Rattle.relation.specs.Layers.{layersOf}
+use Rattle.column_trie.specs.Pool.{store}
+use Rattle.column_trie.specs.Table.{tableOf, rowsIn, undamaged}
+use Rattle.column_trie.specs.declared.ColumnTrie.{ColumnTrie}
+use Rattle.column_trie_insert.specs.declared.Inserted.{Inserted}
+
+-- r is one of the rows
+unfoldable pub known : List Row → Row → Bool
+unfolding same
+known [] r = false
+known (q ∷ qs) r = same r q || known qs r
+
+-- the refusals in document 01's sequence: 6 for a damaged table, 4 for a tuple whose length isn't the arity, 5 for a new tuple when the count is the
+-- capacity; else 0
+unfoldable pub insertNumber : List ℕ → ColumnTrie → Row → ℕ
+unfolding known
+insertNumber pool t tuple =
+    pick (undamaged pool t)
+    (pick (eqb (length tuple) (t .arity)) (pick (not (known (rowsIn pool t) tuple) && eqb (t .«tuple_count») (t .capacity)) 5 0) 4)
+    6
+
+-- the tuple is accepted and was not there
+unfoldable pub takesIn : List ℕ → ColumnTrie → Row → Bool
+unfolding insertNumber
+takesIn pool t tuple = eqb (insertNumber pool t tuple) 0 && not (known (rowsIn pool t) tuple)
+
+-- A new tuple: the layers of the rows with it, stored over the pool, and their header. Anything else, refused or there already, changes nothing
+pub record Inserts (pool pool′ : List ℕ) (t : ColumnTrie) (tuple : Row) (r : Inserted) : Type 0 where
+  pub number : r .number ≡ insertNumber pool t tuple
+  pub is-new : r .«is_new» ≡ takesIn pool t tuple
+  pub table : r .table ≡ pick (takesIn pool t tuple) (tableOf (t .start) (t .arity) (t .capacity) (put tuple (rowsIn pool t))) t
+  pub words : pool′ ≡ pick (takesIn pool t tuple) (store (t .start) (t .capacity) (layersOf (t .arity) (put tuple (rowsIn pool t))) pool) pool
