@@ -17,6 +17,10 @@ use Rattle.column_trie_build.specs.Build.{builtAnswer, poolLeft}
 use Rattle.column_trie_insert.specs.Insert.{insertNumber, takesIn}
 use Rattle.column_trie_iter.specs.Cursor.{cursor, keyOf, openOf, upOf, remaining}
 use Rattle.column_trie_iter.specs.declared.ColumnTrieIter.{ColumnTrieIter}
+use Rattle.leapfrog_triejoin.specs.Outcome.{outcome}
+use Rattle.leapfrog_triejoin.specs.declared.Atom.{Atom}
+use Rattle.leapfrog_triejoin.specs.declared.Query.{Query}
+use Rattle.leapfrog_triejoin.specs.declared.Tables.{Tables}
 
 pub data Asked : Type 0 where
   -- rows' words, pool, start, arity, capacity
@@ -28,6 +32,8 @@ pub data Asked : Type 0 where
   Up : List ℕ → ColumnTrie → ColumnTrieIter → Asked
   -- strategy, run, target
   Seek : SeekStrategy → List ℕ → ℕ → Asked
+  -- pool, tables, query, window
+  Join : List ℕ → Tables → Query → List ℕ → Asked
   Grade : ℤ → Asked
 
 pub data Comes : Type 0 where
@@ -40,6 +46,8 @@ pub data Comes : Type 0 where
   Key : ℕ → ColumnTrieIter → ℕ → Comes
   -- offset, probes
   Sought : ℕ → ℕ → Comes
+  -- number, rows written, window
+  Rows : ℕ → ℕ → List ℕ → Comes
   Word : ℕ → Comes
 
 abbrev pub comes : Asked → Comes
@@ -52,6 +60,7 @@ comes (Insert pool t tuple) =
 comes (Open pool t it) = Run (openOf pool t it .number) (openOf pool t it .iter) (remaining pool t (openOf pool t it .iter))
 comes (Up pool t it) = Key (upOf pool t it .number) (upOf pool t it .iter) (keyOf pool t (upOf pool t it .iter) .key)
 comes (Seek s run target) = Sought (seekOf s run target .offset) (seekOf s run target .probes)
+comes (Join pool ts q window) = Rows (outcome pool ts q window .number) (outcome pool ts q window .rows) (outcome pool ts q window .words)
 comes (Grade g) = Word (wordOf g)
 
 -- ---- the table
@@ -82,6 +91,48 @@ tens = 9 ∷ 10 ∷ 20 ∷ 9 ∷ 9 ∷ 0 ∷ 9 ∷ 9 ∷ 9 ∷ 1 ∷ 2 ∷ 3 ∷
 abbrev evens : List ℕ
 evens = 2 ∷ 4 ∷ 6 ∷ 8 ∷ 10 ∷ 12 ∷ 14 ∷ 16 ∷ []
 
+-- tables of arity 2 and capacity 3, one behind the other, and their words: data, intervals, data, intervals
+abbrev table : ℕ → ℕ → ℕ → ColumnTrie
+table start keys count =
+    record {
+      start = start;
+      arity = 2;
+      capacity = 3;
+      «data_len» = keys ∷ count ∷ 0 ∷ 0 ∷ 0 ∷ 0 ∷ 0 ∷ 0 ∷ [];
+      «interval_len» = 1 ∷ keys ∷ 0 ∷ 0 ∷ 0 ∷ 0 ∷ 0 ∷ 0 ∷ [];
+      «tuple_count» = count;
+    }
+
+-- R = (1,2),(1,3),(2,3); S = (2,3),(3,1); T = (1,1),(1,3),(2,1)
+abbrev triangle : List ℕ
+triangle =
+    1 ∷ 2 ∷ 0 ∷ 0 ∷ 0 ∷ 0 ∷ 2 ∷ 3 ∷ 3 ∷ 0 ∷ 2 ∷ 0 ∷
+    2 ∷ 3 ∷ 0 ∷ 0 ∷ 0 ∷ 0 ∷ 3 ∷ 1 ∷ 0 ∷ 0 ∷ 1 ∷ 0 ∷
+    1 ∷ 2 ∷ 0 ∷ 0 ∷ 0 ∷ 0 ∷ 1 ∷ 3 ∷ 1 ∷ 0 ∷ 2 ∷ 0 ∷
+    []
+
+abbrev three : Tables
+three = record { count = 3; tables = table 0 2 3 ∷ table 12 2 2 ∷ table 24 2 3 ∷ [] }
+
+abbrev atom : ℕ → ℕ → ℕ → Atom
+atom t x y = record { table = t; len = 2; variables = x ∷ y ∷ [] }
+
+abbrev query : ℕ → List ℕ → ℕ → List Atom → Query
+query n order count atoms = record { n = n; order = order; «atom_count» = count; atoms = atoms }
+
+abbrev triangleQuery : Query
+triangleQuery = query 3 (0 ∷ 1 ∷ 2 ∷ []) 3 (atom 0 0 1 ∷ atom 1 1 2 ∷ atom 2 0 2 ∷ [])
+
+-- (5,9),(7,2), and (1,2),(2,3)
+abbrev pairs : List ℕ
+pairs = 5 ∷ 7 ∷ 0 ∷ 0 ∷ 0 ∷ 0 ∷ 9 ∷ 2 ∷ 0 ∷ 0 ∷ 1 ∷ 0 ∷ []
+
+abbrev chained : List ℕ
+chained = 1 ∷ 2 ∷ 0 ∷ 0 ∷ 0 ∷ 0 ∷ 2 ∷ 3 ∷ 0 ∷ 0 ∷ 1 ∷ 0 ∷ []
+
+abbrev single : Tables
+single = record { count = 1; tables = table 0 2 2 ∷ [] }
+
 pub record Line : Type 0 where
   pub asked : Asked
   pub must : Comes
@@ -103,5 +154,9 @@ starred =
     line (Seek Binary evens 17) (Sought 8 3) ∷
     line (Seek Galloping evens 17) (Sought 8 6) ∷
     line (Seek Galloping evens 2) (Sought 0 1) ∷
+    line (Join triangle three triangleQuery (9 ∷ 9 ∷ 9 ∷ 9 ∷ 9 ∷ 9 ∷ 9 ∷ 9 ∷ 9 ∷ [])) (Rows 0 3 (1 ∷ 2 ∷ 3 ∷ 1 ∷ 3 ∷ 1 ∷ 2 ∷ 3 ∷ 1 ∷ [])) ∷
+    line (Join triangle three triangleQuery (9 ∷ 9 ∷ 9 ∷ 9 ∷ 9 ∷ 9 ∷ 9 ∷ [])) (Rows 12 2 (1 ∷ 2 ∷ 3 ∷ 1 ∷ 3 ∷ 1 ∷ 9 ∷ [])) ∷
+    line (Join pairs single (query 2 (1 ∷ 0 ∷ []) 1 (atom 0 1 0 ∷ [])) (0 ∷ 0 ∷ 0 ∷ 0 ∷ [])) (Rows 0 2 (9 ∷ 5 ∷ 2 ∷ 7 ∷ [])) ∷
+    line (Join chained single (query 3 (0 ∷ 1 ∷ 2 ∷ []) 2 (atom 0 0 1 ∷ atom 0 1 2 ∷ [])) (0 ∷ 0 ∷ 0 ∷ [])) (Rows 0 1 (1 ∷ 2 ∷ 3 ∷ [])) ∷
     line (Grade (negsuc 0)) (Word 18446744073709551615) ∷
     []

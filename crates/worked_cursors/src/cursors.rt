@@ -6,7 +6,6 @@ use column_trie::ColumnTrie;
 use column_trie_iter::ColumnTrieIter;
 use seek::SeekStrategy;
 use show::labelled;
-use show::strategy;
 use show::text;
 use show::verdict;
 
@@ -78,7 +77,7 @@ fn called(call: Call) {
         Call::Seek(strategy, target) => {
             labelled(b"seek ", target);
             text(b" ");
-            strategy(strategy);
+            show::strategy(strategy);
         }
     }
 }
