@@ -1,4 +1,9 @@
-// A table's header, and the check that a table in the pool is undamaged.
+// A table's header, where its layers lie in the pool, and the check for damage: the port of the struct and the layers of
+// kermit-ds/src/ds/column_trie/implementation.rs of the Rust.
+//
+// A header holds any words: `undamaged` says exactly when the words that it describes are the layers of a set of rows, and `header_sound` what a
+// cursor asks of a header. Nothing is asked of pool or header, and both are only read. What layers mean the crate relation says; proofs/Tables.antt
+// ties an undamaged table's words to its rows. The Rust's lists grow; here each has room for `capacity` words.
 ghost use mathlib.Core.Path.{_≡_};
 ghost use mathlib.Core.Bool.{true, _||_};
 ghost use Prim.Native.Nat.{_+_, _*_, _≤_, _<_, _^_};

@@ -1,4 +1,8 @@
-// Inserts a row into a table in the pool.
+// Inserts a row into a table in the pool: the port of `insert` of kermit-ds/src/ds/column_trie/implementation.rs of the Rust.
+//
+// The public call is `insert`. Its answer, the header and every word of the pool are those that specs/Insert.antt gives, for any pool, header and
+// tuple: nothing is asked of them. An accepted tuple leaves the layers that a build over the old rows and the new one leaves (proofs/Laws.antt). The
+// Rust's `Vec::insert` is a shift inside the layer's room.
 ghost use mathlib.Core.Path.{_≡_};
 ghost use mathlib.Core.Bool.{true, false};
 ghost use mathlib.Core.List.{_∷_, _++_, map};

@@ -1,4 +1,8 @@
-// Lists a table as text: the port of `Display` of kermit-ds/src/ds/column_trie/implementation.rs.
+// Lists a table as text: the port of `Display` of kermit-ds/src/ds/column_trie/implementation.rs of the Rust.
+//
+// The public call is `list`. Its answer and every byte of the buffer are those that specs/List.antt gives, for any pool, header and buffer: nothing
+// is asked of them. The text is one definition, specs/Text.antt. Its length is counted before the first byte is written, so that a refusal
+// leaves the buffer as it was.
 ghost use mathlib.Core.Path.{_≡_};
 ghost use mathlib.Core.Bool.{true};
 ghost use mathlib.Core.List.{_++_};

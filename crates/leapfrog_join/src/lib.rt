@@ -1,4 +1,5 @@
-// Internal: every function here asks something of its caller by a `requires`. The leapfrog join of sorted runs, Algorithms 1 to 4 of Veldhuizen 2014.
+// Internal: every function here asks something of its caller by a `requires`. The leapfrog join of sorted runs, Algorithms 1 to 4 of
+// Veldhuizen 2014: the port of kermit-algos/src/sorted/leapfrog_join.rs of the Rust.
 //
 // The runs lie in one pool. Atom a stands at pool[at[a]], and its run ends before end[a]. The ring's first k entries are the atoms that take part;
 // p is a place of the ring. From p round, the keys on which the atoms stand do not fall: the atom at p has the least, the one before it the greatest.
