@@ -1,87 +1,258 @@
-// A seek on the speed-band column of a wet-cobbles lesson, with its probes under the three strategies.
+// The main job: the friction rows of a lesson, joined from tables of surfaces, tyres, speed bands and friction.
 //
-// A key is packed: surface 7, wet cobbles, times 2^32, plus the band's upper speed in thousandths of km/h. Cut to 32 bits it would lose the
-// surface, which is how a wrong row was once chosen; here a key is a 64-bit word on every machine.
-use libc::STDOUT_FILENO;
+// A key is packed: a kind times 2^32, plus a code. Wet cobbles and icy cobbles have the same code, so their keys cut to 32 bits are one and the same, and
+// so are those of two tyres. That is how another row was once chosen; here a key is a 64-bit word on every machine. Beside each row stands the one that
+// cut keys would have chosen: the first that the same join lists over the same tables with every word cut.
+use column_trie::ColumnTrie;
+use column_trie_build::build;
+use leapfrog_triejoin::Atom;
+use leapfrog_triejoin::Query;
+use leapfrog_triejoin::Tables;
+use leapfrog_triejoin::join;
 use seek::SeekStrategy;
+use show::number;
+use show::text;
 
-// What a surface is multiplied by, 2^32.
-const SURFACE: u64 = 4294967296;
+// What a kind is multiplied by, 2^32: what is left of a word below it is what a cut leaves.
+const CUT: u64 = 4294967296;
 
-fn text(words: &[u8]) {
-    io::write_all(STDOUT_FILENO, words);
+// Cobbles have code 5: wet ones are kind 7, icy ones kind 9.
+const WET_COBBLES: u64 = 30064771077;
+
+const ICY_COBBLES: u64 = 38654705669;
+
+// Tyres have code 21: for all seasons kind 3, for summer kind 4.
+const ALL_SEASON: u64 = 12884901909;
+
+const SUMMER: u64 = 17179869205;
+
+// A row of the answer: surface, tyre, band, friction.
+const ROW: usize = 4;
+
+// ---- the tables, in one pool; over cut keys where `cut` says so
+
+fn key(packed: u64, cut: bool) -> u64 {
+    if cut { packed % CUT } else { packed }
 }
 
-fn number(n: u64) {
-    io::print_decimal(STDOUT_FILENO, n);
+// The lesson's surface.
+fn surfaces(cut: bool, pool: &mut [u64]) -> ColumnTrie {
+    let mut rows = [key(WET_COBBLES, cut)];
+    let built = build(&mut rows, pool, 0, 1, 8);
+    built.table
 }
 
-// The bands end at 5, 10, .. 80 km/h.
-fn bands() -> [u64; 16] {
-    [
-        30064776072,
-        30064781072,
-        30064786072,
-        30064791072,
-        30064796072,
-        30064801072,
-        30064806072,
-        30064811072,
-        30064816072,
-        30064821072,
-        30064826072,
-        30064831072,
-        30064836072,
-        30064841072,
-        30064846072,
-        30064851072,
-    ]
+// The lesson's tyre.
+fn tyres(cut: bool, pool: &mut [u64]) -> ColumnTrie {
+    let mut rows = [key(ALL_SEASON, cut)];
+    let built = build(&mut rows, pool, 16, 1, 8);
+    built.table
 }
 
-// A key as a person reads it.
-fn key(packed: u64) {
-    text(b"surface ");
-    number(packed / SURFACE);
-    text(b", ");
-    number(packed % SURFACE);
-    text(b" thousandths of km/h");
+// Up to which speed, in km/h, a band reaches on a surface.
+fn bands(cut: bool, pool: &mut [u64]) -> ColumnTrie {
+    let wet = key(WET_COBBLES, cut);
+    let icy = key(ICY_COBBLES, cut);
+    let mut rows = [wet, 20, wet, 40, wet, 60, icy, 20, icy, 40, icy, 60];
+    let built = build(&mut rows, pool, 32, 2, 8);
+    built.table
 }
 
-fn report(label: &[u8], strategy: SeekStrategy, column: &[u64], target: u64) {
-    let found = seek::partition_point(strategy, column, target);
-    let offset = found.offset;
-    text(label);
-    text(b"probes ");
-    number(found.probes as u64);
-    text(b", ");
-    if offset < column.len() {
-        text(b"at offset ");
-        number(offset as u64);
-        text(b": ");
-        key(column[offset]);
-    } else {
-        text(b"at the end: no band reaches that far");
+// Surface, tyre, band, friction in thousandths.
+fn frictions(cut: bool, pool: &mut [u64]) -> ColumnTrie {
+    let wet = key(WET_COBBLES, cut);
+    let icy = key(ICY_COBBLES, cut);
+    let all = key(ALL_SEASON, cut);
+    let sum = key(SUMMER, cut);
+    let mut rows = [
+        wet,
+        all,
+        20,
+        520,
+        wet,
+        all,
+        40,
+        470,
+        wet,
+        all,
+        60,
+        410,
+        wet,
+        sum,
+        20,
+        480,
+        wet,
+        sum,
+        40,
+        430,
+        wet,
+        sum,
+        60,
+        360,
+        icy,
+        all,
+        20,
+        190,
+        icy,
+        all,
+        40,
+        160,
+        icy,
+        all,
+        60,
+        130,
+    ];
+    let built = build(&mut rows, pool, 64, 4, 10);
+    built.table
+}
+
+fn tables(cut: bool, pool: &mut [u64]) -> Tables {
+    let mut tables = [ColumnTrie::empty(0, 0, 0); Tables::MAX_TABLES];
+    let surface = surfaces(cut, pool);
+    let tyre = tyres(cut, pool);
+    let band = bands(cut, pool);
+    let friction = frictions(cut, pool);
+    tables[0] = surface;
+    tables[1] = tyre;
+    tables[2] = band;
+    tables[3] = friction;
+    Tables { count: 4, tables }
+}
+
+// ---- the join
+
+fn atom(table: usize, len: usize, a: usize, b: usize) -> Atom {
+    let variables = [a, b, 2, 3, 0, 0, 0, 0];
+    Atom {
+        table,
+        len,
+        variables,
     }
-    text(b"\n");
 }
 
-fn look_up(column: &[u64], target: u64) {
-    text(b"\nFirst band not below ");
-    key(target);
-    text(b" (word ");
-    number(target);
-    text(b"):\n");
-    report(b"  linear     ", SeekStrategy::Linear, column, target);
-    report(b"  binary     ", SeekStrategy::Binary, column, target);
-    report(b"  galloping  ", SeekStrategy::Galloping, column, target);
+// Variables: surface 0, tyre 1, band 2, friction 3. Atoms: the lesson's surface and tyre, the surface's bands, and the friction of all three.
+fn lesson() -> Query {
+    let order = [0usize, 1, 2, 3, 4, 5, 6, 7];
+    let mut atoms = [atom(0, 0, 0, 0); Query::MAX_ATOMS];
+    atoms[0] = atom(0, 1, 0, 0);
+    atoms[1] = atom(1, 1, 1, 0);
+    atoms[2] = atom(2, 2, 0, 2);
+    atoms[3] = atom(3, 4, 0, 1);
+    Query {
+        n: ROW,
+        order,
+        atom_count: 4,
+        atoms,
+    }
+}
+
+// Joins the lesson's tables; the answer is how many rows stand in the window.
+fn joined(cut: bool, window: &mut [u64]) -> usize {
+    let mut pool = [0u64; 144];
+    let given = tables(cut, &mut pool);
+    let came = join(SeekStrategy::Galloping, &pool, given, lesson(), window);
+    came.rows
+}
+
+// ---- what is printed
+
+// The friction of the first row of the band, or 0 where there is none.
+fn first_of(window: &[u64], rows: usize, band: u64) -> u64 {
+    let mut at = 0;
+    let mut i = 0;
+    while i < rows {
+        if window.len() - at < ROW {
+            return 0;
+        }
+        if window[at + 2] == band {
+            return window[at + 3];
+        }
+        at += ROW;
+        i += 1;
+    }
+    0
+}
+
+fn surface_name(surface: u64) {
+    if surface == WET_COBBLES {
+        text(b"wet cobbles");
+    } else {
+        text(b"icy cobbles");
+    }
+}
+
+fn tyre_name(tyre: u64) {
+    if tyre == ALL_SEASON {
+        text(b"all-season");
+    } else {
+        text(b"summer    ");
+    }
+}
+
+// A row, and the friction that cut keys would have chosen.
+fn line(surface: u64, tyre: u64, band: u64, right: u64, chosen: u64) {
+    surface_name(surface);
+    text(b" | ");
+    tyre_name(tyre);
+    text(b" |         ");
+    number(band);
+    text(b" |    0.");
+    number(right);
+    text(b" | 0.");
+    number(chosen);
+    if chosen == right {
+        text(b"\n");
+    } else {
+        text(b", another surface's\n");
+    }
+}
+
+// The rows, and for each the first of the same band among those joined over cut keys.
+fn table(window: &[u64], rows: usize, over_cut: &[u64], rows_cut: usize) {
+    let mut at = 0;
+    let mut i = 0;
+    while i < rows {
+        if window.len() - at < ROW {
+            return;
+        }
+        let band = window[at + 2];
+        line(
+            window[at],
+            window[at + 1],
+            band,
+            window[at + 3],
+            first_of(over_cut, rows_cut, band),
+        );
+        at += ROW;
+        i += 1;
+    }
+}
+
+fn keys() {
+    text(b"A surface's key is a 64-bit word: wet cobbles ");
+    number(WET_COBBLES);
+    text(b", icy cobbles ");
+    number(ICY_COBBLES);
+    text(b".\nCut to 32 bits they are ");
+    number(WET_COBBLES % CUT);
+    text(b" and ");
+    number(ICY_COBBLES % CUT);
+    text(b".\n\n");
 }
 
 fn main() {
-    let column = bands();
-    text(b"Wet cobbles: a column of ");
-    number(column.len() as u64);
-    text(b" speed bands\n");
-    look_up(&column, 30064774072);
-    look_up(&column, 30064813572);
-    look_up(&column, 30064861072);
+    text(b"The friction of a lesson on wet cobbles with a tyre for all seasons, by speed band\n\n");
+    keys();
+    let mut window = [0u64; 64];
+    let rows = joined(false, &mut window);
+    let mut over_cut = [0u64; 64];
+    let rows_cut = joined(true, &mut over_cut);
+    text(b"surface     | tyre       | up to km/h | friction | with keys cut to 32 bits\n");
+    text(b"------------+------------+------------+----------+-------------------------\n");
+    table(&window, rows, &over_cut, rows_cut);
+    text(b"\nRows joined: ");
+    number(rows as u64);
+    text(b"; over cut keys: ");
+    number(rows_cut as u64);
+    text(b"\n");
 }
