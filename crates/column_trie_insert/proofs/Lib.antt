@@ -4,3 +4,4 @@ mod Places
 mod Walks
 mod Rows
 pub mod Inserts
+pub mod Laws

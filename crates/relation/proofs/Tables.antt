@@ -18,6 +18,11 @@ use Rattle.relation.proofs.Paths.{rankedFrom, Held, undamaged-held, und
 use Rattle.relation.proofs.Groups.{layer-groups}
 use Rattle.relation.proofs.Insert.{layers-cong}
 
+pub layers-count : (n d : ℕ) (rows : List Row) → length (layersFrom d n rows) ≡ n
+unfolding layersFrom
+layers-count zero d rows = refl
+layers-count (suc n) d rows = ap suc (layers-count n (suc d) rows)
+
 -- the two forms of a layer
 pub ranked-at : {a : ℕ} {rows : List Row} (d : ℕ) → Width a rows → d < a → rankedAt d rows ≡ layerAt d rows
 unfolding layerAt
