@@ -1,1 +1,3 @@
 mod Texts
+pub mod Lists
+pub mod Worked

@@ -1,15 +1,20 @@
 -- Digits by their last one, and bytes laid one piece behind another.
-use Prim.Native.Nat.{ℕ, zero, suc, _+_, _*_, _/_, _%_, _≤_, _<_, _^_}
-use mathlib.Core.Path.{_≡_, refl, sym, ap, _∙_}
+use Prim.Native.Nat.{ℕ, zero, suc, _+_, _-_, _*_, _/_, _%_, _≤_, _<_, _^_}
+use mathlib.Core.Path.{_≡_, refl, sym, ap, ap₂, subst, _∙_}
 use mathlib.Core.Bool.{Bool, true, false}
-use mathlib.Core.List.{List, [], _∷_, _++_, append-nil}
+use mathlib.Core.List.{List, [], _∷_, _++_, append-nil, append-assoc}
 use native.Mathlib.Omega.{arith}
-use lib.ListN.{length, set, length-append}
+use lib.ListN.{length, take, drop, getD, set, length-append, length-drop, take-append-drop}
+use lib.Seq.{take-suc, take-all, length-take-le}
 use lib.Dec.{ltb}
 use borrow.Author.Tests.{lt-ltb, le-ltb, ltb-true, ltb-false}
-use Rattle.column_trie.specs.Pool.{lay}
-use Rattle.column_trie.proofs.Pool.{lay-snoc}
-use Rattle.column_trie_listing.specs.Text.{decimalIn, decimal}
+use Rattle.relation.specs.Layers.{Layer, layer, noLayer}
+use Rattle.column_trie.specs.Pool.{lay, spot}
+use Rattle.column_trie.specs.Table.{dataLen, intervalLen, layerIn}
+use Rattle.column_trie.specs.declared.ColumnTrie.{ColumnTrie}
+use Rattle.column_trie.proofs.Pool.{lay-length}
+use Rattle.column_trie_listing.specs.List.{Written}
+use Rattle.column_trie_listing.specs.Text.{decimalIn, decimal, closing, comma, layerWord, dataWord, intervalWord, others, numbers, lists, layerText, textFrom, text}
 
 decimal-less : (fuel n : ℕ) → n < 10 → decimalIn (suc fuel) n ≡ (48 + n) ∷ []
 unfolding decimalIn
@@ -67,3 +72,132 @@ lay-one bytes at x = refl
 pub lay-none : (bytes : List ℕ) (at : ℕ) → bytes ≡ lay bytes at []
 unfolding lay
 lay-none bytes at = refl
+
+-- ---- lists of numbers
+
+pub others-append : (xs ys : List ℕ) → others (xs ++ ys) ≡ others xs ++ others ys
+unfolding others
+others-append [] ys = refl
+others-append (x ∷ xs) ys =
+    ap (λ (l : List ℕ). (comma ++ decimal x) ++ l) (others-append xs ys) ∙ sym (append-assoc (comma ++ decimal x) (others xs) (others ys))
+
+pub others-one : (x : ℕ) → others (x ∷ []) ≡ comma ++ decimal x
+unfolding others
+others-one x = append-nil (comma ++ decimal x)
+
+-- one number more
+pub others-more : (xs : List ℕ) (i : ℕ) → i < length xs → others (take (suc i) xs) ≡ others (take i xs) ++ (comma ++ decimal (getD xs i 0))
+others-more xs i h = ap others (take-suc xs i 0 h) ∙ others-append (take i xs) (getD xs i 0 ∷ []) ∙ ap (λ (l : List ℕ). others (take i xs) ++ l) (others-one (getD xs i 0))
+
+pub more-length : (xs : List ℕ) (i : ℕ) → i < length xs → length (others (take (suc i) xs)) ≡ length (others (take i xs)) + (2 + length (decimal (getD xs i 0)))
+more-length xs i h = ap length (others-more xs i h) ∙ length-append (others (take i xs)) (comma ++ decimal (getD xs i 0)) ∙ ap (λ (n : ℕ). length (others (take i xs)) + n) (length-append comma (decimal (getD xs i 0)))
+
+-- the first ones are not longer than all
+pub others-room : (xs : List ℕ) (i : ℕ) → length (others (take i xs)) ≤ length (others xs)
+others-room xs i = omega (arith, ap (λ (l : List ℕ). length (others l)) (take-append-drop i xs), ap length (others-append (take i xs) (drop i xs)), length-append (others (take i xs)) (others (drop i xs)))
+
+pub none-others : others [] ≡ []
+unfolding others
+none-others = refl
+
+pub numbers-none : (xs : List ℕ) → length xs ≡ 0 → numbers xs ≡ []
+unfolding numbers
+numbers-none [] e = refl
+numbers-none (x ∷ xs) e = absurd (omega arith)
+
+pub numbers-some : (xs : List ℕ) → (length xs ≡ 0 → ⊥) → numbers xs ≡ decimal (getD xs 0 0) ++ others (drop 1 xs)
+unfolding numbers
+numbers-some [] n = absurd (n refl)
+numbers-some (x ∷ xs) n = refl
+
+-- ---- pieces written one after another
+
+pub written-none : (bytes : List ℕ) (at : ℕ) → Written bytes bytes at [] at
+written-none bytes at = record { ends = omega arith; laid = lay-none bytes at }
+
+pub written-more : {b b₁ b₂ : List ℕ} {at e f : ℕ} {xs ys : List ℕ} → Written b b₁ at xs e → Written b₁ b₂ e ys f → Written b b₂ at (xs ++ ys) f
+written-more {b} {b₁} {b₂} {at} {e} {f} {xs} {ys} w v =
+    record {
+      ends = omega (arith, w .ends, v .ends, length-append xs ys);
+      laid = v .laid ∙ ap₂ (λ (l : List ℕ) (n : ℕ). lay l n ys) (w .laid) (w .ends) ∙ lay-append b at xs ys;
+    }
+
+pub written-as : {b b₁ : List ℕ} {at e : ℕ} {xs ys : List ℕ} → xs ≡ ys → Written b b₁ at xs e → Written b b₁ at ys e
+written-as {b} {b₁} {at} {e} p w = subst (λ (z : List ℕ). Written b b₁ at z e) p w
+
+pub written-long : {b b₁ : List ℕ} {at e : ℕ} {xs : List ℕ} → Written b b₁ at xs e → length b₁ ≡ length b
+written-long {b} {at = at} {xs = xs} w = ap length (w .laid) ∙ lay-length b at xs
+
+-- the slice behind the first word
+pub tail-is : (xs : List ℕ) → take (length xs - 1) (drop 1 xs) ≡ drop 1 xs
+tail-is xs = take-all (length xs - 1) (drop 1 xs) (omega (arith, length-drop 1 xs))
+
+pub list-none : (xs : List ℕ) → length xs ≡ 0 → numbers xs ++ closing ≡ closing
+list-none xs e = ap (λ (l : List ℕ). l ++ closing) (numbers-none xs e)
+
+pub list-some : (xs : List ℕ) → (length xs ≡ 0 → ⊥) → numbers xs ++ closing ≡ (decimal (getD xs 0 0) ++ others (take (length xs - 1) (drop 1 xs))) ++ closing
+list-some xs n = ap (λ (l : List ℕ). l ++ closing) (numbers-some xs n ∙ ap (λ (l : List ℕ). decimal (getD xs 0 0) ++ others l) (sym (tail-is xs)))
+
+pub some-length : (xs : List ℕ) → (length xs ≡ 0 → ⊥) → length (numbers xs ++ closing) ≡ length (decimal (getD xs 0 0)) + length (others (take (length xs - 1) (drop 1 xs))) + 2
+some-length xs n =
+    ap length (list-some xs n)
+    ∙ length-append (decimal (getD xs 0 0) ++ others (take (length xs - 1) (drop 1 xs))) closing
+    ∙ ap (λ (k : ℕ). k + 2) (length-append (decimal (getD xs 0 0)) (others (take (length xs - 1) (drop 1 xs))))
+
+pub tail-length : (xs : List ℕ) → length (take (length xs - 1) (drop 1 xs)) ≡ length xs - 1
+tail-length xs = ap length (tail-is xs) ∙ length-drop 1 xs
+
+-- ---- layers
+
+pub head-length : (d : ℕ) → length (layerWord ++ (decimal d ++ dataWord)) ≡ 14 + length (decimal d)
+head-length d = omega (arith, length-append layerWord (decimal d ++ dataWord), length-append (decimal d) dataWord)
+
+pub layer-is : (d : ℕ) (keys intervals : List ℕ) → layerText d (lists keys intervals) ≡ ((layerWord ++ (decimal d ++ dataWord)) ++ (numbers keys ++ closing)) ++ (intervalWord ++ (numbers intervals ++ closing))
+unfolding layerText
+layer-is d keys intervals = refl
+
+pub layer-length : (d : ℕ) (keys intervals : List ℕ) → length (layerText d (lists keys intervals)) ≡ 25 + length (decimal d) + length (numbers keys ++ closing) + length (numbers intervals ++ closing)
+layer-length d keys intervals =
+    omega (
+      arith,
+      ap length (layer-is d keys intervals),
+      length-append ((layerWord ++ (decimal d ++ dataWord)) ++ (numbers keys ++ closing)) (intervalWord ++ (numbers intervals ++ closing)),
+      length-append (layerWord ++ (decimal d ++ dataWord)) (numbers keys ++ closing),
+      length-append intervalWord (numbers intervals ++ closing),
+      head-length d,
+    )
+
+pub text-append : (e : ℕ) (xs ys : List Layer) → textFrom e (xs ++ ys) ≡ textFrom e xs ++ textFrom (e + length xs) ys
+unfolding textFrom
+text-append e [] ys = ap (λ (n : ℕ). textFrom n ys) (let p : e ≡ e + 0 = omega arith in p)
+text-append e (x ∷ xs) ys =
+    ap (λ (l : List ℕ). layerText e x ++ l) (text-append (suc e) xs ys)
+    ∙ sym (append-assoc (layerText e x) (textFrom (suc e) xs) (textFrom (suc e + length xs) ys))
+    ∙ ap (λ (n : ℕ). (layerText e x ++ textFrom (suc e) xs) ++ textFrom n ys) (let p : suc e + length xs ≡ e + suc (length xs) = omega arith in p)
+
+pub no-text : text [] ≡ []
+unfolding textFrom
+no-text = refl
+
+text-one : (d : ℕ) (l : Layer) → textFrom d (l ∷ []) ≡ layerText d l
+unfolding textFrom
+text-one d l = append-nil (layerText d l)
+
+-- one layer more
+pub text-more : (ls : List Layer) (d : ℕ) → d < length ls → text (take (suc d) ls) ≡ text (take d ls) ++ layerText d (layer ls d)
+text-more ls d h =
+    ap text (take-suc ls d noLayer h)
+    ∙ text-append 0 (take d ls) (layer ls d ∷ [])
+    ∙ ap (λ (n : ℕ). text (take d ls) ++ textFrom n (layer ls d ∷ [])) (let e : 0 + length (take d ls) ≡ d = omega (arith, length-take-le d ls (omega arith)) in e)
+    ∙ ap (λ (l : List ℕ). text (take d ls) ++ l) (text-one d (layer ls d))
+
+pub text-room : (ls : List Layer) (d : ℕ) → length (text (take d ls)) ≤ length (text ls)
+text-room ls d =
+    omega (arith, ap (λ (l : List Layer). length (text l)) (take-append-drop d ls), ap length (text-append 0 (take d ls) (drop d ls)), length-append (text (take d ls)) (textFrom (0 + length (take d ls)) (drop d ls)))
+
+-- the parts of the pool that are handed on are the layer's lists
+pub parts : (pool : List ℕ) (t : ColumnTrie) (d : ℕ) {at : ℕ} → at ≡ spot (t .start) (t .capacity) d → lists (take (at + dataLen t d - at) (drop at pool)) (take (at + t .capacity + intervalLen t d - (at + t .capacity)) (drop (at + t .capacity) pool)) ≡ layerIn pool t d
+parts pool t d {at} e =
+    let k : at + dataLen t d - at ≡ dataLen t d = omega arith in
+    let i : at + t .capacity + intervalLen t d - (at + t .capacity) ≡ intervalLen t d = omega arith in
+    cc

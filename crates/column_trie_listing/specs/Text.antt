@@ -40,10 +40,14 @@ unfolding others
 numbers [] = []
 numbers (n ∷ ns) = decimal n ++ others ns
 
+-- a layer from its two lists
+abbrev pub lists : List ℕ → List ℕ → Layer
+lists keys intervals = record { keys = keys; intervals = intervals }
+
 -- a layer's three lines
 unfoldable pub layerText : ℕ → Layer → List ℕ
 unfolding numbers
-layerText d l = (layerWord ++ (decimal d ++ dataWord)) ++ ((numbers (l .keys) ++ closing) ++ (intervalWord ++ (numbers (l .intervals) ++ closing)))
+layerText d l = ((layerWord ++ (decimal d ++ dataWord)) ++ (numbers (l .keys) ++ closing)) ++ (intervalWord ++ (numbers (l .intervals) ++ closing))
 
 -- layer after layer, the first being layer d
 unfoldable pub textFrom : ℕ → List Layer → List ℕ

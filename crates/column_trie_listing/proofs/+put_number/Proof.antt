@@ -70,7 +70,7 @@ put-number-returns :
 put-number-returns t c =
     let a = c .before .before .args in
     let e = decimal-one (a .n) (c .if1 .taken) in
-    (omega (arith, ap length e), sym (ap (lay (a .text .now) (a .at)) e ∙ lay-one (a .text .now) (a .at) (48 + a .n)))
+    record { ends = omega (arith, ap length e); laid = sym (ap (lay (a .text .now) (a .at)) e ∙ lay-one (a .text .now) (a .at) (48 + a .n)) }
 
 put-number-put-number-requires : (t : ℕ) → put-number-lts.Need-put-number-requires (
   put-number-below t,
@@ -94,7 +94,7 @@ put-number-slice-write-text-2 : (t : ℕ) → put-number-lts.Need-slice-write-te
   put-number-below t,
   put-number.Post,
 ) (put-number-at t) put-number.Post
-put-number-slice-write-text-2 t c = let a = c .before .before .before .before .before .before .args in omega (arith, c .before .before .before .before .before .before .pre, more-long (a .n) (c .before .before .before .before .if1 .left), c .before .before .put-number .ensures .0, ap length (c .before .before .put-number .ensures .1), lay-length (a .text .now) (a .at) (decimal (a .n / 10)))
+put-number-slice-write-text-2 t c = let a = c .before .before .before .before .before .before .args in omega (arith, c .before .before .before .before .before .before .pre, more-long (a .n) (c .before .before .before .before .if1 .left), c .before .before .put-number .ensures .ends, ap length (c .before .before .put-number .ensures .laid), lay-length (a .text .now) (a .at) (decimal (a .n / 10)))
 
 put-number-add-result-2 : (t : ℕ) → put-number-lts.Need-add-result-2 (
   put-number-below t,
@@ -106,7 +106,7 @@ put-number-same-length-2 : (t : ℕ) → put-number-lts.Need-same-length-2 (
   put-number-below t,
   put-number.Post,
 ) (put-number-at t) put-number.Post
-put-number-same-length-2 t c = let a = c .before .before .before .before .before .before .args in length-set (c .before .before .put-number .last .0) (c .before .before .put-number .result) (48 + a .n % 10) ∙ ap length (c .before .before .put-number .ensures .1) ∙ lay-length (a .text .now) (a .at) (decimal (a .n / 10))
+put-number-same-length-2 t c = let a = c .before .before .before .before .before .before .args in length-set (c .before .before .put-number .last .0) (c .before .before .put-number .result) (48 + a .n % 10) ∙ ap length (c .before .before .put-number .ensures .laid) ∙ lay-length (a .text .now) (a .at) (decimal (a .n / 10))
 
 put-number-returns-2 : (t : ℕ) → put-number-lts.Need-returns-2 (
   put-number-below t,
@@ -114,12 +114,13 @@ put-number-returns-2 : (t : ℕ) → put-number-lts.Need-returns-2 (
 ) (put-number-at t) put-number.Post
 put-number-returns-2 t c =
     let a = c .before .before .before .before .before .before .args in
-    let h = c .before .before .before .before .if1 .left in (
-      omega (arith, more-long (a .n) h, c .before .before .put-number .ensures .0),
-      ap₂ (λ (l : List ℕ) (e : ℕ). set l e (48 + a .n % 10)) (c .before .before .put-number .ensures .1) (c .before .before .put-number .ensures .0)
+    let h = c .before .before .before .before .if1 .left in
+    record {
+      ends = omega (arith, more-long (a .n) h, c .before .before .put-number .ensures .ends);
+      laid = ap₂ (λ (l : List ℕ) (e : ℕ). set l e (48 + a .n % 10)) (c .before .before .put-number .ensures .laid) (c .before .before .put-number .ensures .ends)
           ∙ sym (lay-snoc (a .text .now) (a .at) (decimal (a .n / 10)) (48 + a .n % 10))
-          ∙ ap (lay (a .text .now) (a .at)) (sym (decimal-more (a .n) h)),
-    )
+          ∙ ap (lay (a .text .now) (a .at)) (sym (decimal-more (a .n) h));
+    }
 
 pub +put-number-spec : {M : Type 1} → statement M
 +put-number-spec = close μ-put-number λ t. put-number-lts.spec (

@@ -56,7 +56,7 @@ same-length : tie.Need-same-length Inv-loop μ-loop
 same-length c = let a = c .before .before .args in ap length (c .before .loop .inv .1) ∙ lay-length (a .text .now) (a .at) (take (c .before .loop .i) (a .bytes .now))
 
 returns : tie.Need-returns Inv-loop μ-loop
-returns c = let a = c .before .before .args in (omega arith, c .before .loop .inv .1 ∙ ap (lay (a .text .now) (a .at)) (take-all (c .before .loop .i) (a .bytes .now) (c .loop-test .left)))
+returns c = let a = c .before .before .args in record { ends = omega arith; laid = c .before .loop .inv .1 ∙ ap (lay (a .text .now) (a .at)) (take-all (c .before .loop .i) (a .bytes .now) (c .loop-test .left)) }
 
 pub put-spec : {M : Type 1} → statement M
 put-spec =

@@ -1,0 +1,11 @@
+pub mod Determined
+pub mod Kept
+pub mod Leaves
+pub mod Numbers
+mod Columns
+mod Fill
+mod Given
+mod Headers
+mod Outcomes
+mod Shared
+mod Turns

@@ -1,0 +1,79 @@
+-- `column_trie_build::build` meets its contract: by the number it is refused, or the rows are sorted and the table filled with them.
+use mathlib.Core.Path.{sym, ap, _∙_, subst}
+use mathlib.Core.List.{List}
+use lib.ListN.{length}
+use Rattle.relation.specs.Order.{Row}
+use Rattle.relation.specs.Rows.{distinct}
+use Rattle.relation.specs.Layers.{layersOf}
+use Rattle.column_trie.specs.Pool.{store}
+use Rattle.column_trie.specs.Table.{emptyTable, tableOf}
+use Rattle.column_trie.specs.declared.ColumnTrie.{ColumnTrie}
+use Rattle.column_trie_build.specs.Build.{rowsGiven}
+use Rattle.column_trie_build.specs.Push.{Filling, Fills}
+use Rattle.column_trie_build.proofs.Numbers.{Accepted, accepted}
+use Rattle.column_trie_build.proofs.Outcomes.{builds-refused, builds-built, sorted-rows, filling}
+use borrow.Author.Needs.{needs}
+use Rattle.column_trie_build.proofs.build.Statement.{statement}
+use Rattle.column_trie_build.proofs.build.Tie as tie
+
+-- past the checks
+passed : (k : tie.Else1) → Accepted (length (k .before .before .before .before .args .rows .now)) (length (k .before .before .before .before .args .pool .now)) (k .before .before .before .before .args .start) (k .before .before .before .before .args .arity) (k .before .before .before .before .args .capacity)
+passed k = accepted _ _ _ _ _ (sym (k .before .build-number .ensures) ∙ k .if1 .left)
+
+build-number-requires : tie.Need-build-number-requires
+build-number-requires c κs = search needs
+
+empty-requires : tie.Need-empty-requires
+empty-requires c κs = search needs
+
+returns : tie.Need-returns
+returns c =
+    let s = c .before .before .before .before .before .args in
+    builds-refused (s .rows .now) (s .pool .now) (s .start) (s .arity) (s .capacity) (c .before .before .build-number .ensures) (c .before .if1 .taken) (c .empty .ensures)
+
+sort-rows-requires : tie.Need-sort-rows-requires
+sort-rows-requires c κs = let a = passed (c .before) in (a .some, a .whole)
+
+empty-requires-2 : tie.Need-empty-requires-2
+empty-requires-2 c κs = search needs
+
+from-sorted-requires : tie.Need-from-sorted-requires
+from-sorted-requires c κs =
+    let w = c .before .before .before .before .before .sort-rows in
+    let k = c .before .before .before .before .before .before .before in
+    let s = k .before .before .before .before .args in
+    subst (λ (u : ColumnTrie). Filling (length (s .pool .now)) u (rowsGiven (u .arity) (w .last .0))) (sym (c .before .empty2 .ensures))
+    (filling (s .rows .now) (passed k) (w .ensures) (w .kept .0))
+
+same-length : tie.Need-same-length
+same-length c = search needs
+
+same-length-2 : tie.Need-same-length-2
+same-length-2 c = search needs
+
+returns-2 : tie.Need-returns-2
+returns-2 c =
+    let f = c .before .before .from-sorted in
+    let w = c .before .before .before .before .before .before .before .before .sort-rows in
+    let k = c .before .before .before .before .before .before .before .before .before .before in
+    let s = k .before .before .before .before .args in
+    let rows = s .rows .now in
+    let pool = s .pool .now in
+    let e = sorted-rows rows (passed k) (w .ensures) in
+    let g : Fills pool (emptyTable (s .start) (s .arity) (s .capacity)) (rowsGiven (s .arity) (w .last .0)) (f .last .0) (f .result) = subst (λ (u : ColumnTrie). Fills pool u (rowsGiven (u .arity) (w .last .0)) (f .last .0) (f .result)) (c .before .before .before .before .empty2 .ensures) (f .ensures) in
+    builds-built rows pool (s .start) (s .arity) (s .capacity) (k .before .build-number .ensures) (k .if1 .left) (g .header ∙ ap (λ (rs : List Row). tableOf (s .start) (s .arity) (s .capacity) (distinct rs)) e) (w .ensures)
+    (g .words ∙ ap (λ (rs : List Row). store (s .start) (s .capacity) (layersOf (s .arity) (distinct rs)) pool) e)
+
+pub build-spec : {M : Type 1} → statement M
+build-spec =
+    tie.close
+    (tie.spec
+    build-number-requires
+    empty-requires
+    returns
+    sort-rows-requires
+    empty-requires-2
+    from-sorted-requires
+    same-length
+    same-length-2
+    returns-2)

@@ -1,0 +1,159 @@
+// Builds a table in the pool from rows of words.
+use column_trie::ColumnTrie;
+use column_trie::arity_ok;
+use column_trie::capacity_ok;
+use column_trie::layer_at;
+use column_trie::lies_in;
+use sort::sort_rows;
+ghost use mathlib.Core.Path.{_≡_};
+ghost use Prim.Native.Nat.{_+_, _-_, _/_, _<_};
+ghost use lib.ListN.{length, getD};
+ghost use mathlib.Core.List.{[]};
+ghost use Rattle.relation.proofs.Order.{shared};
+ghost use Rattle.column_trie.specs.Pool.{spot};
+ghost use Rattle.column_trie.specs.Table.{dataLen, intervalLen};
+ghost use Rattle.column_trie_build.specs.Build.{buildNumber, rowsGiven, Builds};
+ghost use Rattle.column_trie_build.specs.Push.{Spare, withKey, withInterval, Appends, Pushing, Pushes, Filling, Fills};
+
+pub struct Built {
+    pub number: u64,
+    pub table: ColumnTrie,
+}
+
+// How many leading keys rows i and j share.
+fn common_prefix_len(rows: &[u64], arity: usize, i: usize, j: usize) -> usize
+    requires { ⌜ (i < length (now rows) / arity) × (j < length (now rows) / arity) ⌝ }
+    ensures { λ r. ⌜ r ≡ shared (getD (rowsGiven arity (now (rows .entry))) i []) (getD (rowsGiven arity (now (rows .entry))) j []) ⌝ }
+{
+    let x = i * arity;
+    let y = j * arity;
+    let mut k = 0;
+    while k < arity {
+        if rows[x + k] != rows[y + k] {
+            return k;
+        }
+        k += 1;
+    }
+    k
+}
+
+// Appends the key to the data of layer d.
+fn push_key(pool: &mut [u64], t: ColumnTrie, d: usize, key: u64) -> ColumnTrie
+    requires { ⌜ Spare (length (now pool)) t d (dataLen t d) ⌝ }
+    ensures { λ r. ⌜ Appends (now (pool .entry)) (spot (t .start) (t .capacity) d + dataLen t d) key (withKey t d) (now (pool .exit)) r ⌝ }
+{
+    let n = t.data_len[d];
+    let at = layer_at(t, d) + n;
+    pool[at] = key;
+    let mut out = t;
+    out.data_len[d] = n + 1;
+    out
+}
+
+// Opens an interval of layer d at the end of its data: for a parent just appended to the layer above, or for the root.
+fn open_interval(pool: &mut [u64], t: ColumnTrie, d: usize) -> ColumnTrie
+    requires { ⌜ Spare (length (now pool)) t d (intervalLen t d) ⌝ }
+    ensures { λ r. ⌜ Appends (now (pool .entry)) (spot (t .start) (t .capacity) d + t .capacity + intervalLen t d) (dataLen t d) (withInterval t d) (now (pool .exit)) r ⌝ }
+{
+    let m = t.interval_len[d];
+    let at = layer_at(t, d) + t.capacity + m;
+    pool[at] = t.data_len[d] as u64;
+    let mut out = t;
+    out.interval_len[d] = m + 1;
+    out
+}
+
+// Appends the keys of row i from column `from` on, those from column `opens` on under a new interval.
+fn push_row(
+    pool: &mut [u64],
+    t: ColumnTrie,
+    rows: &[u64],
+    i: usize,
+    from: usize,
+    opens: usize,
+) -> ColumnTrie
+    requires { ⌜ Pushing (length (now pool)) t (rowsGiven (t .arity) (now rows)) i from opens ⌝ }
+    ensures { λ r. ⌜ Pushes (now (pool .entry)) t (rowsGiven (t .arity) (now (rows .entry))) i (now (pool .exit)) r ⌝ }
+{
+    let arity = t.arity;
+    let x = i * arity;
+    let mut out = t;
+    let mut d = from;
+    while d < arity {
+        if opens <= d {
+            out = open_interval(pool, out, d);
+        }
+        out = push_key(pool, out, d, rows[x + d]);
+        d += 1;
+    }
+    out.tuple_count += 1;
+    out
+}
+
+// Fills the empty table t with the rows, which are sorted, in one pass: a row appends its keys from the first column on in which it differs from
+// the row before it, each but the first under a new interval; one that is equal to it appends nothing.
+fn from_sorted(pool: &mut [u64], t: ColumnTrie, rows: &[u64]) -> ColumnTrie
+    requires { ⌜ Filling (length (now pool)) t (rowsGiven (t .arity) (now rows)) ⌝ }
+    ensures { λ r. ⌜ Fills (now (pool .entry)) t (rowsGiven (t .arity) (now (rows .entry))) (now (pool .exit)) r ⌝ }
+{
+    let arity = t.arity;
+    let n = rows.len() / arity;
+    if n == 0 {
+        return t;
+    }
+    let mut out = push_row(pool, t, rows, 0, 0, 0);
+    let mut i = 1;
+    while i < n {
+        let before = i - 1;
+        let d = common_prefix_len(rows, arity, before, i);
+        if d < arity {
+            out = push_row(pool, out, rows, i, d, d + 1);
+        }
+        i += 1;
+    }
+    out
+}
+
+// The number of the first check that refuses, or 0.
+fn build_number(words: usize, len: usize, start: usize, arity: usize, capacity: usize) -> u64
+    ensures { λ r. ⌜ r ≡ buildNumber words len start arity capacity ⌝ }
+{
+    if !arity_ok(arity) {
+        return 1;
+    }
+    if !capacity_ok(capacity) {
+        return 2;
+    }
+    if !lies_in(len, start, arity, capacity) {
+        return 3;
+    }
+    if words % arity != 0 {
+        return 4;
+    }
+    if capacity < words / arity {
+        return 5;
+    }
+    0
+}
+
+// Sorts the rows in place, lexicographic, and leaves at `start` of the pool a table with each distinct row once.
+pub fn build(
+    rows: &mut [u64],
+    pool: &mut [u64],
+    start: usize,
+    arity: usize,
+    capacity: usize,
+) -> Built
+    ensures { λ r. ⌜ Builds (now (rows .entry)) (now (pool .entry)) start arity capacity (now (rows .exit)) (now (pool .exit)) r ⌝ }
+{
+    let number = build_number(rows.len(), pool.len(), start, arity, capacity);
+    if number != 0 {
+        return Built {
+            number,
+            table: ColumnTrie::empty(0, 0, 0),
+        };
+    }
+    sort_rows(rows, arity);
+    let table = from_sorted(pool, ColumnTrie::empty(start, arity, capacity), rows);
+    Built { number, table }
+}

@@ -1,0 +1,44 @@
+-- `column_trie_listing::put_head` meets its contract: three pieces.
+use mathlib.Core.Path.{_≡_, sym, ap}
+use native.Mathlib.Omega.{arith}
+use Rattle.column_trie_listing.proofs.Texts.{head-length, written-more, written-long}
+use borrow.Author.Needs.{needs}
+use Rattle.column_trie_listing.proofs.put_head.Statement.{statement}
+use Rattle.column_trie_listing.proofs.put_head.Tie as tie
+use Rattle.column_trie_listing.proofs.put_head.Reads as reads
+use Rattle.column_trie_listing.proofs.put_head.Lts as lts
+use Rattle.column_trie_listing.proofs.put.Reads as put-reads
+use Rattle.column_trie_listing.proofs.put_number.Reads as put-number-reads
+
+slice-aggregate-put : tie.Need-slice-aggregate-put
+slice-aggregate-put c = search needs
+
+put-requires : tie.Need-put-requires
+put-requires c κs = search needs
+
+put-number-requires : tie.Need-put-number-requires
+put-number-requires c κs = let a = c .before .before .before .before .before .before .before .args in omega (arith, c .before .before .before .before .before .before .before .pre, head-length (a .d), c .before .before .before .put .ensures .ends, written-long (c .before .before .before .put .ensures))
+
+slice-aggregate-put-2 : tie.Need-slice-aggregate-put-2
+slice-aggregate-put-2 c = search needs
+
+put-requires-2 : tie.Need-put-requires-2
+put-requires-2 c κs = let a = c .before .before .before .before .before .before .before .before .before .before .before .before .args in omega (arith, c .before .before .before .before .before .before .before .before .before .before .before .before .pre, head-length (a .d), c .before .before .before .before .before .before .before .before .put .ensures .ends, written-long (c .before .before .before .before .before .before .before .before .put .ensures), c .before .before .before .before .put-number .ensures .ends, written-long (c .before .before .before .before .put-number .ensures))
+
+same-length : tie.Need-same-length
+same-length c = search needs
+
+returns : tie.Need-returns
+returns c = written-more (c .before .before .before .before .before .before .before .before .before .before .before .put .ensures) (written-more (c .before .before .before .before .before .before .before .put-number .ensures) (c .before .before .put2 .ensures))
+
+pub put-head-spec : {M : Type 1} → statement M
+put-head-spec =
+    tie.close
+    (tie.spec
+    slice-aggregate-put
+    put-requires
+    put-number-requires
+    slice-aggregate-put-2
+    put-requires-2
+    same-length
+    returns)
