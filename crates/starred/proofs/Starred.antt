@@ -1,0 +1,22 @@
+-- One statement: on every line of the table what must come is what the definitions give. By computation.
+use mathlib.Core.Path.{_≡_, refl}
+use mathlib.Core.List.{map}
+use Rattle.relation.specs.Tests.{every}
+use Rattle.relation.specs.Order.{before}
+use Rattle.relation.specs.Rows.{cut, flat, same, place, sort, distinct, put, asSet}
+use Rattle.relation.specs.Layers.{prefixes, under, keysUnder, groupsAt, joined, starts, layerAt, layersFrom}
+use Rattle.relation.specs.Undamaged.{walk, sound, chain, rooms}
+use Rattle.relation.specs.Undamaged as layers
+use Rattle.relation.specs.Paths.{upto, owner, grow, rowsFrom, rowsOf}
+use Rattle.seek.specs.Seek.{halves, scans, gallops, gallopingOf}
+use Rattle.grade.specs.Word.{wordOf}
+use Rattle.column_trie.specs.Pool.{lay, store, spot, reads}
+use Rattle.column_trie.specs.Table.{undamaged}
+use Rattle.column_trie_build.specs.Build.{buildNumber}
+use Rattle.column_trie_insert.specs.Insert.{known, insertNumber, takesIn}
+use Rattle.column_trie_iter.specs.Cursor.{lies, child, stands, standsBelow, refusal, remaining, keyOf, openOf, owns, risesIn, upOf, opens}
+use Rattle.starred.specs.Cases.{comes, starred}
+
+pub every-starred-case-comes : map (λ l. comes (l .asked)) starred ≡ map (λ l. l .must) starred
+unfolding every before lies standsBelow opens child cut flat same place sort distinct put asSet prefixes under keysUnder groupsAt joined starts layerAt layersFrom walk sound chain rooms layers.undamaged upto owner grow rowsFrom rowsOf halves scans gallops gallopingOf wordOf lay store spot reads undamaged buildNumber known insertNumber takesIn stands refusal remaining keyOf openOf owns risesIn upOf starred
+every-starred-case-comes = refl

@@ -1,0 +1,107 @@
+-- What document 01 stars under "Worked on the bench": a table of what is asked and what must come. `comes` asks the definitions that the public calls' contracts cite.
+use Prim.Native.Nat.{ℕ}
+use mathlib.Core.Bool.{Bool, true, false}
+use mathlib.Core.List.{List, [], _∷_, map}
+use lib.IntN.{ℤ, negsuc}
+use Rattle.relation.specs.Order.{Row, pick}
+use Rattle.relation.specs.Layers.{layersOf}
+use Rattle.relation.specs.Rows.{put}
+use Rattle.seek.specs.Seek.{seekOf}
+use Rattle.seek.specs.declared.SeekStrategy.{SeekStrategy}
+use Rattle.seek.specs.declared.SeekStrategy.the-variants.{Linear, Binary, Galloping}
+use Rattle.grade.specs.Word.{wordOf}
+use Rattle.column_trie.specs.Pool.{store}
+use Rattle.column_trie.specs.Table.{rowsIn, tableOf}
+use Rattle.column_trie.specs.declared.ColumnTrie.{ColumnTrie}
+use Rattle.column_trie_build.specs.Build.{builtAnswer, poolLeft}
+use Rattle.column_trie_insert.specs.Insert.{insertNumber, takesIn}
+use Rattle.column_trie_iter.specs.Cursor.{cursor, keyOf, openOf, upOf, remaining}
+use Rattle.column_trie_iter.specs.declared.ColumnTrieIter.{ColumnTrieIter}
+
+pub data Asked : Type 0 where
+  -- rows' words, pool, start, arity, capacity
+  Build : List ℕ → List ℕ → ℕ → ℕ → ℕ → Asked
+  -- pool, table, tuple
+  Insert : List ℕ → ColumnTrie → Row → Asked
+  -- pool, table, cursor: open, and the run that it shows; up, and the key there
+  Open : List ℕ → ColumnTrie → ColumnTrieIter → Asked
+  Up : List ℕ → ColumnTrie → ColumnTrieIter → Asked
+  -- strategy, run, target
+  Seek : SeekStrategy → List ℕ → ℕ → Asked
+  Grade : ℤ → Asked
+
+pub data Comes : Type 0 where
+  -- number, header, pool
+  Table : ℕ → ColumnTrie → List ℕ → Comes
+  -- number, whether it was new, header, pool
+  New : ℕ → Bool → ColumnTrie → List ℕ → Comes
+  -- number, cursor, the run shown, or the key there
+  Run : ℕ → ColumnTrieIter → List ℕ → Comes
+  Key : ℕ → ColumnTrieIter → ℕ → Comes
+  -- offset, probes
+  Sought : ℕ → ℕ → Comes
+  Word : ℕ → Comes
+
+abbrev pub comes : Asked → Comes
+comes (Build rows pool start arity capacity) =
+    Table (builtAnswer rows pool start arity capacity .number) (builtAnswer rows pool start arity capacity .table) (poolLeft rows pool start arity capacity)
+comes (Insert pool t tuple) =
+    New (insertNumber pool t tuple) (takesIn pool t tuple)
+    (pick (takesIn pool t tuple) (tableOf (t .start) (t .arity) (t .capacity) (put tuple (rowsIn pool t))) t)
+    (pick (takesIn pool t tuple) (store (t .start) (t .capacity) (layersOf (t .arity) (put tuple (rowsIn pool t))) pool) pool)
+comes (Open pool t it) = Run (openOf pool t it .number) (openOf pool t it .iter) (remaining pool t (openOf pool t it .iter))
+comes (Up pool t it) = Key (upOf pool t it .number) (upOf pool t it .iter) (keyOf pool t (upOf pool t it .iter) .key)
+comes (Seek s run target) = Sought (seekOf s run target .offset) (seekOf s run target .probes)
+comes (Grade g) = Word (wordOf g)
+
+-- ---- the table
+
+-- arity 2, capacity 4, from place 1 of a pool of nines: lengths of data and intervals, count
+abbrev header : ℕ → ℕ → ℕ → ℕ → ℕ → ColumnTrie
+header data₀ ints₀ data₁ ints₁ count =
+    record {
+      start = 1;
+      arity = 2;
+      capacity = 4;
+      «data_len» = data₀ ∷ data₁ ∷ 0 ∷ 0 ∷ 0 ∷ 0 ∷ 0 ∷ 0 ∷ [];
+      «interval_len» = ints₀ ∷ ints₁ ∷ 0 ∷ 0 ∷ 0 ∷ 0 ∷ 0 ∷ 0 ∷ [];
+      «tuple_count» = count;
+    }
+
+abbrev nines : List ℕ
+nines = 9 ∷ 9 ∷ 9 ∷ 9 ∷ 9 ∷ 9 ∷ 9 ∷ 9 ∷ 9 ∷ 9 ∷ 9 ∷ 9 ∷ 9 ∷ 9 ∷ 9 ∷ 9 ∷ 9 ∷ 9 ∷ []
+
+-- data 1 2 and 2 3 4, intervals 0 and 0 2
+abbrev four : List ℕ
+four = 9 ∷ 1 ∷ 2 ∷ 9 ∷ 9 ∷ 0 ∷ 9 ∷ 9 ∷ 9 ∷ 2 ∷ 3 ∷ 4 ∷ 9 ∷ 0 ∷ 2 ∷ 9 ∷ 9 ∷ 9 ∷ []
+
+-- data 10 20 over 1 2 3, intervals 0 and 0 2
+abbrev tens : List ℕ
+tens = 9 ∷ 10 ∷ 20 ∷ 9 ∷ 9 ∷ 0 ∷ 9 ∷ 9 ∷ 9 ∷ 1 ∷ 2 ∷ 3 ∷ 9 ∷ 0 ∷ 2 ∷ 9 ∷ 9 ∷ 9 ∷ []
+
+abbrev evens : List ℕ
+evens = 2 ∷ 4 ∷ 6 ∷ 8 ∷ 10 ∷ 12 ∷ 14 ∷ 16 ∷ []
+
+pub record Line : Type 0 where
+  pub asked : Asked
+  pub must : Comes
+
+abbrev line : Asked → Comes → Line
+line asked must = record { asked = asked; must = must }
+
+unfoldable pub starred : List Line
+starred =
+    line (Build (2 ∷ 4 ∷ 1 ∷ 3 ∷ 1 ∷ 2 ∷ 1 ∷ 3 ∷ []) nines 1 2 4) (Table 0 (header 2 1 3 2 3) four) ∷
+    line (Build [] nines 1 2 4) (Table 0 (header 0 0 0 0 0) nines) ∷
+    line (Insert four (header 2 1 3 2 3) (1 ∷ 3 ∷ [])) (New 0 false (header 2 1 3 2 3) four) ∷
+    line (Open tens (header 2 1 3 2 3) (cursor 1 0 1)) (Run 0 (cursor 2 1 0) (3 ∷ [])) ∷
+    line (Up tens (header 2 1 3 2 3) (cursor 2 1 0)) (Key 0 (cursor 1 0 1) 20) ∷
+    line (Seek Linear evens 7) (Sought 3 4) ∷
+    line (Seek Binary evens 7) (Sought 3 3) ∷
+    line (Seek Galloping evens 7) (Sought 3 5) ∷
+    line (Seek Linear evens 17) (Sought 8 8) ∷
+    line (Seek Binary evens 17) (Sought 8 3) ∷
+    line (Seek Galloping evens 17) (Sought 8 6) ∷
+    line (Seek Galloping evens 2) (Sought 0 1) ∷
+    line (Grade (negsuc 0)) (Word 18446744073709551615) ∷
+    []
