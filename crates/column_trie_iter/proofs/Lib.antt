@@ -6,3 +6,4 @@ pub mod Places
 pub mod Rests
 pub mod Rises
 pub mod Seeks
+pub mod Worked

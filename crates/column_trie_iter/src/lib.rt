@@ -1,10 +1,13 @@
 // The cursor over a table in the pool: the port of kermit-ds/src/ds/column_trie/column_trie_iter.rs of the Rust.
 //
-// A cursor is three numbers by value; pool and header are passed along. Each call's answer is the one that specs/Cursor.antt gives, for any
-// pool, header and cursor. Nothing is asked of them, and nothing is changed but the cursor that comes back.
+// The public calls are the methods of `ColumnTrieIter`. A cursor is three numbers by value; pool and header are passed along and only read.
+// Each call's answer is the one that specs/Cursor.antt gives, for any pool, header and cursor: nothing is asked of them. On an undamaged
+// table a cursor is the paper's trie iterator over the table's rows, which the crate trie_iterator shows.
+//
+// The Rust's cursor holds the trie and the slice of its run; here each call finds the run anew, and what would panic there is refused.
 ghost use mathlib.Core.Path.{_≡_};
-ghost use mathlib.Core.Bool.{true, false};
-ghost use Prim.Native.Nat.{_+_, _-_, _≤_, _<_, _^_};
+ghost use mathlib.Core.Bool.{true};
+ghost use Prim.Native.Nat.{_+_, _-_, _<_, _^_};
 ghost use lib.ListN.{length, getD};
 ghost use Rattle.column_trie.specs.Table.{layerIn, headerSound};
 ghost use Rattle.column_trie_iter.specs.Cursor.{fresh, past, keyOf, nextOf, soughtOf, endOf, unopened, openOf, risesIn, unrisen, upOf};
@@ -370,7 +373,8 @@ fn has_children(table: ColumnTrie, depth: usize, at: usize, end: usize) -> bool
     depth < table.arity && at < end
 }
 
-// From below depth 1, by the upper layer's list: the last interval that is not above the cursor's interval index is the owner.
+// From below depth 1, by the upper layer's list: the last interval that the halving rule counts as not above the cursor's interval index is
+// the owner. What it counts last is not above the index, on any list, so the offset can't fall below 0.
 fn rise(pool: &[u64], table: ColumnTrie, iter: ColumnTrieIter) -> UpAnswer
     requires { ⌜ Rising (length (now pool)) table iter ⌝ }
     ensures { λ r. ⌜ r ≡ risesIn (layerIn (now (pool .entry)) table (iter .depth - 2)) iter ⌝ }

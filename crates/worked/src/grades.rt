@@ -1,8 +1,8 @@
 // The grades: zero, minus one and both ends of the signed range, both ways.
-use crate::print::labelled;
-use crate::print::signed;
-use crate::print::text;
-use crate::print::verdict;
+use show::labelled;
+use show::signed;
+use show::text;
+use show::verdict;
 
 fn word(grade: i64, expected: u64) {
     let came = grade::word_of(grade);

@@ -2,15 +2,11 @@
 //
 // Each group of calls has a file of its own with one public function that prints its lines. The gate holds the whole text to the file
 // `stdout`, so a line that turns WRONG, or changes in any way, fails it.
-mod builds;
 mod grades;
-mod print;
 mod seeks;
 
 fn main() {
     seeks::worked();
     seeks::limits();
     grades::worked();
-    builds::worked();
-    builds::refusals();
 }

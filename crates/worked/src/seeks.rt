@@ -1,25 +1,17 @@
 // The seeks: document 01's run, and runs and targets at their limits.
-use crate::print::labelled;
-use crate::print::text;
-use crate::print::verdict;
 use seek::SeekStrategy;
+use show::labelled;
+use show::text;
+use show::verdict;
 
 const MOST: u64 = 18446744073709551615;
-
-fn name(strategy: SeekStrategy) {
-    match strategy {
-        SeekStrategy::Linear => text(b"linear"),
-        SeekStrategy::Binary => text(b"binary"),
-        SeekStrategy::Galloping => text(b"galloping"),
-    }
-}
 
 fn asked(strategy: SeekStrategy, label: &[u8], target: u64) {
     labelled(b"seek ", target);
     text(b" in ");
     text(label);
     text(b", ");
-    name(strategy);
+    show::strategy(strategy);
 }
 
 fn line(

@@ -1,0 +1,89 @@
+-- The steps of a depth, from the leapfrog's answers: said of the ring in atom order, whichever ring was searched.
+-- Idea: both rings have the same atoms, and what is said of runs and keys does not depend on their sequence.
+use Prim.Native.Nat.{ℕ, _<_}
+use mathlib.Core.Path.{_≡_, ap, _∙_}
+use mathlib.Core.List.{List, [], _∷_, _++_}
+use lib.ListN.{getD, take}
+use Rattle.relation.specs.Lists.{Ascends}
+use Rattle.query.specs.Meet.{meet}
+use Rattle.leapfrog_join.specs.Ring.{keyOf}
+use Rattle.leapfrog_join.specs.Leapfrog.{runsIn, Ready, Agreed, Moved, Left, leftOf, Begun}
+use Rattle.leapfrog_join.specs.declared.Hit.{Hit}
+use Rattle.leapfrog_join.specs.declared.Hit.the-variants.{Key, Nothing}
+use Rattle.leapfrog_join.proofs.Laws.{Same, same-back, same-meet, same-agreed, same-moved, agreed-here, next-left}
+use Rattle.leapfrog_join.proofs.Beginning.{begun-same}
+use Rattle.leapfrog_triejoin.specs.Descent.{SameAtoms, AgreedAt, Steps}
+
+pub same-of : {ring ring′ : List ℕ} {k : ℕ} → SameAtoms ring ring′ k → Same ring ring′ k
+same-of s = record { size = s .size; to = s .to; back = s .back; apart = s .apart }
+
+of-same : {ring ring′ : List ℕ} {k : ℕ} → Same ring ring′ k → SameAtoms ring ring′ k
+of-same s = record { size = s .size; to = s .to; back = s .back; apart = s .apart }
+
+-- what a search of one ring leaves, said of another with the same atoms
+module _ {pool end ring fresh : List ℕ} {k : ℕ} (s : Same ring fresh k) {at₀ at common passed : List ℕ} where
+  same-ended : (hit : Hit) → Left pool end ring k at₀ at common passed hit → AgreedAt pool at end fresh k hit
+  same-ended (Key x p) l = same-agreed s (l .ended) p (l .ended .place)
+  same-ended (Nothing p) l = tt
+
+  same-keys : (hit : Hit) → Left pool end ring k at₀ at common passed hit → common ≡ passed ++ leftOf (runsIn pool at end fresh k) hit
+  same-keys (Key x p) l = l .keys ∙ ap (λ (ks : List ℕ). passed ++ ks) (same-meet s (l .ended .ready))
+  same-keys (Nothing p) l = l .keys
+
+-- ---- the next key
+
+module _ {pool at end fresh : List ℕ} {k x p : ℕ} (g : Agreed pool at end fresh k x p) where
+  -- at the last depth the ring goes on as it is
+  module _ {ring : List ℕ} (s : Same fresh ring k) where
+    pub goes-on : Agreed pool at end ring k (keyOf pool at (getD ring p 0)) p
+    goes-on = agreed-here (same-agreed s g p (g .place))
+
+    pub went-on : {at′ : List ℕ} (hit : Hit) → Left pool end ring k at at′ (meet (runsIn pool at end ring k)) (keyOf pool at (getD ring p 0) ∷ []) hit → Steps pool end fresh k at at′ x hit
+    went-on hit l =
+        let m = next-left (same-agreed s g p (g .place)) l in
+        let b = same-back s (g .ready) in
+        record {
+          agreed = same-ended b hit m;
+          keys = same-meet s (g .ready) ∙ same-keys b hit m;
+          moved = same-moved b (m .moved);
+        }
+
+  -- at another it is in atom order again
+  anew : Agreed pool at end fresh k x 0
+  anew = record { ready = g .ready; place = g .ready .some; all = g .all }
+
+  same-ring : Same fresh fresh k
+  same-ring = record { size = g .ready .size; to = λ a m. m; back = λ a m. m; apart = g .ready .apart }
+
+  pub begins-anew : Agreed pool at end fresh k (keyOf pool at (getD fresh 0 0)) 0
+  begins-anew = agreed-here anew
+
+  pub went-anew : {at′ : List ℕ} (hit : Hit) → Left pool end fresh k at at′ (meet (runsIn pool at end fresh k)) (keyOf pool at (getD fresh 0 0) ∷ []) hit → Steps pool end fresh k at at′ x hit
+  went-anew hit l =
+      let m = next-left anew l in
+      record { agreed = same-ended same-ring hit m; keys = same-keys same-ring hit m; moved = m .moved }
+
+-- ---- the first key
+
+module _ {pool at end fresh ring ring′ : List ℕ} {k : ℕ} (r : Ready pool at end ring k) (f : Ready pool at end fresh k) (e : take k ring ≡ take k fresh) (asc : Ascends _<_ (take k ring)) {at′ : List ℕ} {hit : Hit} (b : Begun pool end k ring ring′ at at′ hit) where
+  -- the ring in atom order, sorted and in atom order again
+  both : Same fresh ring k
+  both = record { size = r .size; to = λ a m. rw e m; back = λ a m. rw e at m; apart = r .apart }
+
+  sorts : Same ring ring′ k
+  sorts = begun-same r asc (b .order)
+
+  through : Same ring′ fresh k
+  through = record { size = f .size; to = λ a m. both .back a (sorts .back a m); back = λ a m. sorts .to a (both .to a m); apart = f .apart }
+
+  pub first-agreed : AgreedAt pool at′ end fresh k hit
+  first-agreed = same-ended through hit (b .left)
+
+  pub first-keys : meet (runsIn pool at end fresh k) ≡ leftOf (runsIn pool at′ end fresh k) hit
+  first-keys = same-meet both f ∙ same-keys through hit (b .left)
+
+  pub first-moved : Moved end fresh k at at′
+  first-moved = same-moved through (b .left .moved)
+
+  pub first-same : SameAtoms fresh ring′ k
+  first-same = record { size = sorts .size; to = through .back; back = through .to; apart = sorts .apart }

@@ -1,0 +1,75 @@
+// The leapfrog triejoin of tables in the pool.
+mod checks;
+mod descent;
+mod plan;
+
+ghost use Rattle.leapfrog_triejoin.specs.Outcome.{Joins};
+use crate::checks::refusal;
+use crate::descent::descend;
+use crate::plan::PLAN;
+use crate::plan::make_plan;
+use column_trie::ColumnTrie;
+use seek::SeekStrategy;
+
+pub struct Atom {
+    pub table: usize,
+    pub len: usize,
+    pub variables: [usize; ColumnTrie::MAX_ARITY],
+}
+
+pub struct Query {
+    pub n: usize,
+    pub order: [usize; ColumnTrie::MAX_ARITY],
+    pub atom_count: usize,
+    pub atoms: [Atom; Query::MAX_ATOMS],
+}
+
+impl Query {
+    pub const MAX_ATOMS: usize = leapfrog_join::MAX_ATOMS;
+}
+
+pub struct Tables {
+    pub count: usize,
+    pub tables: [ColumnTrie; Tables::MAX_TABLES],
+}
+
+impl Tables {
+    pub const MAX_TABLES: usize = 8;
+}
+
+pub struct Joined {
+    pub number: u64,
+    pub rows: usize,
+}
+
+// Joins the tables that the query's atoms name, and writes the rows into the window, by variable number, ascending as read in the query's order. Refuses by
+// 8, 9, 10, 11 and 6 in sequence; 12 says that more rows exist than fit the window, which then holds the first that do.
+pub fn join(
+    strategy: SeekStrategy,
+    pool: &[u64],
+    tables: Tables,
+    query: Query,
+    window: &mut [u64],
+) -> Joined
+    ensures { λ r. ⌜ Joins (now (pool .entry)) tables query (now (window .entry)) r (now (window .exit)) ⌝ }
+{
+    let number = refusal(pool, tables, query);
+    if number != 0 {
+        return Joined { number, rows: 0 };
+    }
+    let mut plan = [0usize; PLAN];
+    make_plan(&mut plan, tables, query);
+    let at = [0usize; Query::MAX_ATOMS];
+    let row = [0u64; ColumnTrie::MAX_ARITY];
+    let written = descend(strategy, pool, &plan, query.n, 0, at, row, window, 0);
+    if written.full {
+        return Joined {
+            number: 12,
+            rows: written.rows,
+        };
+    }
+    Joined {
+        number: 0,
+        rows: written.rows,
+    }
+}
