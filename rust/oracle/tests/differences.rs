@@ -1,0 +1,115 @@
+//! What kermit does on the smallest inputs of docs/DIFFERENCES.md, by the numbers there. The other side of each is in the crates and in `compare`.
+#[cfg(not(kermit))]
+#[test]
+fn not_run_since_kermits_source_is_absent() {}
+
+#[cfg(kermit)]
+mod differences {
+    use oracle::*;
+    use std::panic::{catch_unwind, AssertUnwindSafe};
+
+    type Trie = ColumnTrie<Counted<GallopingSeek>>;
+
+    fn trie(arity: usize, rows: &[&[usize]]) -> Trie {
+        Trie::from_tuples(arity.into(), rows.iter().map(|row| row.to_vec()).collect::<Vec<_>>())
+    }
+
+    fn join(order: &[usize], atoms: &[(usize, &[usize])], tries: &[Trie]) -> Vec<Vec<usize>> {
+        let atoms: Vec<_> = atoms.iter().map(|(table, list)| (*table, list.to_vec())).collect();
+        let mut rows = vec![];
+        LeapfrogTriejoin::join_for_each(&ExecutedQuery::new(order, &atoms), tries, |row| rows.push(row.to_vec()));
+        rows
+    }
+
+    /// The offset and the probes.
+    fn seek<S: SeekStrategy>(run: &[usize], target: usize) -> (usize, usize) {
+        taken();
+        let offset = Counted::<S>::partition_point(run, |&key| key < target);
+        (offset, taken().1)
+    }
+
+    fn panics(f: impl FnOnce()) -> bool {
+        catch_unwind(AssertUnwindSafe(f)).is_err()
+    }
+
+    #[test]
+    fn no_2_binary_probes_once_more() {
+        assert_eq!(seek::<BinarySeek>(&[1, 2], 3), (2, 2));
+    }
+
+    #[test]
+    fn no_3_galloping_probes_once_more() {
+        assert_eq!(seek::<GallopingSeek>(&[1, 2, 3, 4, 5, 6, 7], 8), (7, 6));
+    }
+
+    #[test]
+    fn no_4_a_falling_run() {
+        assert_eq!(seek::<LinearSeek>(&[2, 1], 2).0, 0);
+        assert_eq!(seek::<BinarySeek>(&[2, 1], 2).0, 2);
+        assert_eq!(seek::<GallopingSeek>(&[2, 1], 2).0, 0);
+    }
+
+    #[test]
+    fn no_5_a_target_below_the_first_key() {
+        assert_eq!(seek::<LinearSeek>(&[2], 1).0, 0);
+        assert_eq!(seek::<BinarySeek>(&[2], 1).0, 0);
+        assert_eq!(seek::<GallopingSeek>(&[2], 1).0, 0);
+    }
+
+    #[test]
+    fn no_6_arity_0_counts_nothing() {
+        let mut t = trie(0, &[]);
+        t.insert([]);
+        assert_eq!(t.tuple_count(), 0);
+    }
+
+    #[test]
+    fn no_7_no_atoms_give_the_empty_row() {
+        for n in 0..3 {
+            assert_eq!(join(&(0..n).collect::<Vec<_>>(), &[], &[]), [[0usize; 0]]);
+        }
+    }
+
+    #[test]
+    fn no_8_a_variable_in_no_atom_panics_where_it_is_reached() {
+        assert!(panics(|| drop(join(&[1, 0], &[(0, &[0])], &[trie(1, &[])]))));
+        // behind a depth without keys it is not reached
+        assert_eq!(join(&[0, 1], &[(0, &[0])], &[trie(1, &[])]), [[0usize; 0]; 0]);
+    }
+
+    #[test]
+    fn no_9_to_12_lists_are_not_checked() {
+        let two = [trie(2, &[&[1, 2]])];
+        assert_eq!(join(&[1, 0], &[(0, &[0, 1])], &two), [[2, 1]]);
+        assert_eq!(join(&[0], &[(0, &[0, 0])], &two), [[1]]);
+        assert_eq!(join(&[0], &[(0, &[0])], &two), [[1]]);
+        assert_eq!(join(&[0, 1], &[(0, &[0, 1])], &[trie(1, &[&[1]])]), [[0usize; 0]; 0]);
+    }
+
+    #[test]
+    fn no_13_a_key_after_a_start_that_found_none() {
+        let (one, none) = (trie(1, &[&[1]]), trie(1, &[]));
+        let iterators = [&one, &none].map(|t| {
+            let mut iterator = ColumnTrieIter::new(t);
+            iterator.open();
+            iterator
+        });
+        let mut leapfrog = Leapfrog::new(iterators.into());
+        assert!(!leapfrog.init());
+        assert_eq!(leapfrog.key(), Some(1));
+    }
+
+    #[test]
+    fn no_14_seeks_of_a_triangle() {
+        let tries = [trie(2, &[&[1, 0], &[2, 2]]), trie(2, &[&[2, 3]]), trie(2, &[&[2, 0], &[3, 1]])];
+        taken();
+        let rows = join(&[0, 1, 2], &[(0, &[0, 1]), (1, &[1, 2]), (2, &[0, 2])], &tries);
+        assert_eq!(rows, [[0usize; 0]; 0]);
+        assert_eq!(taken().0, 2);
+    }
+
+    #[test]
+    fn no_16_a_tuple_of_another_length_panics() {
+        assert!(panics(|| trie(1, &[]).insert([1, 2])));
+    }
+}
