@@ -1,8 +1,4 @@
 //! What kermit does on the smallest inputs of docs/DIFFERENCES.md, by the numbers there. The other side of each is in the crates and in `compare`.
-#[cfg(not(kermit))]
-#[test]
-fn not_run_since_kermits_source_is_absent() {}
-
 #[cfg(kermit)]
 mod differences {
     use oracle::*;
