@@ -1,7 +1,8 @@
--- The modules that are not `pub` are steps of the functions' own proofs; the crate trie_iterator cites the others.
+-- Own and Worked have laws of their own. The other modules are steps of the functions' proofs; the crate trie_iterator cites those that are `pub`.
 mod Answers
 pub mod Groups
 mod Opens
+pub mod Own
 pub mod Places
 pub mod Rests
 pub mod Rises

@@ -142,7 +142,7 @@ module _ (pool : List ℕ) (t : ColumnTrie) (it : ColumnTrieIter) where
 -- ---- what the first checks find
 
 -- a part of a part of the pool, taken at once
-drop-take : (k n : ℕ) (l : List ℕ) → drop k (take n l) ≡ take (n - k) (drop k l)
+pub drop-take : (k n : ℕ) (l : List ℕ) → drop k (take n l) ≡ take (n - k) (drop k l)
 drop-take zero n l = ap (λ (m : ℕ). take m l) (let e : n ≡ n - 0 = omega arith in e)
 drop-take (suc k) zero l = sym (ap (λ (m : ℕ). take m (drop (suc k) l)) (let e : 0 - suc k ≡ 0 = omega arith in e))
 drop-take (suc k) (suc n) [] = sym (take-nil (suc n - suc k))

@@ -1,3 +1,4 @@
--- Cursor has what the public calls answer; Inside what the functions that they share do.
+-- Cursor has what the public calls answer; Inside what the functions that they share do; Own what their answers depend on.
 pub mod Cursor
 pub mod Inside
+pub mod Own
