@@ -14,6 +14,7 @@ ghost use Rattle.column_trie.specs.Limits.{maxArity, maxCapacity};
 ghost use Rattle.column_trie.specs.Pool.{spot};
 ghost use Rattle.column_trie.specs.Table.{emptyTable, arityOk, capacityOk, liesIn, withinAt, headerSound, pastAt, startsGroup, layersIn, layerIn, undamaged};
 
+#[repr(C)]
 pub struct ColumnTrie {
     pub start: usize,
     pub arity: usize,

@@ -19,6 +19,7 @@ ghost use Rattle.column_trie.specs.Table.{dataLen, intervalLen};
 ghost use Rattle.column_trie_build.specs.Build.{buildNumber, rowsGiven, Builds};
 ghost use Rattle.column_trie_build.specs.Push.{Spare, withKey, withInterval, Appends, Pushing, Pushes, Filling, Fills};
 
+#[repr(C)]
 pub struct Built {
     pub number: u64,
     pub table: ColumnTrie,

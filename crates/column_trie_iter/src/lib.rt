@@ -17,6 +17,7 @@ use seek::SeekStrategy;
 
 // depth: 0 at the root, else one more than the number of the layer. interval_i: whose children are looked at. slice_offset: how many of them
 // are passed.
+#[repr(C)]
 pub struct ColumnTrieIter {
     pub depth: usize,
     pub interval_i: usize,
@@ -24,12 +25,14 @@ pub struct ColumnTrieIter {
 }
 
 // Of each answer `number` is the refusal's, 0 for none. Where `found` is false the key is 0.
+#[repr(C)]
 pub struct KeyAnswer {
     pub number: u64,
     pub found: bool,
     pub key: u64,
 }
 
+#[repr(C)]
 pub struct NextAnswer {
     pub number: u64,
     pub found: bool,
@@ -37,6 +40,7 @@ pub struct NextAnswer {
     pub iter: ColumnTrieIter,
 }
 
+#[repr(C)]
 pub struct SeekAnswer {
     pub number: u64,
     pub found: bool,
@@ -44,17 +48,20 @@ pub struct SeekAnswer {
     pub iter: ColumnTrieIter,
 }
 
+#[repr(C)]
 pub struct EndAnswer {
     pub number: u64,
     pub at_end: bool,
 }
 
+#[repr(C)]
 pub struct OpenAnswer {
     pub number: u64,
     pub opened: bool,
     pub iter: ColumnTrieIter,
 }
 
+#[repr(C)]
 pub struct UpAnswer {
     pub number: u64,
     pub risen: bool,

@@ -15,12 +15,14 @@ use crate::plan::make_plan;
 use column_trie::ColumnTrie;
 use seek::SeekStrategy;
 
+#[repr(C)]
 pub struct Atom {
     pub table: usize,
     pub len: usize,
     pub variables: [usize; ColumnTrie::MAX_ARITY],
 }
 
+#[repr(C)]
 pub struct Query {
     pub n: usize,
     pub order: [usize; ColumnTrie::MAX_ARITY],
@@ -32,6 +34,7 @@ impl Query {
     pub const MAX_ATOMS: usize = leapfrog_join::MAX_ATOMS;
 }
 
+#[repr(C)]
 pub struct Tables {
     pub count: usize,
     pub tables: [ColumnTrie; Tables::MAX_TABLES],
@@ -41,6 +44,7 @@ impl Tables {
     pub const MAX_TABLES: usize = 8;
 }
 
+#[repr(C)]
 pub struct Joined {
     pub number: u64,
     pub rows: usize,

@@ -19,6 +19,7 @@ pub enum SeekStrategy {
 }
 
 // Where the seek ended, and how many keys it looked at.
+#[repr(C)]
 pub struct Sought {
     pub offset: usize,
     pub probes: usize,

@@ -1,0 +1,2 @@
+-- What the exports add to the calls' own definitions: the numbers by which C names a strategy.
+pub mod Strategy

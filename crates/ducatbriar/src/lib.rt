@@ -1,0 +1,182 @@
+// The public calls for C and for Rust to link. `rt staticlib ducatbriar` makes the archive, and include/ducatbriar.h declares it.
+//
+// Each function here is a public call under another name: it passes its arguments on, and its contract is the call's own. None asks anything of
+// its caller by a `requires`, since nothing checks a C caller. Headers, cursors and answers cross by value, as C lays them out. A strategy crosses
+// as a number (specs/Strategy.antt), since an enum from C could hold a number that is none of its cases.
+ghost use mathlib.Core.Path.{_≡_};
+ghost use Rattle.seek.specs.Seek.{seekOf};
+ghost use Rattle.grade.specs.Word.{wordOf, gradeOf};
+ghost use Rattle.column_trie.specs.Table.{emptyTable, undamaged};
+ghost use Rattle.column_trie_build.specs.Build.{Builds};
+ghost use Rattle.column_trie_insert.specs.Insert.{Inserts};
+ghost use Rattle.column_trie_listing.specs.List.{Lists};
+ghost use Rattle.column_trie_iter.specs.Cursor.{keyOf, nextOf, soughtOf, endOf, openOf, upOf};
+ghost use Rattle.leapfrog_triejoin.specs.Outcome.{Joins};
+ghost use Rattle.ducatbriar.specs.Strategy.{strategyOf};
+use column_trie::ColumnTrie;
+use column_trie_build::Built;
+use column_trie_insert::Inserted;
+use column_trie_iter::ColumnTrieIter;
+use column_trie_iter::EndAnswer;
+use column_trie_iter::KeyAnswer;
+use column_trie_iter::NextAnswer;
+use column_trie_iter::OpenAnswer;
+use column_trie_iter::SeekAnswer;
+use column_trie_iter::UpAnswer;
+use column_trie_listing::Listed;
+use leapfrog_triejoin::Joined;
+use leapfrog_triejoin::Query;
+use leapfrog_triejoin::Tables;
+use seek::SeekStrategy;
+use seek::Sought;
+
+fn strategy_of(word: u64) -> SeekStrategy
+    ensures { λ r. ⌜ r ≡ strategyOf word ⌝ }
+{
+    if word == 0 {
+        return SeekStrategy::Linear;
+    }
+    if word == 1 {
+        return SeekStrategy::Binary;
+    }
+    SeekStrategy::Galloping
+}
+
+#[no_mangle]
+pub extern "C" fn ducatbriar_partition_point(
+    strategy: u64,
+    remaining: &[u64],
+    target: u64,
+) -> Sought
+    ensures { λ r. ⌜ r ≡ seekOf (strategyOf strategy) (now (remaining .entry)) target ⌝ }
+{
+    seek::partition_point(strategy_of(strategy), remaining, target)
+}
+
+#[no_mangle]
+pub extern "C" fn ducatbriar_word_of(grade: i64) -> u64
+    ensures { λ r. ⌜ r ≡ wordOf grade ⌝ }
+{
+    grade::word_of(grade)
+}
+
+#[no_mangle]
+pub extern "C" fn ducatbriar_grade_of(word: u64) -> i64
+    ensures { λ r. ⌜ r ≡ gradeOf word ⌝ }
+{
+    grade::grade_of(word)
+}
+
+#[no_mangle]
+pub extern "C" fn ducatbriar_empty(start: usize, arity: usize, capacity: usize) -> ColumnTrie
+    ensures { λ r. ⌜ r ≡ emptyTable start arity capacity ⌝ }
+{
+    ColumnTrie::empty(start, arity, capacity)
+}
+
+#[no_mangle]
+pub extern "C" fn ducatbriar_undamaged(pool: &[u64], table: ColumnTrie) -> bool
+    ensures { λ r. ⌜ r ≡ undamaged (now (pool .entry)) table ⌝ }
+{
+    column_trie::undamaged(pool, table)
+}
+
+#[no_mangle]
+pub extern "C" fn ducatbriar_build(
+    rows: &mut [u64],
+    pool: &mut [u64],
+    start: usize,
+    arity: usize,
+    capacity: usize,
+) -> Built
+    ensures { λ r. ⌜ Builds (now (rows .entry)) (now (pool .entry)) start arity capacity (now (rows .exit)) (now (pool .exit)) r ⌝ }
+{
+    column_trie_build::build(rows, pool, start, arity, capacity)
+}
+
+#[no_mangle]
+pub extern "C" fn ducatbriar_insert(pool: &mut [u64], table: ColumnTrie, tuple: &[u64]) -> Inserted
+    ensures { λ r. ⌜ Inserts (now (pool .entry)) (now (pool .exit)) table (now (tuple .entry)) r ⌝ }
+{
+    column_trie_insert::insert(pool, table, tuple)
+}
+
+#[no_mangle]
+pub extern "C" fn ducatbriar_list(pool: &[u64], table: ColumnTrie, text: &mut [u8]) -> Listed
+    ensures { λ r. ⌜ Lists (now (pool .entry)) table (now (text .entry)) (now (text .exit)) r ⌝ }
+{
+    column_trie_listing::list(pool, table, text)
+}
+
+#[no_mangle]
+pub extern "C" fn ducatbriar_key(pool: &[u64], table: ColumnTrie, iter: ColumnTrieIter) -> KeyAnswer
+    ensures { λ r. ⌜ r ≡ keyOf (now (pool .entry)) table iter ⌝ }
+{
+    iter.key(pool, table)
+}
+
+#[no_mangle]
+pub extern "C" fn ducatbriar_next(
+    pool: &[u64],
+    table: ColumnTrie,
+    iter: ColumnTrieIter,
+) -> NextAnswer
+    ensures { λ r. ⌜ r ≡ nextOf (now (pool .entry)) table iter ⌝ }
+{
+    iter.next(pool, table)
+}
+
+#[no_mangle]
+pub extern "C" fn ducatbriar_seek(
+    pool: &[u64],
+    table: ColumnTrie,
+    iter: ColumnTrieIter,
+    strategy: u64,
+    target: u64,
+) -> SeekAnswer
+    ensures { λ r. ⌜ r ≡ soughtOf (now (pool .entry)) table iter (strategyOf strategy) target ⌝ }
+{
+    iter.seek(pool, table, strategy_of(strategy), target)
+}
+
+#[no_mangle]
+pub extern "C" fn ducatbriar_at_end(
+    pool: &[u64],
+    table: ColumnTrie,
+    iter: ColumnTrieIter,
+) -> EndAnswer
+    ensures { λ r. ⌜ r ≡ endOf (now (pool .entry)) table iter ⌝ }
+{
+    iter.at_end(pool, table)
+}
+
+#[no_mangle]
+pub extern "C" fn ducatbriar_open(
+    pool: &[u64],
+    table: ColumnTrie,
+    iter: ColumnTrieIter,
+) -> OpenAnswer
+    ensures { λ r. ⌜ r ≡ openOf (now (pool .entry)) table iter ⌝ }
+{
+    iter.open(pool, table)
+}
+
+#[no_mangle]
+pub extern "C" fn ducatbriar_up(pool: &[u64], table: ColumnTrie, iter: ColumnTrieIter) -> UpAnswer
+    ensures { λ r. ⌜ r ≡ upOf (now (pool .entry)) table iter ⌝ }
+{
+    iter.up(pool, table)
+}
+
+#[no_mangle]
+pub extern "C" fn ducatbriar_join(
+    strategy: u64,
+    pool: &[u64],
+    tables: Tables,
+    query: Query,
+    window: &mut [u64],
+) -> Joined
+    ensures { λ r. ⌜ Joins (now (pool .entry)) tables query (now (window .entry)) r (now (window .exit)) ⌝ }
+{
+    leapfrog_triejoin::join(strategy_of(strategy), pool, tables, query, window)
+}

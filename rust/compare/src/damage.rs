@@ -1,0 +1,166 @@
+//! Damaged words: every call on small tables with one word changed, and cursors at every place, against document 01's rules.
+use crate::case::{show_rows, Case, Tally};
+use crate::cursors::table;
+use crate::model::{self, Row};
+use crate::rng::Rng;
+use ducatbriar::calls::*;
+use std::fmt;
+
+/// The words of a header.
+pub fn header_words(t: &mut ColumnTrie) -> Vec<&mut u64> {
+    let mut all = vec![&mut t.start, &mut t.arity, &mut t.capacity, &mut t.tuple_count];
+    all.extend(&mut t.data_len);
+    all.extend(&mut t.interval_len);
+    all
+}
+
+const HEADER: usize = 20;
+
+/// A small table with some words changed: the header's first, then the pool's.
+#[derive(Clone)]
+pub struct Damaged {
+    pub arity: usize,
+    pub rows: Vec<Row>,
+    pub changes: Vec<(usize, u64)>,
+}
+
+impl fmt::Display for Damaged {
+    fn fmt(&self, f: &mut fmt::Formatter) -> fmt::Result {
+        writeln!(f, "arity {}, rows {}", self.arity, show_rows(&self.rows))?;
+        write!(
+            f,
+            "words changed {:?} (start, arity, capacity, count, data lengths, interval lengths, then the pool)",
+            self.changes
+        )
+    }
+}
+
+/// Words that a single change may put in the place of `word`.
+pub fn others(word: u64) -> Vec<u64> {
+    let mut all = vec![0, 1, 2, 3, 4, 5, 7, 8, 9, word.wrapping_add(1), word.wrapping_sub(1)];
+    all.extend([4096, 4097, 1 << 32, (1 << 63) - 1, 1 << 63, u64::MAX - 1, u64::MAX]);
+    all.sort();
+    all.dedup();
+    all.retain(|&other| other != word);
+    all
+}
+
+impl Damaged {
+    fn cursors(&self, t: ColumnTrie) -> Vec<ColumnTrieIter> {
+        // Around the lists of a small table, and far outside.
+        let numbers = |most: u64| (0..=most).chain([u64::MAX]);
+        let longest = self.rows.len() as u64 + 1;
+        numbers(t.arity.min(8) + 1)
+            .flat_map(|depth| {
+                numbers(longest).flat_map(move |interval_i| {
+                    numbers(longest).map(move |slice_offset| ColumnTrieIter { depth, interval_i, slice_offset })
+                })
+            })
+            .collect()
+    }
+
+    fn cursor_calls(&self, tally: &mut Tally, pool: &[u64], t: ColumnTrie) -> Result<(), String> {
+        for i in self.cursors(t) {
+            tally.same(i.key(pool, t), model::key(pool, t, i), || format!("key of {i:?}"))?;
+            tally.same(i.next(pool, t), model::next(pool, t, i), || format!("next of {i:?}"))?;
+            tally.same(i.at_end(pool, t), model::at_end(pool, t, i), || format!("at_end of {i:?}"))?;
+            tally.same(i.open(pool, t), model::open(pool, t, i), || format!("open of {i:?}"))?;
+            tally.same(i.up(pool, t), model::up(pool, t, i), || format!("up of {i:?}"))?;
+            for strategy in SeekStrategy::ALL {
+                for target in [0, 2, u64::MAX] {
+                    let expected = model::seek(pool, t, i, strategy, target);
+                    tally.same(i.seek(pool, t, strategy, target), expected, || format!("{strategy:?} seek {target} of {i:?}"))?;
+                }
+            }
+        }
+        Ok(())
+    }
+}
+
+impl Case for Damaged {
+    fn run(&self, tally: &mut Tally) -> Result<(), String> {
+        let (mut pool, mut t) = table(self.arity, &self.rows);
+        {
+            let mut words = header_words(&mut t);
+            words.extend(&mut pool);
+            let len = words.len();
+            self.changes.iter().for_each(|&(i, word)| *words[i % len] = word);
+        }
+        tally.same(undamaged(&pool, t), model::undamaged(&pool, t), || "undamaged".into())?;
+
+        let mut text = vec![b'~'; 400];
+        let mut expected = text.clone();
+        let answer = list(&pool, t, &mut text);
+        tally.same(answer, model::list(&pool, t, &mut expected), || "answer of the listing".into())?;
+        tally.same(text, expected, || "listing".into())?;
+
+        for tuple in
+            [vec![1; self.arity], vec![0; self.arity], self.rows.first().cloned().unwrap_or_default(), vec![9; self.arity + 1]]
+        {
+            let (mut left, mut expected) = (pool.clone(), pool.clone());
+            let answer = insert(&mut left, t, &tuple);
+            tally.same(answer, model::insert(&mut expected, t, &tuple), || format!("answer to insert {tuple:?}"))?;
+            tally.same(left, expected, || format!("pool after insert {tuple:?}"))?;
+        }
+
+        let mut tables = Tables { count: 1, ..Default::default() };
+        tables.tables[0] = t;
+        let mut query = Query { n: self.arity as u64, atom_count: 1, ..Default::default() };
+        query.atoms[0].len = query.n;
+        for v in 0..self.arity {
+            (query.order[v], query.atoms[0].variables[v]) = (v as u64, v as u64);
+        }
+        for strategy in SeekStrategy::ALL {
+            let (mut window, mut expected) = (vec![77; 9], vec![77; 9]);
+            let answer = join(strategy, &pool, tables, query, &mut window);
+            tally.same(answer, model::join(&pool, &tables, &query, &mut expected), || format!("{strategy:?} join"))?;
+            tally.same(window, expected, || format!("{strategy:?} join, window"))?;
+        }
+        self.cursor_calls(tally, &pool, t)
+    }
+
+    fn smaller(&self) -> Vec<Self> {
+        let changes = crate::case::shorter(&self.changes).into_iter().map(|changes| Damaged { changes, ..self.clone() });
+        changes.chain(crate::case::shorter(&self.rows).into_iter().map(|rows| Damaged { rows, ..self.clone() })).collect()
+    }
+}
+
+/// Small tables, each word of header and pool changed to each of the others.
+pub fn exhaustive() -> impl Iterator<Item = Damaged> {
+    let tables: [(usize, &[&[u64]]); 6] = [
+        (1, &[]),
+        (1, &[&[1], &[3]]),
+        (2, &[]),
+        (2, &[&[1, 2], &[1, 3], &[2, 4]]),
+        (2, &[&[1, 5], &[2, 0], &[2, 5], &[4, 1]]),
+        (3, &[&[1, 2, 3], &[1, 2, 4], &[1, 3, 3], &[2, 2, 1]]),
+    ];
+    tables.into_iter().flat_map(|(arity, rows)| {
+        let rows: Vec<Row> = rows.iter().map(|row| row.to_vec()).collect();
+        let (mut pool, mut t) = table(arity, &rows);
+        let mut words: Vec<u64> = header_words(&mut t).into_iter().map(|word| *word).collect();
+        assert_eq!(words.len(), HEADER);
+        words.append(&mut pool);
+        words.into_iter().enumerate().flat_map(move |(i, word)| {
+            let rows = rows.clone();
+            others(word).into_iter().map(move |other| Damaged { arity, rows: rows.clone(), changes: vec![(i, other)] })
+        })
+    })
+}
+
+/// Two to four words changed at once, of any small table.
+pub fn random(rng: &mut Rng) -> Damaged {
+    let arity = rng.within(1, 4);
+    let count = rng.within(0, 5);
+    let rows: Vec<Row> = (0..count).map(|_| (0..arity).map(|_| rng.below(4) as u64).collect()).collect();
+    let (pool, _) = table(arity, &rows);
+    let changes = (0..rng.within(2, 4))
+        .map(|_| {
+            let i = rng.below(HEADER + pool.len());
+            let odd = others(0);
+            let word = if rng.below(5) == 0 { rng.pick(&odd) } else { rng.below(6) as u64 };
+            (i, word)
+        })
+        .collect();
+    Damaged { arity, rows, changes }
+}

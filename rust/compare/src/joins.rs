@@ -1,0 +1,257 @@
+//! Joins: rows under all strategies and in windows of every size around full against kermit, and refusals against document 01's table.
+use crate::case::{shorter, show_rows, smaller_rows, Case, Tally};
+use crate::kermit;
+use crate::model::{self, Row};
+use crate::rng::Rng;
+use crate::tables::{all_rows, marked};
+use ducatbriar::calls::*;
+use oracle::{BinarySeek, GallopingSeek, LinearSeek};
+use std::fmt;
+
+#[derive(Clone)]
+pub struct Joins {
+    pub order: Vec<usize>,
+    /// Arity and rows of each table.
+    pub tables: Vec<(usize, Vec<Row>)>,
+    /// Table and variables of each atom.
+    pub atoms: Vec<(usize, Vec<usize>)>,
+}
+
+impl fmt::Display for Joins {
+    fn fmt(&self, f: &mut fmt::Formatter) -> fmt::Result {
+        writeln!(f, "order {:?}", self.order)?;
+        for (i, (arity, rows)) in self.tables.iter().enumerate() {
+            writeln!(f, "table {i}, arity {arity}: {}", show_rows(rows))?;
+        }
+        for (table, variables) in &self.atoms {
+            write!(f, "atom over table {table}, variables {variables:?}; ")?;
+        }
+        Ok(())
+    }
+}
+
+/// What a join is handed.
+#[derive(Clone)]
+pub struct Call {
+    pub pool: Vec<u64>,
+    pub tables: Tables,
+    pub query: Query,
+}
+
+impl Joins {
+    /// The tables one behind the other in a pool, and the query in the call's words.
+    pub fn call(&self) -> Call {
+        let mut call = Call { pool: vec![], tables: Tables::default(), query: Query::default() };
+        for (i, (arity, rows)) in self.tables.iter().enumerate() {
+            let (start, capacity) = (call.pool.len(), rows.len().max(1));
+            call.pool.extend(marked(2 * arity * capacity));
+            let built = build(&mut rows.concat(), &mut call.pool, start as u64, *arity as u64, capacity as u64);
+            assert_eq!(built.number, 0, "the rows of a case fit its table");
+            call.tables.tables[i] = built.table;
+        }
+        call.tables.count = self.tables.len() as u64;
+        call.query.n = self.order.len() as u64;
+        for (place, &v) in call.query.order.iter_mut().zip(&self.order) {
+            *place = v as u64;
+        }
+        call.query.atom_count = self.atoms.len() as u64;
+        for (place, (table, variables)) in call.query.atoms.iter_mut().zip(&self.atoms) {
+            *place = Atom { table: *table as u64, len: variables.len() as u64, ..Default::default() };
+            place.variables.iter_mut().zip(variables).for_each(|(place, &v)| *place = v as u64);
+        }
+        call
+    }
+
+    fn theirs<S: oracle::SeekStrategy>(&self) -> Vec<Row> {
+        let tries: Vec<_> = self.tables.iter().map(|(arity, rows)| kermit::trie::<S>(*arity, rows)).collect();
+        kermit::join(&self.order, &self.atoms, &tries)
+    }
+}
+
+/// Every size from two rows and a word short of full to a row and a word over it, and from none to a row and a word.
+fn windows(n: usize, rows: usize) -> Vec<usize> {
+    let full = n * rows;
+    let mut sizes: Vec<usize> = (full.saturating_sub(2 * n + 1)..=full + n + 1).chain(0..=n + 1).collect();
+    sizes.sort();
+    sizes.dedup();
+    sizes
+}
+
+impl Case for Joins {
+    fn run(&self, tally: &mut Tally) -> Result<(), String> {
+        let call = self.call();
+        let n = self.order.len();
+        tally.same(model::join_number(&call.pool, &call.tables, &call.query), 0, || "the query passes the checks".into())?;
+        let by_definition = model::answers(&call.pool, &call.tables, &call.query);
+        for strategy in SeekStrategy::ALL {
+            let rows = match strategy {
+                SeekStrategy::Linear => self.theirs::<LinearSeek>(),
+                SeekStrategy::Binary => self.theirs::<BinarySeek>(),
+                SeekStrategy::Galloping => self.theirs::<GallopingSeek>(),
+            };
+            tally.same(&by_definition, &rows, || format!("{strategy:?}, rows by the definition and kermit's"))?;
+            for size in windows(n, rows.len()) {
+                let mut window = marked(size);
+                let mut expected = window.clone();
+                let answer = join(strategy, &call.pool, call.tables, call.query, &mut window);
+                let joined = model::windowed(n, &rows, &mut expected);
+                tally.same(answer, joined, || format!("{strategy:?}, window of {size}, answer"))?;
+                tally.same(window, expected, || format!("{strategy:?}, window of {size}, words"))?;
+            }
+        }
+        Ok(())
+    }
+
+    fn smaller(&self) -> Vec<Self> {
+        let mut all = vec![];
+        for atoms in shorter(&self.atoms) {
+            if self.order.iter().all(|v| atoms.iter().any(|(_, list)| list.contains(v))) {
+                all.push(Joins { atoms, ..self.clone() });
+            }
+        }
+        for (i, (arity, rows)) in self.tables.iter().enumerate() {
+            all.extend(smaller_rows(rows).into_iter().map(|rows| {
+                let mut tables = self.tables.clone();
+                tables[i] = (*arity, rows);
+                Joins { tables, ..self.clone() }
+            }));
+        }
+        all
+    }
+}
+
+/// All triangles over relations of keys 0 and 1, and all paths of two atoms over one relation of keys 0 to 2 with up to four rows, in every order.
+pub fn exhaustive() -> impl Iterator<Item = Joins> {
+    let pairs = crate::cursors::subsets(&all_rows(2, 2), 4);
+    let all = pairs.clone();
+    let triples = pairs.into_iter().flat_map(move |r| {
+        let all = all.clone();
+        let again = all.clone();
+        all.into_iter().flat_map(move |s| {
+            let r = r.clone();
+            again.clone().into_iter().map(move |t| [r.clone(), s.clone(), t])
+        })
+    });
+    let triangles = triples.enumerate().map(|(i, relations)| {
+        let order = [[0, 1, 2], [0, 2, 1], [1, 0, 2], [1, 2, 0], [2, 0, 1], [2, 1, 0]][i % 6].to_vec();
+        let follow = |u: usize, v: usize| order.iter().copied().filter(|&w| w == u || w == v).collect::<Vec<_>>();
+        let atoms = vec![(0, follow(0, 1)), (1, follow(1, 2)), (2, follow(0, 2))];
+        Joins { tables: relations.into_iter().map(|rows| (2, rows)).collect(), atoms, order }
+    });
+    let paths = crate::cursors::subsets(&all_rows(2, 3), 4).into_iter().map(|rows| Joins {
+        order: vec![0, 1, 2],
+        tables: vec![(2, rows)],
+        atoms: vec![(0, vec![0, 1]), (0, vec![1, 2])],
+    });
+    triangles.chain(paths)
+}
+
+pub fn random(rng: &mut Rng) -> Joins {
+    let n = rng.within(1, 6);
+    let mut order: Vec<usize> = (0..n).collect();
+    rng.shuffle(&mut order);
+    let count = rng.within(1, 8);
+    let mut lists: Vec<Vec<usize>> = (0..count)
+        .map(|_| {
+            let mut list = order.clone();
+            rng.shuffle(&mut list);
+            list.truncate(rng.within(1, n.min(3)));
+            list
+        })
+        .collect();
+    for v in 0..n {
+        if !lists.iter().any(|list| list.contains(&v)) {
+            lists[rng.below(count)].push(v);
+        }
+    }
+    let keys = rng.keys();
+    let most = rng.pick(&[2, 6, 25]);
+    let mut tables: Vec<(usize, Vec<Row>)> = vec![];
+    let mut atoms = vec![];
+    for mut list in lists {
+        list.sort_by_key(|v| order.iter().position(|w| w == v));
+        let shared: Vec<usize> = (0..tables.len()).filter(|&i| tables[i].0 == list.len()).collect();
+        let table = if !shared.is_empty() && rng.below(3) == 0 {
+            rng.pick(&shared)
+        } else {
+            let count = rng.within(0, 2 * most).min(most);
+            let rows = (0..count).map(|_| rng.row(list.len(), keys)).collect();
+            tables.push((list.len(), rows));
+            tables.len() - 1
+        };
+        atoms.push((table, list));
+    }
+    Joins { order, tables, atoms }
+}
+
+/// A query with some words changed: its number, rows and window by document 01.
+#[derive(Clone)]
+pub struct Changed {
+    base: Joins,
+    /// Which word, counted through the query, the tables' count and headers, and the pool; and what it becomes.
+    changes: Vec<(usize, u64)>,
+    window: usize,
+}
+
+impl fmt::Display for Changed {
+    fn fmt(&self, f: &mut fmt::Formatter) -> fmt::Result {
+        writeln!(f, "{}", self.base)?;
+        write!(f, "words changed {:?}, window of {}", self.changes, self.window)
+    }
+}
+
+/// The words of a join's arguments, one by one.
+fn words(call: &mut Call) -> Vec<&mut u64> {
+    let Call { pool, tables, query } = call;
+    let mut all = vec![&mut query.n, &mut query.atom_count, &mut tables.count];
+    all.extend(&mut query.order);
+    for atom in &mut query.atoms {
+        all.push(&mut atom.table);
+        all.push(&mut atom.len);
+        all.extend(&mut atom.variables);
+    }
+    all.extend(tables.tables.iter_mut().flat_map(crate::damage::header_words));
+    all.extend(pool);
+    all
+}
+
+impl Case for Changed {
+    fn run(&self, tally: &mut Tally) -> Result<(), String> {
+        let mut call = self.base.call();
+        let mut all = words(&mut call);
+        for &(i, word) in &self.changes {
+            let len = all.len();
+            *all[i % len] = word;
+        }
+        for strategy in SeekStrategy::ALL {
+            let mut window = marked(self.window);
+            let mut expected = window.clone();
+            let answer = join(strategy, &call.pool, call.tables, call.query, &mut window);
+            let joined = model::join(&call.pool, &call.tables, &call.query, &mut expected);
+            tally.same(answer, joined, || format!("{strategy:?}, answer"))?;
+            tally.same(window, expected, || format!("{strategy:?}, words"))?;
+        }
+        Ok(())
+    }
+
+    fn smaller(&self) -> Vec<Self> {
+        let mut all: Vec<Changed> =
+            shorter(&self.changes).into_iter().map(|changes| Changed { changes, ..self.clone() }).collect();
+        all.extend(self.base.smaller().into_iter().map(|base| Changed { base, ..self.clone() }));
+        all
+    }
+}
+
+pub fn changed(rng: &mut Rng) -> Changed {
+    let base = random(rng);
+    // The query's own words, 3 + 8 + 8 * 10 of them, more often than the rest.
+    let changes = (0..rng.within(0, 3))
+        .map(|_| {
+            let i = if rng.below(3) == 0 { rng.below(2000) } else { rng.below(91) };
+            let odd = [u64::MAX, 1 << 63, 1 << 32, 4096, 9, 8, 7];
+            let word = if rng.below(4) == 0 { rng.pick(&odd) } else { rng.below(6) as u64 };
+            (i, word)
+        })
+        .collect();
+    Changed { base, changes, window: rng.below(30) }
+}

@@ -1,0 +1,24 @@
+//! Runs Ducatbriar against kermit. `main.rs` says how to run them, each file what it compares.
+//!
+//! What kermit does not have (refusals, damaged words, probes under document 01's halving rule) is held to `model.rs`, which is written from that document.
+//! Intended differences stand in docs/DIFFERENCES.md. Any other difference fails.
+#[cfg(kermit)]
+pub mod case;
+#[cfg(kermit)]
+pub mod cursors;
+#[cfg(kermit)]
+pub mod damage;
+#[cfg(kermit)]
+pub mod joins;
+#[cfg(kermit)]
+pub mod kermit;
+#[cfg(kermit)]
+pub mod model;
+#[cfg(kermit)]
+pub mod rng;
+#[cfg(kermit)]
+pub mod runs;
+#[cfg(kermit)]
+pub mod seeks;
+#[cfg(kermit)]
+pub mod tables;

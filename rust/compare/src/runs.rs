@@ -1,0 +1,49 @@
+//! The runs by name: what is exhaustive, then so many random cases.
+use crate::case::{check, Case, Tally};
+use crate::rng::Rng;
+use crate::{cursors, damage, joins, seeks, tables};
+
+pub const NAMES: [&str; 5] = ["seeks", "tables", "cursors", "joins", "damage"];
+
+fn all<C: Case>(tally: &mut Tally, cases: impl IntoIterator<Item = C>) -> Result<(), String> {
+    cases.into_iter().try_for_each(|case| check(case, tally))
+}
+
+/// `rounds` random cases.
+fn some<C: Case>(tally: &mut Tally, rng: &mut Rng, rounds: usize, case: impl Fn(&mut Rng) -> C) -> Result<(), String> {
+    (0..rounds).try_for_each(|_| check(case(rng), tally))
+}
+
+/// Runs the part of this name. `rounds` scales the random cases; a case of one part takes longer than one of another, so the parts have different shares.
+pub fn run(name: &str, seed: u64, rounds: usize) -> Result<Tally, String> {
+    let mut tally = Tally::default();
+    let t = &mut tally;
+    let rng = &mut Rng::new(seed, name);
+    match name {
+        "seeks" => {
+            all(t, seeks::exhaustive())?;
+            some(t, rng, 20 * rounds, seeks::random)?;
+        }
+        "tables" => {
+            all(t, tables::exhaustive())?;
+            all(t, tables::large(rng))?;
+            some(t, rng, 2 * rounds, tables::random)?;
+            some(t, rng, 10 * rounds, tables::refused)?;
+        }
+        "cursors" => {
+            all(t, cursors::exhaustive())?;
+            some(t, rng, 4 * rounds, cursors::random)?;
+        }
+        "joins" => {
+            all(t, joins::exhaustive())?;
+            some(t, rng, rounds, joins::random)?;
+            some(t, rng, 4 * rounds, joins::changed)?;
+        }
+        "damage" => {
+            all(t, damage::exhaustive())?;
+            some(t, rng, rounds / 10, damage::random)?;
+        }
+        _ => return Err(format!("no part {name}: there are {NAMES:?}")),
+    }
+    Ok(tally)
+}

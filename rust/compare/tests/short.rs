@@ -1,0 +1,33 @@
+//! Each part once, with few random cases. The program `compare` runs as many as one likes.
+#[cfg(kermit)]
+mod short {
+    fn run(part: &str) {
+        let tally = compare::runs::run(part, 1, 50).unwrap_or_else(|text| panic!("{text}"));
+        assert!(tally.comparisons > 0);
+    }
+
+    #[test]
+    fn seeks() {
+        run("seeks");
+    }
+
+    #[test]
+    fn tables() {
+        run("tables");
+    }
+
+    #[test]
+    fn cursors() {
+        run("cursors");
+    }
+
+    #[test]
+    fn joins() {
+        run("joins");
+    }
+
+    #[test]
+    fn damage() {
+        run("damage");
+    }
+}

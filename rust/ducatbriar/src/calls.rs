@@ -1,0 +1,216 @@
+//! The calls, one function each, over words that the caller keeps.
+//!
+//! Each takes whatever words, counts, headers and cursors it is handed, never panics, and answers with a number: 0, or that of a [`Refusal`](crate::Refusal).
+//! Names and layouts are those of include/ducatbriar.h, which says what each call leaves as it was. Every number crosses as 64 bits.
+
+/// How a run is probed: key by key from the front, by halves, or at doubling distances and then by halves.
+#[derive(Clone, Copy, Debug, Default, PartialEq, Eq, Hash)]
+#[repr(u64)]
+pub enum SeekStrategy {
+    Linear = 0,
+    Binary = 1,
+    #[default]
+    Galloping = 2,
+}
+
+impl SeekStrategy {
+    pub const ALL: [SeekStrategy; 3] = [SeekStrategy::Linear, SeekStrategy::Binary, SeekStrategy::Galloping];
+}
+
+/// Declares a struct as C lays it out, with equality of its fields.
+macro_rules! c_struct {
+    ($(#[$doc:meta])* $name:ident { $($field:ident: $type:ty),+ $(,)? }) => {
+        $(#[$doc])*
+        #[derive(Clone, Copy, Debug, Default, PartialEq, Eq)]
+        #[repr(C)]
+        pub struct $name { $(pub $field: $type),+ }
+    };
+}
+
+c_struct!(
+    /// Where a seek ended, and how many keys it looked at.
+    Sought { offset: u64, probes: u64 }
+);
+c_struct!(
+    /// A table's header: where its words start in the pool, its limits, the lengths of each layer's two lists, and the number of distinct rows.
+    ColumnTrie { start: u64, arity: u64, capacity: u64, data_len: [u64; 8], interval_len: [u64; 8], tuple_count: u64 }
+);
+c_struct!(Built { number: u64, table: ColumnTrie });
+c_struct!(Inserted { number: u64, is_new: bool, table: ColumnTrie });
+c_struct!(Listed { number: u64, len: u64 });
+c_struct!(
+    /// A cursor: its depth, whose children it looks at, and how many of them it has passed.
+    ColumnTrieIter { depth: u64, interval_i: u64, slice_offset: u64 }
+);
+c_struct!(KeyAnswer { number: u64, found: bool, key: u64 });
+c_struct!(NextAnswer { number: u64, found: bool, key: u64, iter: ColumnTrieIter });
+c_struct!(SeekAnswer { number: u64, found: bool, probes: u64, iter: ColumnTrieIter });
+c_struct!(EndAnswer { number: u64, at_end: bool });
+c_struct!(OpenAnswer { number: u64, opened: bool, iter: ColumnTrieIter });
+c_struct!(UpAnswer { number: u64, risen: bool, iter: ColumnTrieIter });
+c_struct!(
+    /// The number of the table that an atom reads, and its list, `len` variables long.
+    Atom { table: u64, len: u64, variables: [u64; 8] }
+);
+c_struct!(
+    /// The order, `n` variables long, and `atom_count` atoms.
+    Query { n: u64, order: [u64; 8], atom_count: u64, atoms: [Atom; 8] }
+);
+c_struct!(
+    /// `count` headers.
+    Tables { count: u64, tables: [ColumnTrie; 8] }
+);
+c_struct!(Joined { number: u64, rows: u64 });
+
+mod c {
+    use super::*;
+    unsafe extern "C" {
+        pub fn ducatbriar_partition_point(strategy: u64, remaining: *const u64, len: u64, target: u64) -> Sought;
+        pub fn ducatbriar_word_of(grade: i64) -> u64;
+        pub fn ducatbriar_grade_of(word: u64) -> i64;
+        pub fn ducatbriar_empty(start: u64, arity: u64, capacity: u64) -> ColumnTrie;
+        pub fn ducatbriar_undamaged(pool: *const u64, len: u64, table: ColumnTrie) -> bool;
+        pub fn ducatbriar_build(
+            rows: *mut u64,
+            rows_len: u64,
+            pool: *mut u64,
+            pool_len: u64,
+            start: u64,
+            arity: u64,
+            capacity: u64,
+        ) -> Built;
+        pub fn ducatbriar_insert(pool: *mut u64, len: u64, table: ColumnTrie, tuple: *const u64, tuple_len: u64) -> Inserted;
+        pub fn ducatbriar_list(pool: *const u64, len: u64, table: ColumnTrie, text: *mut u8, text_len: u64) -> Listed;
+        pub fn ducatbriar_key(pool: *const u64, len: u64, table: ColumnTrie, iter: ColumnTrieIter) -> KeyAnswer;
+        pub fn ducatbriar_next(pool: *const u64, len: u64, table: ColumnTrie, iter: ColumnTrieIter) -> NextAnswer;
+        pub fn ducatbriar_seek(
+            pool: *const u64,
+            len: u64,
+            table: ColumnTrie,
+            iter: ColumnTrieIter,
+            strategy: u64,
+            target: u64,
+        ) -> SeekAnswer;
+        pub fn ducatbriar_at_end(pool: *const u64, len: u64, table: ColumnTrie, iter: ColumnTrieIter) -> EndAnswer;
+        pub fn ducatbriar_open(pool: *const u64, len: u64, table: ColumnTrie, iter: ColumnTrieIter) -> OpenAnswer;
+        pub fn ducatbriar_up(pool: *const u64, len: u64, table: ColumnTrie, iter: ColumnTrieIter) -> UpAnswer;
+        pub fn ducatbriar_join(
+            strategy: u64,
+            pool: *const u64,
+            len: u64,
+            tables: Tables,
+            query: Query,
+            window: *mut u64,
+            window_len: u64,
+        ) -> Joined;
+    }
+}
+
+// Each call below is safe: it is proved to stay inside the slices it is handed whatever the other arguments are, and a Rust slice has the length it says.
+// No call keeps a pointer.
+
+/// The offset in `remaining` at which `strategy` ends for `target`, and its probes.
+///
+/// ```
+/// use ducatbriar::calls::{partition_point, SeekStrategy, Sought};
+/// let run = [2, 4, 6, 8, 10, 12, 14, 16];
+/// assert_eq!(partition_point(SeekStrategy::Galloping, &run, 7), Sought { offset: 3, probes: 5 });
+/// ```
+pub fn partition_point(strategy: SeekStrategy, remaining: &[u64], target: u64) -> Sought {
+    unsafe { c::ducatbriar_partition_point(strategy as u64, remaining.as_ptr(), remaining.len() as u64, target) }
+}
+
+/// The word of a grade, a signed whole number of thousandths.
+///
+/// ```
+/// assert_eq!(ducatbriar::word_of(-1), 18_446_744_073_709_551_615);
+/// assert_eq!(ducatbriar::grade_of(ducatbriar::word_of(-1)), -1);
+/// ```
+pub fn word_of(grade: i64) -> u64 {
+    unsafe { c::ducatbriar_word_of(grade) }
+}
+
+/// The grade of a word.
+pub fn grade_of(word: u64) -> i64 {
+    unsafe { c::ducatbriar_grade_of(word) }
+}
+
+/// The header of a table without rows.
+pub fn empty(start: u64, arity: u64, capacity: u64) -> ColumnTrie {
+    unsafe { c::ducatbriar_empty(start, arity, capacity) }
+}
+
+/// Whether the table is undamaged.
+pub fn undamaged(pool: &[u64], table: ColumnTrie) -> bool {
+    unsafe { c::ducatbriar_undamaged(pool.as_ptr(), pool.len() as u64, table) }
+}
+
+/// Sorts the rows in place and leaves at `start` of the pool a table with each distinct row once. Refusals 1 to 5.
+pub fn build(rows: &mut [u64], pool: &mut [u64], start: u64, arity: u64, capacity: u64) -> Built {
+    unsafe {
+        c::ducatbriar_build(rows.as_mut_ptr(), rows.len() as u64, pool.as_mut_ptr(), pool.len() as u64, start, arity, capacity)
+    }
+}
+
+/// Inserts the tuple. Refusals 6, 4, 5.
+pub fn insert(pool: &mut [u64], table: ColumnTrie, tuple: &[u64]) -> Inserted {
+    unsafe { c::ducatbriar_insert(pool.as_mut_ptr(), pool.len() as u64, table, tuple.as_ptr(), tuple.len() as u64) }
+}
+
+/// Writes the table's listing at the front of the text. Refusals 6, 14.
+pub fn list(pool: &[u64], table: ColumnTrie, text: &mut [u8]) -> Listed {
+    unsafe { c::ducatbriar_list(pool.as_ptr(), pool.len() as u64, table, text.as_mut_ptr(), text.len() as u64) }
+}
+
+/// The rows of the query, written into the window by variable number. Refusals 8, 9, 10, 11, 6, 12.
+pub fn join(strategy: SeekStrategy, pool: &[u64], tables: Tables, query: Query, window: &mut [u64]) -> Joined {
+    unsafe {
+        c::ducatbriar_join(
+            strategy as u64,
+            pool.as_ptr(),
+            pool.len() as u64,
+            tables,
+            query,
+            window.as_mut_ptr(),
+            window.len() as u64,
+        )
+    }
+}
+
+/// The cursor's calls. Refusals 6 and 7.
+impl ColumnTrieIter {
+    /// At the root.
+    pub fn new() -> Self {
+        Self::default()
+    }
+
+    /// The key at the cursor, if it stands on one.
+    pub fn key(self, pool: &[u64], table: ColumnTrie) -> KeyAnswer {
+        unsafe { c::ducatbriar_key(pool.as_ptr(), pool.len() as u64, table, self) }
+    }
+
+    /// To the key behind, which it gives.
+    pub fn next(self, pool: &[u64], table: ColumnTrie) -> NextAnswer {
+        unsafe { c::ducatbriar_next(pool.as_ptr(), pool.len() as u64, table, self) }
+    }
+
+    /// To the first sibling not yet passed that is not below the target.
+    pub fn seek(self, pool: &[u64], table: ColumnTrie, strategy: SeekStrategy, target: u64) -> SeekAnswer {
+        unsafe { c::ducatbriar_seek(pool.as_ptr(), pool.len() as u64, table, self, strategy as u64, target) }
+    }
+
+    /// Whether no sibling is left.
+    pub fn at_end(self, pool: &[u64], table: ColumnTrie) -> EndAnswer {
+        unsafe { c::ducatbriar_at_end(pool.as_ptr(), pool.len() as u64, table, self) }
+    }
+
+    /// To the first of the present key's children, or of the root's.
+    pub fn open(self, pool: &[u64], table: ColumnTrie) -> OpenAnswer {
+        unsafe { c::ducatbriar_open(pool.as_ptr(), pool.len() as u64, table, self) }
+    }
+
+    /// Back to the key that was opened.
+    pub fn up(self, pool: &[u64], table: ColumnTrie) -> UpAnswer {
+        unsafe { c::ducatbriar_up(pool.as_ptr(), pool.len() as u64, table, self) }
+    }
+}

@@ -1,0 +1,33 @@
+//! A column trie and the leapfrog triejoin over it, with 64-bit keys on every machine.
+//!
+//! The work is done by Ducatbriar's proved calls, which this crate links as a static library. [`Pool`] and [`Table`] are what most callers want: a pool
+//! owns the words of its tables and lends them to cursors and joins. [`calls`] has the calls themselves, one function each, for callers who keep their own
+//! words.
+//!
+//! ```
+//! use ducatbriar::{Pool, Query, SeekStrategy};
+//!
+//! # fn main() -> Result<(), ducatbriar::Refusal> {
+//! let mut pool = Pool::new();
+//! let mut r = pool.build(2, 16, &[[1, 2], [1, 3]])?;
+//! let s = pool.build(2, 16, &[[2, 3], [3, 1]])?;
+//! let t = pool.build(2, 16, &[[1, 1], [1, 3], [2, 1]])?;
+//! assert!(pool.insert(&mut r, &[2, 3])?);
+//!
+//! // R(0, 1), S(1, 2), T(0, 2)
+//! let query = Query::new(&[0, 1, 2]).atom(0, &[0, 1]).atom(1, &[1, 2]).atom(2, &[0, 2]);
+//! let rows = pool.join(SeekStrategy::Galloping, &[&r, &s, &t], &query)?;
+//! assert_eq!(rows.iter().collect::<Vec<_>>(), [[1, 2, 3], [1, 3, 1], [2, 3, 1]]);
+//! # Ok(())
+//! # }
+//! ```
+mod pool;
+mod query;
+mod refusal;
+
+pub mod calls;
+
+pub use calls::{grade_of, word_of, SeekStrategy, Sought};
+pub use pool::{Cursor, Filled, Pool, Rows, Table};
+pub use query::Query;
+pub use refusal::Refusal;

@@ -1,0 +1,263 @@
+//! A pool that owns its tables' words, with cursors and joins over them.
+use crate::calls::{self, ColumnTrie, ColumnTrieIter, SeekStrategy, Tables};
+use crate::{Query, Refusal};
+
+/// The words of tables. It grows with every table that is built.
+#[derive(Clone, Debug, Default)]
+pub struct Pool {
+    words: Vec<u64>,
+}
+
+/// A table: the header of words in the pool that built it. With another pool it is refused with 6, or reads as whatever that pool's words say.
+#[derive(Debug, PartialEq, Eq)]
+pub struct Table {
+    header: ColumnTrie,
+}
+
+impl Table {
+    pub fn arity(&self) -> usize {
+        self.header.arity as usize
+    }
+
+    /// How many rows it has room for.
+    pub fn capacity(&self) -> usize {
+        self.header.capacity as usize
+    }
+
+    /// How many distinct rows it holds.
+    pub fn len(&self) -> usize {
+        self.header.tuple_count as usize
+    }
+
+    pub fn is_empty(&self) -> bool {
+        self.len() == 0
+    }
+
+    pub fn header(&self) -> ColumnTrie {
+        self.header
+    }
+}
+
+/// What a join wrote into a window.
+#[derive(Clone, Copy, Debug, PartialEq, Eq)]
+pub struct Filled {
+    /// The rows written.
+    pub rows: usize,
+    /// More rows exist than fit (number 12).
+    pub full: bool,
+}
+
+/// The rows of a join, in the order in which they were found.
+#[derive(Clone, Debug, PartialEq, Eq)]
+pub struct Rows {
+    width: usize,
+    count: usize,
+    words: Vec<u64>,
+}
+
+impl Rows {
+    pub fn len(&self) -> usize {
+        self.count
+    }
+
+    pub fn is_empty(&self) -> bool {
+        self.count == 0
+    }
+
+    /// Each row, by variable number.
+    pub fn iter(&self) -> impl Iterator<Item = &[u64]> {
+        (0..self.count).map(|i| &self.words[i * self.width..(i + 1) * self.width])
+    }
+}
+
+impl Pool {
+    pub fn new() -> Pool {
+        Pool::default()
+    }
+
+    pub fn words(&self) -> &[u64] {
+        &self.words
+    }
+
+    /// Builds a table of these rows, with room for `capacity` of them. A refused build leaves the pool as it was.
+    ///
+    /// ```
+    /// # fn main() -> Result<(), ducatbriar::Refusal> {
+    /// let mut pool = ducatbriar::Pool::new();
+    /// let table = pool.build(2, 10, &[[2, 4], [1, 3], [1, 2], [1, 3]])?;
+    /// assert_eq!(table.len(), 3);
+    /// assert_eq!(pool.build(2, 10, &[&[1, 2, 3][..]]).unwrap_err().number(), 4);
+    /// # Ok(())
+    /// # }
+    /// ```
+    pub fn build<R: AsRef<[u64]>>(&mut self, arity: usize, capacity: usize, rows: &[R]) -> Result<Table, Refusal> {
+        let start = self.words.len();
+        // The library refuses any other arity or capacity before it looks at the pool.
+        if (1..=8).contains(&arity) && (1..=4096).contains(&capacity) {
+            self.words.resize(start + 2 * arity * capacity, 0);
+        }
+        let mut words = rows.iter().flat_map(|row| row.as_ref()).copied().collect::<Vec<_>>();
+        let built = calls::build(&mut words, &mut self.words, start as u64, arity as u64, capacity as u64);
+        // Rows of other lengths could make up whole rows between them.
+        let whole = rows.iter().all(|row| row.as_ref().len() == arity);
+        let number = if whole || (1..=3).contains(&built.number) { built.number } else { 4 };
+        if number != 0 {
+            self.words.truncate(start);
+        }
+        Refusal::check(number).map(|()| Table { header: built.table })
+    }
+
+    /// Inserts a row, and says whether it was new.
+    ///
+    /// ```
+    /// # fn main() -> Result<(), ducatbriar::Refusal> {
+    /// let mut pool = ducatbriar::Pool::new();
+    /// let mut table = pool.build(2, 2, &[[1, 3], [2, 4]])?;
+    /// assert!(!pool.insert(&mut table, &[1, 3])?);
+    /// assert_eq!(pool.insert(&mut table, &[1, 2]).unwrap_err().number(), 5);
+    /// # Ok(())
+    /// # }
+    /// ```
+    pub fn insert(&mut self, table: &mut Table, row: &[u64]) -> Result<bool, Refusal> {
+        let inserted = calls::insert(&mut self.words, table.header, row);
+        table.header = inserted.table;
+        Refusal::check(inserted.number).map(|()| inserted.is_new)
+    }
+
+    /// The table's layers as text.
+    ///
+    /// ```
+    /// # fn main() -> Result<(), ducatbriar::Refusal> {
+    /// let mut pool = ducatbriar::Pool::new();
+    /// let table = pool.build(2, 4, &[[2, 4], [1, 3], [1, 2]])?;
+    /// let text = "LAYER 0\nData: [1, 2]\nInterval: [0]\nLAYER 1\nData: [2, 3, 4]\nInterval: [0, 2]\n";
+    /// assert_eq!(pool.list(&table)?, text);
+    /// # Ok(())
+    /// # }
+    /// ```
+    pub fn list(&self, table: &Table) -> Result<String, Refusal> {
+        let mut text = vec![0; 256];
+        loop {
+            let listed = calls::list(&self.words, table.header, &mut text);
+            if listed.number != 14 {
+                text.truncate(listed.len as usize);
+                let text = String::from_utf8(text).expect("a listing is plain ASCII");
+                return Refusal::check(listed.number).map(|()| text);
+            }
+            text.resize(4 * text.len(), 0);
+        }
+    }
+
+    /// A cursor at the table's root.
+    pub fn cursor<'a>(&'a self, table: &'a Table, strategy: SeekStrategy) -> Cursor<'a> {
+        Cursor { words: &self.words, header: &table.header, strategy, iter: ColumnTrieIter::new() }
+    }
+
+    fn tables(tables: &[&Table]) -> Tables {
+        let mut all = Tables { count: tables.len() as u64, ..Default::default() };
+        all.tables.iter_mut().zip(tables).for_each(|(place, table)| *place = table.header);
+        all
+    }
+
+    /// Writes the first rows of the query that fit into the window, each by variable number. Words behind them stay.
+    pub fn join_into(
+        &self,
+        strategy: SeekStrategy,
+        tables: &[&Table],
+        query: &Query,
+        window: &mut [u64],
+    ) -> Result<Filled, Refusal> {
+        let joined = calls::join(strategy, &self.words, Self::tables(tables), query.query, window);
+        match joined.number {
+            0 | 12 => Ok(Filled { rows: joined.rows as usize, full: joined.number == 12 }),
+            number => Err(Refusal::new(number)),
+        }
+    }
+
+    /// All rows of the query, each by variable number, ascending as read in the query's order.
+    pub fn join(&self, strategy: SeekStrategy, tables: &[&Table], query: &Query) -> Result<Rows, Refusal> {
+        let width = query.variables();
+        let mut words = vec![0; 256 * width.min(8)];
+        loop {
+            let filled = self.join_into(strategy, tables, query, &mut words)?;
+            if !filled.full {
+                words.truncate(filled.rows * width);
+                return Ok(Rows { width, count: filled.rows, words });
+            }
+            words.resize(4 * words.len(), 0);
+        }
+    }
+}
+
+/// A cursor over a table: a trie iterator. The table can't change while one looks at it.
+///
+/// ```
+/// # fn main() -> Result<(), ducatbriar::Refusal> {
+/// let mut pool = ducatbriar::Pool::new();
+/// let table = pool.build(2, 4, &[[10, 1], [10, 2], [20, 3]])?;
+/// let mut cursor = pool.cursor(&table, ducatbriar::SeekStrategy::Galloping);
+/// assert!(cursor.open()?);
+/// assert!(cursor.seek(11)?);
+/// assert_eq!(cursor.key()?, Some(20));
+/// assert!(cursor.open()?);
+/// assert_eq!(cursor.key()?, Some(3));
+/// assert_eq!(cursor.next_key()?, None);
+/// assert!(cursor.up()?);
+/// assert_eq!(cursor.key()?, Some(20));
+/// # Ok(())
+/// # }
+/// ```
+#[derive(Clone, Debug)]
+pub struct Cursor<'a> {
+    words: &'a [u64],
+    header: &'a ColumnTrie,
+    strategy: SeekStrategy,
+    iter: ColumnTrieIter,
+}
+
+impl Cursor<'_> {
+    /// 0 at the root.
+    pub fn depth(&self) -> usize {
+        self.iter.depth as usize
+    }
+
+    /// The key it stands on, if there is one.
+    pub fn key(&self) -> Result<Option<u64>, Refusal> {
+        let answer = self.iter.key(self.words, *self.header);
+        Refusal::check(answer.number).map(|()| answer.found.then_some(answer.key))
+    }
+
+    /// To the key behind, which it gives.
+    pub fn next_key(&mut self) -> Result<Option<u64>, Refusal> {
+        let answer = self.iter.next(self.words, *self.header);
+        self.iter = answer.iter;
+        Refusal::check(answer.number).map(|()| answer.found.then_some(answer.key))
+    }
+
+    /// To the first key not yet passed that is not below the target; whether there is one.
+    pub fn seek(&mut self, target: u64) -> Result<bool, Refusal> {
+        let answer = self.iter.seek(self.words, *self.header, self.strategy, target);
+        self.iter = answer.iter;
+        Refusal::check(answer.number).map(|()| answer.found)
+    }
+
+    /// Whether no key is left at this depth; yes at the root.
+    pub fn at_end(&self) -> Result<bool, Refusal> {
+        let answer = self.iter.at_end(self.words, *self.header);
+        Refusal::check(answer.number).map(|()| answer.at_end)
+    }
+
+    /// To the first key below the one it stands on; whether there is one.
+    pub fn open(&mut self) -> Result<bool, Refusal> {
+        let answer = self.iter.open(self.words, *self.header);
+        self.iter = answer.iter;
+        Refusal::check(answer.number).map(|()| answer.opened)
+    }
+
+    /// Back to the key that was opened; no at the root.
+    pub fn up(&mut self) -> Result<bool, Refusal> {
+        let answer = self.iter.up(self.words, *self.header);
+        self.iter = answer.iter;
+        Refusal::check(answer.number).map(|()| answer.risen)
+    }
+}

@@ -1,0 +1,39 @@
+//! A query: the order of its variables, and its atoms.
+use crate::calls;
+
+/// A query over tables: variables 0 to n - 1 in the order in which they are bound, and atoms, each a table's number and its variables in that order.
+///
+/// Nothing is checked here. A query that does not pass the checks is refused by the join, also one with more atoms or variables than a query may have.
+#[derive(Clone, Debug, Default)]
+pub struct Query {
+    pub(crate) query: calls::Query,
+}
+
+/// As many of the words as there is room for. Where words are left out, the count beside the array says how many there were, and the join refuses it.
+fn leading<T: Copy>(into: &mut [T], from: impl IntoIterator<Item = T>) {
+    into.iter_mut().zip(from).for_each(|(place, item)| *place = item);
+}
+
+impl Query {
+    pub fn new(order: &[usize]) -> Query {
+        let mut query = calls::Query { n: order.len() as u64, ..Default::default() };
+        leading(&mut query.order, order.iter().map(|&v| v as u64));
+        Query { query }
+    }
+
+    /// Adds an atom over the table of this number in the list that the join is given.
+    pub fn atom(mut self, table: usize, variables: &[usize]) -> Query {
+        let mut atom = calls::Atom { table: table as u64, len: variables.len() as u64, ..Default::default() };
+        leading(&mut atom.variables, variables.iter().map(|&v| v as u64));
+        if let Some(place) = self.query.atoms.get_mut(self.query.atom_count as usize) {
+            *place = atom;
+        }
+        self.query.atom_count += 1;
+        self
+    }
+
+    /// How many variables it has, and so how many words a row.
+    pub fn variables(&self) -> usize {
+        self.query.n as usize
+    }
+}
