@@ -10,9 +10,11 @@ use native.Mathlib.Omega.{arith}
 use lib.Arith.{lt-of-le-ne}
 use lib.ListN.{length, getD}
 use Rattle.relation.specs.Lists.{_∈_, Ascends}
-use Rattle.query.specs.Meet.{meet, from, total}
+use Rattle.relation.specs.Runs.{from}
+use Rattle.query.specs.Meet.{meet, total}
 use Rattle.query.specs.Ring.{Round}
-use Rattle.query.proofs.Leap.{seek-meet, from-ascends, head-least}
+use Rattle.relation.proofs.Runs.{from-ascends, head-least}
+use Rattle.query.proofs.Leap.{seek-meet}
 use Rattle.leapfrog_join.specs.Ring.{keyOf, Follows}
 use Rattle.leapfrog_join.specs.Leapfrog.{runsIn, OnKey, Ready, Ordered, Agreed, Spent, Moved, Reached}
 use Rattle.leapfrog_join.proofs.Parts.{reached-key}

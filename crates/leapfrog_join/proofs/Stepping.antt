@@ -7,8 +7,10 @@ use native.Mathlib.Omega.{arith}
 use lib.ListN.{length, getD}
 use Rattle.relation.specs.Lists.{_∈_, hd, tl, Ascends}
 use Rattle.relation.proofs.Lists.{ascends-tail}
-use Rattle.query.specs.Meet.{meet, from}
-use Rattle.query.proofs.Leap.{agree-meet, agree-all, head-least, in-from, from-ascends}
+use Rattle.relation.specs.Runs.{from}
+use Rattle.query.specs.Meet.{meet}
+use Rattle.relation.proofs.Runs.{head-least, in-from, from-ascends}
+use Rattle.query.proofs.Leap.{agree-meet, agree-all}
 use Rattle.leapfrog_join.specs.declared.Hit.{Hit}
 use Rattle.leapfrog_join.specs.declared.Hit.the-variants.{Nothing}
 use Rattle.leapfrog_join.specs.Ring.{Follows}

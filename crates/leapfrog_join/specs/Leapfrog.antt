@@ -5,7 +5,8 @@ use mathlib.Core.List.{List, [], _++_, map}
 use Prim.Native.Nat.{ℕ, _-_, _≤_, _<_}
 use lib.ListN.{length, getD, take, drop}
 use Rattle.relation.specs.Lists.{_∈_, Ascends}
-use Rattle.query.specs.Meet.{meet, from}
+use Rattle.relation.specs.Runs.{from}
+use Rattle.query.specs.Meet.{meet}
 use Rattle.query.specs.Ring.{Round}
 use Rattle.leapfrog_join.specs.Ring.{maxAtoms, keyOf, sorted}
 use Rattle.leapfrog_join.specs.declared.Hit.{Hit}

@@ -4,5 +4,6 @@ pub mod Meet
 pub mod Ring
 pub mod Solve
 pub mod Window
+pub mod Outcome
 pub mod Descend
 pub mod Worked

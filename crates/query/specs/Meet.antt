@@ -4,7 +4,7 @@ use mathlib.Core.Path.{_≡_}
 use mathlib.Core.Bool.{Bool, true, false}
 use mathlib.Core.List.{List, [], _∷_}
 use lib.ListN.{length, getD, drop}
-use lib.Dec.{eqb, ltb}
+use lib.Dec.{eqb}
 use Rattle.relation.specs.Order.{pick}
 use Rattle.relation.specs.Lists.{_∈_, Ascends}
 
@@ -29,11 +29,6 @@ unfoldable pub meet : List (List ℕ) → List ℕ
 unfolding keep inAll
 meet [] = []
 meet (r ∷ rs) = keep (inAll rs) r
-
--- the run from its first key not below t
-unfoldable pub from : ℕ → List ℕ → List ℕ
-from t [] = []
-from t (x ∷ xs) = pick (ltb x t) (from t xs) (x ∷ xs)
 
 -- every run ascends
 abbrev pub Runs : List (List ℕ) → Type 0

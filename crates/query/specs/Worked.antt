@@ -6,7 +6,8 @@ use lib.ListN.{length}
 use Rattle.relation.specs.Order.{pick}
 use Rattle.query.specs.Meaning.{Atom}
 use Rattle.query.specs.Solve.{listing}
-use Rattle.query.specs.Window.{Progress, windowed}
+use Rattle.query.specs.Window.{windowed}
+use Rattle.query.specs.Outcome.{Comes, told, refused}
 use Rattle.query.specs.Checks.{every, permutes, listed, covers}
 
 -- a query over relations, and the words of the window
@@ -15,19 +16,6 @@ pub record Asked : Type 0 where
   pub order : List ℕ
   pub atoms : List Atom
   pub window : List ℕ
-
--- the refusal or 0, the rows written, and the window's words
-pub record Comes : Type 0 where
-  pub number : ℕ
-  pub rows : ℕ
-  pub words : List ℕ
-
--- the number that a finished window gives
-unfoldable pub told : Progress → Comes
-told s = record { number = pick (s .full) 12 0; rows = s .count; words = s .words }
-
-unfoldable pub refused : ℕ → List ℕ → Comes
-refused number window = record { number = number; rows = 0; words = window }
 
 -- the checks in sequence, then the listing in its window; each atom here has a table of its list's length
 unfoldable pub comes : Asked → Comes

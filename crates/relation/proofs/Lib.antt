@@ -1,6 +1,7 @@
 pub mod Tests
 pub mod Lists
 pub mod Order
+pub mod Runs
 pub mod Sorting
 pub mod Rank
 pub mod Layers

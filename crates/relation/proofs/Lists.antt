@@ -1,7 +1,7 @@
 -- Lists that ascend, over any relation: their parts, what is in them determines them, one behind another, and under a map.
 use mathlib.Core.Path.{_≡_, refl, sym, subst, ap₂, _∙_}
 use mathlib.Core.Logic.{_⊎_, inl, inr, ⊎-elim}
-use mathlib.Core.List.{List, [], _∷_, _++_, map, List·Memᴰ·append-cases, Memᴰ·of-map}
+use mathlib.Core.List.{List, _∷_, _++_, map, List·Memᴰ·append-cases, Memᴰ·of-map}
 use Rattle.relation.specs.Lists.{_∈_, hd, tl, not-in-nil, in-cons, Ascends, anone, amore}
 
 module _ {A : Type 0} {R : A → A → Type 0} where

@@ -3,18 +3,16 @@
 -- has them; the proofs elsewhere go by ranks, and `ranked` carries each over.
 use Prim.Native.Nat.{ℕ, zero, suc, _+_, _≤_, _<_}
 use mathlib.Core.Path.{_≡_, refl, sym, ap, _∙_, subst}
-use mathlib.Core.List.{List, [], _∷_}
+use mathlib.Core.List.{List}
 use native.Mathlib.Omega.{arith}
-use lib.ListN.{length, getD}
-use lib.Seq.{slice}
+use lib.ListN.{length}
 use Rattle.relation.specs.Order.{Row}
-use Rattle.relation.specs.Rows.{Asc, Width, Members, sort, distinct, put}
-use Rattle.relation.specs.Lists.{_∈_}
-use Rattle.relation.specs.Layers.{Layer, layer, noLayer, prefixes, keysUnder, joined, starts, groupsAt, layerAt, layersFrom, layersOf}
+use Rattle.relation.specs.Rows.{Asc, Width, Members}
+use Rattle.relation.specs.Layers.{Layer, joined, starts, groupsAt, layerAt, layersFrom, layersOf}
 use Rattle.relation.specs.Undamaged.{Undamaged}
 use Rattle.relation.specs.Paths.{rowsOf}
 use Rattle.relation.proofs.Layers.{keysAt, intervalsAt, rankedAt}
-use Rattle.relation.proofs.Paths.{rankedFrom, Held, undamaged-held, undamaged-count, relation-rows, relation-undamaged}
+use Rattle.relation.proofs.Paths.{rankedFrom, undamaged-held, undamaged-count, relation-rows, relation-undamaged}
 use Rattle.relation.proofs.Groups.{layer-groups}
 use Rattle.relation.proofs.Insert.{layers-cong}
 

@@ -21,7 +21,7 @@ use Rattle.query.specs.Solve.{beyond, headed, bind, runs, extend, listing}
 use Rattle.query.specs.Window.{fit, windowed}
 use Rattle.query.specs.Checks.{some, single, permutes, listed, covers}
 use Rattle.query.specs.Checks as checks
-use Rattle.query.specs.Worked.{told, refused}
+use Rattle.query.specs.Outcome.{told, refused}
 use Rattle.leapfrog_triejoin.specs.Query.{orderOk, namedOk, listedAt, named, soundAt, joinNumber}
 use Rattle.leapfrog_triejoin.specs.Outcome.{answered, outcome}
 use Rattle.starred.specs.Cases.{comes, starred}

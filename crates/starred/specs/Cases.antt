@@ -1,7 +1,7 @@
 -- What document 01 stars under "Worked on the bench": a table of what is asked and what must come. `comes` asks the definitions that the public calls' contracts cite.
 use Prim.Native.Nat.{ℕ}
-use mathlib.Core.Bool.{Bool, true, false}
-use mathlib.Core.List.{List, [], _∷_, map}
+use mathlib.Core.Bool.{Bool, false}
+use mathlib.Core.List.{List, [], _∷_}
 use lib.IntN.{ℤ, negsuc}
 use Rattle.relation.specs.Order.{Row, pick}
 use Rattle.relation.specs.Layers.{layersOf}

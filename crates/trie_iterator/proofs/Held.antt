@@ -36,7 +36,7 @@ use Rattle.column_trie_iter.proofs.Groups.{getD-any, keys-long}
 use Rattle.column_trie_iter.proofs.Places.{lies-told, run-part}
 use Rattle.seek.specs.Offset.{NonFalling}
 use Rattle.seek.proofs.Laws.{leading-one, binary-leading}
-use Rattle.trie_iterator.specs.Cursor.{Holds}
+use Rattle.trie_iterator.specs.Cursor.{Layered}
 
 -- ---- an undamaged table holds its own rows
 
@@ -61,9 +61,9 @@ layer-of : {a : ℕ} {rows : List Row} → Width a rows → (d : ℕ) → d < a 
 layer-of {a} {rows} w d h =
     ap (λ (ls : List Layer). layer ls d) (sym (ranked w)) ∙ layer-from 0 a rows d h ∙ ap (λ (n : ℕ). rankedAt n rows) (let e : 0 + d ≡ d = omega arith in e) ∙ ranked-at d w h
 
-pub undamaged-holds : {pool : List ℕ} {t : ColumnTrie} → Undamaged pool t → Holds pool t (rowsIn pool t)
+pub undamaged-layered : {pool : List ℕ} {t : ColumnTrie} → Undamaged pool t → Layered pool t (rowsIn pool t)
 unfolding undamaged
-undamaged-holds {pool} {t} u =
+undamaged-layered {pool} {t} u =
     let r = every-undamaged-table-is-what-a-build-of-its-own-rows-leaves (u .arity .0) (u .layers) in
     record {
       sound =
@@ -188,7 +188,7 @@ module _ {a : ℕ} {rows : List Row} (w : Width a rows) (d : ℕ) (h : d < a) wh
 
 -- ---- the same of a table in the pool
 
-module _ {pool : List ℕ} {t : ColumnTrie} {rows : List Row} (H : Holds pool t rows) {d : ℕ} (h : d < t .arity) where
+module _ {pool : List ℕ} {t : ColumnTrie} {rows : List Row} (H : Layered pool t rows) {d : ℕ} (h : d < t .arity) where
   layer-ranked : layerIn pool t d ≡ rankedAt d rows
   layer-ranked = H .layers d h ∙ sym (ranked-at d (H .width) h)
 

@@ -18,12 +18,12 @@ use Rattle.seek.specs.Offset.{Leading}
 use Rattle.seek.specs.declared.SeekStrategy.{SeekStrategy}
 use Rattle.seek.proofs.Laws.{leading-one}
 use Rattle.trie_iterator.specs.TrieIterator.{State, root, level, left, Call, Key, Next, AtEnd, Open, Up, Seek, Answer, answer, after, answers, follow}
-use Rattle.trie_iterator.specs.Cursor.{heard, moved, heardAll, movedAll, Holds, Stands, at-root, at-level, Follows, Stopped}
-use Rattle.trie_iterator.proofs.Held.{undamaged-holds}
+use Rattle.trie_iterator.specs.Cursor.{heard, moved, heardAll, movedAll, Layered, Stands, at-root, at-level, Follows, Stopped}
+use Rattle.trie_iterator.proofs.Held.{undamaged-layered}
 use Rattle.trie_iterator.proofs.Standing.{seek-is}
 use Rattle.trie_iterator.proofs.Moving.{key-answers, end-answers, next-answers, next-stands, seek-leads, seek-answers, seek-stands, open-answers, open-stands, up-returns, up-answers, up-stands}
 
-module _ {pool : List ℕ} {t : ColumnTrie} {rows : List Row} (H : Holds pool t rows) where
+module _ {pool : List ℕ} {t : ColumnTrie} {rows : List Row} (H : Layered pool t rows) where
   -- ---- any call
 
   pub same-answer : {s : State} {it : ColumnTrieIter} → Stands (t .arity) rows s it → (c : Call) → heard pool t it c ≡ answer (t .arity) rows s c
@@ -83,4 +83,4 @@ module _ {pool : List ℕ} {t : ColumnTrie} {rows : List Row} (H : Holds pool t 
 
 -- on an undamaged table, from the root, by any sequence of calls
 pub a-cursor-moves-as-the-trie-iterator : {pool : List ℕ} {t : ColumnTrie} → Undamaged pool t → (cs : List Call) → Follows pool t (rowsIn pool t) root fresh cs
-a-cursor-moves-as-the-trie-iterator u cs = follows (undamaged-holds u) (at-root refl) cs
+a-cursor-moves-as-the-trie-iterator u cs = follows (undamaged-layered u) (at-root refl) cs

@@ -1,12 +1,12 @@
 -- Each call takes a cursor that stands at a state to one that stands where the call takes the state, with the state's answer.
-use Prim.Native.Nat.{ℕ, zero, suc, _+_, _-_, _≤_, _<_}
+use Prim.Native.Nat.{ℕ, suc, _+_, _-_, _≤_, _<_}
 use mathlib.Core.Path.{_≡_, refl, sym, ap, ap₂, _∙_, subst}
 use mathlib.Core.Bool.{Bool, true, false, not, _&&_}
 use mathlib.Core.Logic.{_⊎_, inl, inr}
 use mathlib.Core.List.{List, [], _∷_, _++_}
 use native.Mathlib.Omega.{arith}
 use lib.ListN.{length, getD, drop, length-drop}
-use lib.Seq.{drop-drop, drop-cons, drop-nil}
+use lib.Seq.{drop-drop, drop-cons}
 use lib.Dec.{ltb}
 use borrow.Author.Tests.{ltb-true, lt-ltb, le-ltb, ne-eqb}
 use Rattle.relation.specs.Order.{Row, pick}
@@ -25,23 +25,16 @@ use Rattle.column_trie_iter.specs.Cursor as cursor
 use Rattle.column_trie_iter.specs.declared.ColumnTrieIter.{ColumnTrieIter}
 use Rattle.column_trie_iter.proofs.Rests.{answers}
 use Rattle.column_trie_iter.proofs.Rises.{rises-in, up-top, up-root, up-below}
+use Rattle.relation.specs.Runs.{from}
+use Rattle.relation.proofs.Runs.{from-drop}
 use Rattle.seek.specs.Seek.{seekOf}
 use Rattle.seek.specs.Offset.{NonFalling, Leading}
 use Rattle.seek.specs.declared.SeekStrategy.{SeekStrategy}
 use Rattle.seek.proofs.Laws.{leading}
-use Rattle.trie_iterator.specs.TrieIterator.{State, root, level, levels, left, path, from, goNext, goSeek, goDown, goUp, opens, rises, some, shown, says}
-use Rattle.trie_iterator.specs.Cursor.{Holds, Below, Stands, at-root, at-level, ofKey, ofNext, ofSeek, ofEnd, ofOpen, ofUp}
+use Rattle.trie_iterator.specs.TrieIterator.{State, root, level, levels, left, path, goNext, goSeek, goDown, goUp, opens, rises, some, shown, says}
+use Rattle.trie_iterator.specs.Cursor.{Layered, Below, Stands, at-root, at-level, ofKey, ofNext, ofSeek, ofEnd, ofOpen, ofUp}
 use Rattle.trie_iterator.proofs.Held.{held-group, keys-many}
 use Rattle.trie_iterator.proofs.Standing.{group-at, clear, same-left, key-is, next-is, seek-is, end-is}
-
--- the keys from the first that is not below the target are those behind the leading ones
-pub from-leading : (ks : List ℕ) (target n : ℕ) → Leading ks target n → from target ks ≡ drop n ks
-unfolding from
-from-leading [] target n l = sym (drop-nil n)
-from-leading (k ∷ ks) target zero l = ap (λ (b : Bool). pick b (from target ks) (k ∷ ks)) (le-ltb k target (l .stops (omega arith)))
-from-leading (k ∷ ks) target (suc n) l =
-    ap (λ (b : Bool). pick b (from target ks) (k ∷ ks)) (lt-ltb k target (l .before 0 (omega arith))) ∙
-    from-leading ks target n (record { inside = omega (arith, l .inside); before = λ x h. l .before (suc x) (omega arith); stops = λ h. l .stops (omega arith) })
 
 -- n siblings further
 past-below : {a : ℕ} {rows : List Row} {above : State} {ks : List ℕ} {it : ColumnTrieIter} (n : ℕ) → n ≤ length ks → Below a rows above ks it → Below a rows above (drop n ks) (past it n)
@@ -56,7 +49,7 @@ past-below {rows = rows} {above = above} {ks = ks} {it = it} n h b =
       rest = sym (drop-drop n (it .«slice_offset») ku) ∙ ap (drop n) (b .rest);
     }
 
-module _ {pool : List ℕ} {t : ColumnTrie} {rows : List Row} (H : Holds pool t rows) where
+module _ {pool : List ℕ} {t : ColumnTrie} {rows : List Row} (H : Layered pool t rows) where
   -- ---- key and at_end
 
   pub key-answers : {s : State} {it : ColumnTrieIter} → Stands (t .arity) rows s it → ofKey (cursor.keyOf pool t it) ≡ shown (left s)
@@ -104,7 +97,7 @@ module _ {pool : List ℕ} {t : ColumnTrie} {rows : List Row} (H : Holds pool t 
   seek-leads {s} w x target = leading x (left s) target (left-rises w)
 
   seek-from : {s : State} {it : ColumnTrieIter} → Stands (t .arity) rows s it → (x : SeekStrategy) (target : ℕ) → drop (seekOf x (left s) target .offset) (left s) ≡ from target (left s)
-  seek-from {s} w x target = sym (from-leading (left s) target (seekOf x (left s) target .offset) (seek-leads w x target))
+  seek-from {s} w x target = let l = seek-leads w x target in sym (from-drop target (left s) (seekOf x (left s) target .offset) (l .inside) (l .before) (l .stops))
 
   pub seek-answers : {s : State} {it : ColumnTrieIter} → Stands (t .arity) rows s it → (x : SeekStrategy) (target : ℕ) → ofSeek (cursor.soughtOf pool t it x target) ≡ says (some (left (goSeek target s)))
   unfolding from

@@ -18,10 +18,10 @@ use Rattle.column_trie_iter.proofs.Places.{stands-there, stands-below}
 use Rattle.column_trie_iter.proofs.Rests.{answers}
 use Rattle.seek.specs.declared.SeekStrategy.{SeekStrategy}
 use Rattle.trie_iterator.specs.TrieIterator.{State, levels, left, path}
-use Rattle.trie_iterator.specs.Cursor.{Holds, Below, Stands, at-root, at-level}
+use Rattle.trie_iterator.specs.Cursor.{Layered, Below, Stands, at-root, at-level}
 use Rattle.trie_iterator.proofs.Held.{Group, held-group}
 
-module _ {pool : List ℕ} {t : ColumnTrie} {rows : List Row} (H : Holds pool t rows) where
+module _ {pool : List ℕ} {t : ColumnTrie} {rows : List Row} (H : Layered pool t rows) where
   -- the group in which the cursor stands
   pub group-at : {above : State} {ks : List ℕ} {it : ColumnTrieIter} → Below (t .arity) rows above ks it → Group (layerIn pool t (levels above)) rows (levels above) (it .«interval_i») (path above)
   group-at b = held-group H (b .deep) (b .known) (b .under)

@@ -69,7 +69,7 @@ movedAll pool t it (c ∷ cs) = movedAll pool t (moved pool t it c) cs
 -- ---- where a cursor stands
 
 -- the table's words hold the layers of the rows, a relation
-pub record Holds (pool : List ℕ) (t : ColumnTrie) (rows : List Row) : Type 0 where
+pub record Layered (pool : List ℕ) (t : ColumnTrie) (rows : List Row) : Type 0 where
   pub sound : headerSound (length pool) t ≡ true
   pub asc : Asc rows
   pub width : Width (t .arity) rows

@@ -6,6 +6,7 @@ use mathlib.Core.Bool.{Bool, true, false, not, _&&_}
 use mathlib.Core.List.{List, [], _∷_, _++_}
 use lib.Dec.{ltb}
 use Rattle.relation.specs.Order.{Row, pick}
+use Rattle.relation.specs.Runs.{from}
 use Rattle.relation.specs.Layers.{keysUnder}
 use Rattle.seek.specs.declared.SeekStrategy.{SeekStrategy}
 
@@ -48,10 +49,6 @@ goNext (level ks above) = level (tail ks) above
 
 -- seek goes to the least key not below the target among those left, or to the end if there is none. The paper wants a target that is not below the
 -- present key; at any other it stays.
-unfoldable pub from : ℕ → List ℕ → List ℕ
-from target [] = []
-from target (k ∷ ks) = pick (ltb k target) (from target ks) (k ∷ ks)
-
 abbrev pub goSeek : ℕ → State → State
 goSeek target root = root
 goSeek target (level ks above) = level (from target ks) above

@@ -1,5 +1,5 @@
 -- `column_trie_listing::digits` meets its contract: a digit more than the number without its last.
-use mathlib.Core.Path.{_≡_, sym, ap, _∙_}
+use mathlib.Core.Path.{ap}
 use native.Mathlib.Omega.{arith}
 use lib.ListN.{length}
 use borrow.Author.Needs.{needs}

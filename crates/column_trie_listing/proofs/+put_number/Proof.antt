@@ -1,10 +1,9 @@
 -- `column_trie_listing::put_number` meets its contract: the last digit goes behind the others.
 use Prim.Native.Nat.{_+_, _/_, _%_}
-use mathlib.Core.Path.{_≡_, sym, ap, ap₂, _∙_}
-use mathlib.Core.List.{List, [], _∷_}
+use mathlib.Core.Path.{sym, ap, ap₂, _∙_}
+use mathlib.Core.List.{List}
 use native.Mathlib.Omega.{arith}
 use lib.ListN.{length, set, length-set}
-use borrow.Author.Needs.{needs}
 use Rattle.column_trie.specs.Pool.{lay}
 use Rattle.column_trie.proofs.Pool.{lay-length, lay-snoc}
 use Rattle.column_trie_listing.specs.Text.{decimal}

@@ -1,6 +1,6 @@
 -- `column_trie_listing::depth_length` meets its contract: the parts handed on are the layer's lists.
-use Prim.Native.Nat.{ℕ, _+_, _-_, _<_, _≤_, _^_}
-use mathlib.Core.Path.{_≡_, refl, sym, ap, subst, _∙_}
+use Prim.Native.Nat.{_+_}
+use mathlib.Core.Path.{_≡_, ap, _∙_}
 use native.Mathlib.Omega.{arith}
 use lib.ListN.{length}
 use borrow.Author.Needs.{needs}
@@ -10,7 +10,6 @@ use Rattle.column_trie.specs.Table.{dataLen, intervalLen, layerIn}
 use Rattle.column_trie.proofs.Header.{LayerFits, layer-fits, header-told, length-part}
 use Rattle.column_trie_listing.specs.Text.{layerText}
 use Rattle.column_trie_listing.proofs.Texts.{parts}
-use borrow.Author.Needs.{needs}
 use Rattle.column_trie_listing.proofs.depth_length.Statement.{statement}
 use Rattle.column_trie_listing.proofs.depth_length.Tie as tie
 use Rattle.column_trie_listing.proofs.depth_length.Reads as reads

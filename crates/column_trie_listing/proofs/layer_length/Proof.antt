@@ -1,5 +1,4 @@
 -- `column_trie_listing::layer_length` meets its contract: the parts' lengths.
-use mathlib.Core.Path.{_≡_, sym, ap}
 use native.Mathlib.Omega.{arith}
 use Rattle.column_trie_listing.proofs.Texts.{layer-length}
 use borrow.Author.Needs.{needs}

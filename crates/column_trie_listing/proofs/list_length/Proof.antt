@@ -1,5 +1,5 @@
 -- `column_trie_listing::list_length` meets its contract: the parts' lengths.
-use mathlib.Core.Path.{_≡_, sym, ap}
+use mathlib.Core.Path.{sym, ap}
 use native.Mathlib.Omega.{arith}
 use lib.ListN.{length}
 use Rattle.column_trie_listing.proofs.Texts.{list-none, some-length, tail-length}

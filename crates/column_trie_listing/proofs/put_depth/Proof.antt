@@ -1,14 +1,12 @@
 -- `column_trie_listing::put_depth` meets its contract: the parts handed on are the layer's lists.
-use Prim.Native.Nat.{ℕ, _+_, _-_, _<_, _≤_, _^_}
-use mathlib.Core.Path.{_≡_, refl, sym, ap, subst, _∙_}
+use mathlib.Core.Path.{ap}
 use native.Mathlib.Omega.{arith}
 use lib.ListN.{length}
 use borrow.Author.Needs.{needs}
 use Rattle.relation.specs.Layers.{Layer}
-use Rattle.column_trie.proofs.Header.{LayerFits, layer-fits, header-told, length-part}
+use Rattle.column_trie.proofs.Header.{LayerFits, layer-fits, header-told}
 use Rattle.column_trie_listing.specs.Text.{layerText}
 use Rattle.column_trie_listing.proofs.Texts.{parts, written-as}
-use borrow.Author.Needs.{needs}
 use Rattle.column_trie_listing.proofs.put_depth.Statement.{statement}
 use Rattle.column_trie_listing.proofs.put_depth.Tie as tie
 use Rattle.column_trie_listing.proofs.put_depth.Reads as reads

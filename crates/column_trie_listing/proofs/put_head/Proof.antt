@@ -1,5 +1,4 @@
 -- `column_trie_listing::put_head` meets its contract: three pieces.
-use mathlib.Core.Path.{_≡_, sym, ap}
 use native.Mathlib.Omega.{arith}
 use Rattle.column_trie_listing.proofs.Texts.{head-length, written-more, written-long}
 use borrow.Author.Needs.{needs}

@@ -1,5 +1,5 @@
 -- `column_trie_listing::put_layer` meets its contract: the head, the data, and the intervals behind their word.
-use mathlib.Core.Path.{_≡_, sym, ap}
+use mathlib.Core.Path.{sym}
 use native.Mathlib.Omega.{arith}
 use Rattle.column_trie_listing.proofs.Texts.{head-length, layer-is, layer-length, written-more, written-as, written-long}
 use borrow.Author.Needs.{needs}

@@ -1,5 +1,5 @@
 -- `column_trie_listing::put_list` meets its contract: nothing or the first number, the others, and what closes the list.
-use mathlib.Core.Path.{_≡_, sym, ap}
+use mathlib.Core.Path.{sym, ap}
 use native.Mathlib.Omega.{arith}
 use lib.ListN.{length}
 use Rattle.column_trie_listing.proofs.Texts.{list-none, list-some, some-length, written-more, written-as, written-long}

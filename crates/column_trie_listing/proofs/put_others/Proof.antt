@@ -1,13 +1,11 @@
 -- `column_trie_listing::put_others` meets its contract: each turn writes one number more behind its comma.
-use Prim.Native.Nat.{ℕ, suc, _+_, _-_, _≤_}
-use mathlib.Core.Path.{_≡_, refl, sym, ap, subst, _∙_}
-use mathlib.Core.List.{List, _++_}
+use Prim.Native.Nat.{ℕ, suc, _-_, _≤_}
+use mathlib.Core.Path.{refl, sym, ap, _∙_}
 use native.Mathlib.Omega.{arith}
 use native.Mathlib.Numerals.{add-one}
-use lib.ListN.{length, take, getD}
+use lib.ListN.{length, take}
 use lib.Seq.{take-all}
-use borrow.Author.Needs.{needs}
-use Rattle.column_trie_listing.specs.Text.{others, comma, decimal}
+use Rattle.column_trie_listing.specs.Text.{others}
 use Rattle.column_trie_listing.specs.List.{Written}
 use Rattle.column_trie_listing.proofs.Texts.{none-others, others-more, more-length, others-room, written-none, written-more, written-as, written-long}
 use Rattle.column_trie_listing.proofs.put_others.Statement.{statement}

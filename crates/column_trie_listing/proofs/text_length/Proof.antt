@@ -1,6 +1,6 @@
 -- `column_trie_listing::text_length` meets its contract: layer after layer.
 use Prim.Native.Nat.{ℕ, _+_, _*_, _-_, _<_, _≤_, _^_}
-use mathlib.Core.Path.{_≡_, refl, sym, ap, subst, _∙_}
+use mathlib.Core.Path.{_≡_, sym, ap, _∙_}
 use mathlib.Core.List.{List, _++_}
 use native.Mathlib.Omega.{arith}
 use native.Mathlib.Numerals.{add-one}
@@ -14,8 +14,7 @@ use Rattle.column_trie.proofs.Layers.{Whole, layers-length, layers-at}
 use Rattle.column_trie.proofs.Damage.{undamaged-told, undamaged-header}
 use Rattle.column_trie.proofs.Stored.{in-pool}
 use Rattle.column_trie_listing.specs.Text.{layerText, text}
-use Rattle.column_trie_listing.specs.List.{Written}
-use Rattle.column_trie_listing.proofs.Texts.{no-text, text-more, text-room, written-none, written-more, written-as, written-long}
+use Rattle.column_trie_listing.proofs.Texts.{no-text, text-more}
 use Rattle.column_trie_listing.proofs.text_length.Statement.{statement}
 use Rattle.column_trie_listing.proofs.text_length.Tie as tie
 use Rattle.column_trie_listing.proofs.text_length.Reads as reads
