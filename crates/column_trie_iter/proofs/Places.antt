@@ -32,7 +32,7 @@ pub record Lying (l : Layer) (i : ℕ) (g : Group) : Type 0 where
   pub inside : g .to ≤ length (l .keys)
   pub long : length (keysOf l i) ≡ g .to - g .from
 
-pub lies-told : (l : Layer) (i : ℕ) → lies l i ≡ true → (i < length (l .intervals)) × (groupFrom l i ≤ groupTo l i) × (groupTo l i ≤ length (l .keys))
+lies-told : (l : Layer) (i : ℕ) → lies l i ≡ true → (i < length (l .intervals)) × (groupFrom l i ≤ groupTo l i) × (groupTo l i ≤ length (l .keys))
 unfolding lies
 lies-told l i e =
     let a = ltb i (length (l .intervals)) in
@@ -114,7 +114,7 @@ module _ (pool : List ℕ) (t : ColumnTrie) (it : ColumnTrieIter) where
       (and-true (lies (layerOf pool t it) (it .«interval_i»)) run-ok e (le-leb (it .«slice_offset») (length (keysOf (layerOf pool t it) (it .«interval_i»))) k))
 
   -- what the checks tell
-  pub stands-told : standsBelow pool t it ≡ true → Standing pool t it
+  stands-told : standsBelow pool t it ≡ true → Standing pool t it
   unfolding standsBelow
   stands-told e =
       let l = layerOf pool t it in
@@ -148,7 +148,7 @@ drop-take (suc k) zero l = sym (ap (λ (m : ℕ). take m (drop (suc k) l)) (let 
 drop-take (suc k) (suc n) [] = sym (take-nil (suc n - suc k))
 drop-take (suc k) (suc n) (x ∷ l) = drop-take k n l ∙ ap (λ (m : ℕ). take m (drop k l)) (let e : n - k ≡ suc n - suc k = omega arith in e)
 
-pub run-part : (pool : List ℕ) (s n from to o : ℕ) → to ≤ n → take (s + to - (s + (from + o))) (drop (s + (from + o)) pool) ≡ drop o (slice from to (take n (drop s pool)))
+run-part : (pool : List ℕ) (s n from to o : ℕ) → to ≤ n → take (s + to - (s + (from + o))) (drop (s + (from + o)) pool) ≡ drop o (slice from to (take n (drop s pool)))
 run-part pool s n from to o h =
     sym (
     drop-drop o from (take to (take n (drop s pool))) ∙

@@ -24,7 +24,7 @@ use Rattle.column_trie_iter.proofs.Groups.{intervals-long}
 use Rattle.column_trie_iter.proofs.Places.{unrefused, standing}
 use Rattle.column_trie_iter.proofs.Rests.{refuses, answers}
 
-pub last-counted : (ints : List ℕ) (i : ℕ) → 0 < countUpTo i ints → getD ints (countUpTo i ints - 1) 0 ≤ i
+last-counted : (ints : List ℕ) (i : ℕ) → 0 < countUpTo i ints → getD ints (countUpTo i ints - 1) 0 ≤ i
 last-counted ints i h =
     let r = keeps ints (i + 1) (λ lo hi p. 0 < lo → getD ints (lo - 1) 0 < i + 1)
     (λ lo hi p l k w _. ap-lt (midOf lo hi) k)

@@ -58,7 +58,7 @@ pub word-digits : (n : ℕ) → n < 2 ^ 64 → length (decimal n) ≤ 20
 word-digits n h = digits-few 19 n (omega arith)
 
 -- one piece behind another is one piece
-pub lay-append : (bytes : List ℕ) (at : ℕ) (xs ys : List ℕ) → lay (lay bytes at xs) (at + length xs) ys ≡ lay bytes at (xs ++ ys)
+lay-append : (bytes : List ℕ) (at : ℕ) (xs ys : List ℕ) → lay (lay bytes at xs) (at + length xs) ys ≡ lay bytes at (xs ++ ys)
 unfolding lay
 lay-append bytes at [] ys = ap (λ (k : ℕ). lay bytes k ys) (let e : at + 0 ≡ at = omega arith in e)
 lay-append bytes at (x ∷ xs) ys =
@@ -75,13 +75,13 @@ lay-none bytes at = refl
 
 -- ---- lists of numbers
 
-pub others-append : (xs ys : List ℕ) → others (xs ++ ys) ≡ others xs ++ others ys
+others-append : (xs ys : List ℕ) → others (xs ++ ys) ≡ others xs ++ others ys
 unfolding others
 others-append [] ys = refl
 others-append (x ∷ xs) ys =
     ap (λ (l : List ℕ). (comma ++ decimal x) ++ l) (others-append xs ys) ∙ sym (append-assoc (comma ++ decimal x) (others xs) (others ys))
 
-pub others-one : (x : ℕ) → others (x ∷ []) ≡ comma ++ decimal x
+others-one : (x : ℕ) → others (x ∷ []) ≡ comma ++ decimal x
 unfolding others
 others-one x = append-nil (comma ++ decimal x)
 
@@ -100,12 +100,12 @@ pub none-others : others [] ≡ []
 unfolding others
 none-others = refl
 
-pub numbers-none : (xs : List ℕ) → length xs ≡ 0 → numbers xs ≡ []
+numbers-none : (xs : List ℕ) → length xs ≡ 0 → numbers xs ≡ []
 unfolding numbers
 numbers-none [] e = refl
 numbers-none (x ∷ xs) e = absurd (omega arith)
 
-pub numbers-some : (xs : List ℕ) → (length xs ≡ 0 → ⊥) → numbers xs ≡ decimal (getD xs 0 0) ++ others (drop 1 xs)
+numbers-some : (xs : List ℕ) → (length xs ≡ 0 → ⊥) → numbers xs ≡ decimal (getD xs 0 0) ++ others (drop 1 xs)
 unfolding numbers
 numbers-some [] n = absurd (n refl)
 numbers-some (x ∷ xs) n = refl
@@ -129,7 +129,7 @@ pub written-long : {b b₁ : List ℕ} {at e : ℕ} {xs : List ℕ} → Written 
 written-long {b} {at = at} {xs = xs} w = ap length (w .laid) ∙ lay-length b at xs
 
 -- the slice behind the first word
-pub tail-is : (xs : List ℕ) → take (length xs - 1) (drop 1 xs) ≡ drop 1 xs
+tail-is : (xs : List ℕ) → take (length xs - 1) (drop 1 xs) ≡ drop 1 xs
 tail-is xs = take-all (length xs - 1) (drop 1 xs) (omega (arith, length-drop 1 xs))
 
 pub list-none : (xs : List ℕ) → length xs ≡ 0 → numbers xs ++ closing ≡ closing
@@ -167,7 +167,7 @@ layer-length d keys intervals =
       head-length d,
     )
 
-pub text-append : (e : ℕ) (xs ys : List Layer) → textFrom e (xs ++ ys) ≡ textFrom e xs ++ textFrom (e + length xs) ys
+text-append : (e : ℕ) (xs ys : List Layer) → textFrom e (xs ++ ys) ≡ textFrom e xs ++ textFrom (e + length xs) ys
 unfolding textFrom
 text-append e [] ys = ap (λ (n : ℕ). textFrom n ys) (let p : e ≡ e + 0 = omega arith in p)
 text-append e (x ∷ xs) ys =

@@ -11,11 +11,11 @@ use lib.Seq.{take-at, getD-take}
 use Rattle.relation.specs.Lists.{Ascends}
 use Rattle.query.specs.Meet.{meet}
 use Rattle.leapfrog_join.specs.declared.Hit.{Hit}
-use Rattle.leapfrog_join.specs.Ring.{maxAtoms, keyOf, sorted, Keyed}
+use Rattle.leapfrog_join.specs.Ring.{maxAtoms, keyOf, sorted, Keyed, SameAtoms}
 use Rattle.leapfrog_join.specs.Leapfrog.{runsIn, Ready, Ordered, Left, Begun}
 use Rattle.leapfrog_join.proofs.Lists.{ascends-getD, ascends-apart}
 use Rattle.leapfrog_join.proofs.Runs.{enough}
-use Rattle.leapfrog_join.proofs.Laws.{Same, same-meet}
+use Rattle.leapfrog_join.proofs.Laws.{same-meet}
 use Rattle.leapfrog_join.proofs.Sorting.{Before, sorted-length, sorted-rises, sorted-in, in-sorted, sorted-stable}
 
 -- a ring that is ready has keys to sort by
@@ -34,7 +34,7 @@ module _ (κ : ℕ → ℕ) (ring ring′ : List ℕ) (k : ℕ) (few : k ≤ len
   by-front j l = ap (λ (r : List ℕ). getD r j 0) (sym front) ∙ getD-take k ring′ j 0 l
 
   -- atoms in ascending order stay different
-  pub sorted-same : length ring ≡ maxAtoms → Ascends _<_ (take k ring) → Same ring ring′ k
+  sorted-same : length ring ≡ maxAtoms → Ascends _<_ (take k ring) → SameAtoms ring ring′ k
   sorted-same size asc = record {
     size = sorted-size ∙ size;
     to = λ a m. rw front (in-sorted κ ring k few m);
@@ -47,7 +47,7 @@ module _ (κ : ℕ → ℕ) (ring ring′ : List ℕ) (k : ℕ) (few : k ≤ len
       irreflexive a o = ⊎-elim (λ h. omega arith) (λ (h : (κ a ≡ κ a) × (a < a)). omega (arith, h .1)) o
 
 module _ {pool at end ring ring′ : List ℕ} {k : ℕ} (r : Ready pool at end ring k) (asc : Ascends _<_ (take k ring)) (e : ring′ ≡ sorted (keyOf pool at) ring k ++ drop k ring) where
-  pub begun-same : Same ring ring′ k
+  pub begun-same : SameAtoms ring ring′ k
   begun-same = sorted-same (keyOf pool at) ring ring′ k (enough r) e (r .size) asc
 
   pub begun-ordered : Ordered pool at ring′ k 0

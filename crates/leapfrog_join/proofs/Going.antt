@@ -46,7 +46,7 @@ pub record Going (pool at₀ end ring : List ℕ) (k : ℕ) (at : List ℕ) (p m
   pub ordered : Ordered pool at ring k p
   pub last : ℕ
   pub follows : Follows k last p
-  pub is-most : keyOf pool at (getD ring last 0) ≡ most
+  is-most : keyOf pool at (getD ring last 0) ≡ most
   pub kept : meet (runsIn pool at₀ end ring k) ≡ meet (runsIn pool at end ring k)
   pub moved : Moved end ring k at₀ at
 

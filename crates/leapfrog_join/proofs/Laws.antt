@@ -6,13 +6,13 @@ use Prim.Native.Nat.{ℕ, _+_, _≤_, _<_}
 use native.Mathlib.Omega.{arith}
 use lib.ListN.{length, getD, take, drop}
 use lib.Seq.{getD-take, length-take-le}
-use Rattle.relation.specs.Lists.{_∈_, Ascends}
+use Rattle.relation.specs.Lists.{Ascends}
 use Rattle.query.specs.Meet.{meet, Agree}
 use Rattle.query.proofs.Meet.{meet-map}
 use Rattle.query.proofs.Leap.{agree-tails}
 use Rattle.leapfrog_join.specs.declared.Hit.{Hit}
 use Rattle.leapfrog_join.specs.declared.Hit.the-variants.{Key}
-use Rattle.leapfrog_join.specs.Ring.{maxAtoms, keyOf}
+use Rattle.leapfrog_join.specs.Ring.{keyOf, SameAtoms}
 use Rattle.leapfrog_join.specs.Leapfrog.{part, runOf, runsIn, Ready, Ordered, Agreed, Moved, Left}
 use Rattle.leapfrog_join.proofs.Lists.{ascends-apart}
 use Rattle.leapfrog_join.proofs.Runs.{ring-in, ready-length, ready-runs, ready-heads}
@@ -61,21 +61,14 @@ found-first {passed = passed} l = l .keys ∙ ap (λ (r : List ℕ). passed ++ r
 
 -- ---- another ring with the same atoms
 
--- the same first k atoms, in any sequence
-pub record Same (ring ring′ : List ℕ) (k : ℕ) : Type 0 where
-  pub size : length ring′ ≡ maxAtoms
-  pub to : (a : ℕ) → a ∈ take k ring → a ∈ take k ring′
-  pub back : (a : ℕ) → a ∈ take k ring′ → a ∈ take k ring
-  pub apart : (i j : ℕ) → i < k → j < k → getD ring′ i 0 ≡ getD ring′ j 0 → i ≡ j
-
-pub same-moved : {end ring ring′ : List ℕ} {k : ℕ} {at₀ at : List ℕ} → Same ring ring′ k → Moved end ring k at₀ at → Moved end ring′ k at₀ at
+pub same-moved : {end ring ring′ : List ℕ} {k : ℕ} {at₀ at : List ℕ} → SameAtoms ring ring′ k → Moved end ring k at₀ at → Moved end ring′ k at₀ at
 same-moved s m = record { places = m .places; forward = m .forward; within = λ a i. m .within a (s .back a i); others = λ a n. m .others a (λ i. n (s .to a i)) }
 
-module _ {ring ring′ : List ℕ} {k : ℕ} (s : Same ring ring′ k) {pool at end : List ℕ} where
+module _ {ring ring′ : List ℕ} {k : ℕ} (s : SameAtoms ring ring′ k) {pool at end : List ℕ} where
   pub same-ready : Ready pool at end ring k → Ready pool at end ring′ k
   same-ready r = record { some = r .some; few = r .few; size = s .size; places = r .places; apart = s .apart; each = λ a m. r .each a (s .back a m) }
 
-  pub same-back : Ready pool at end ring k → Same ring′ ring k
+  pub same-back : Ready pool at end ring k → SameAtoms ring′ ring k
   same-back r = record { size = r .size; to = s .back; back = s .to; apart = r .apart }
 
   pub same-meet : Ready pool at end ring k → meet (runsIn pool at end ring k) ≡ meet (runsIn pool at end ring′ k)

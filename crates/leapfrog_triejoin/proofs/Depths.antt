@@ -102,7 +102,7 @@ module _ {pool : List ℕ} {ts : Tables} {q : Query} {plan : List ℕ} {n d : �
     count = o .interval-count ∙ groups.interval-each u L b
 
     -- a layer without keys: no key under its words
-    pub none-under : keysAt plan base ≡ 0 → keysUnder (f a) rows ≡ []
+    none-under : keysAt plan base ≡ 0 → keysUnder (f a) rows ≡ []
     none-under e = keys-none (f a) rows (omega (arith, e, o .key-count, groups.key-each u L b))
 
     module _ (some : keysAt plan base ≡ 0 → ⊥) where
@@ -134,7 +134,7 @@ module _ {pool : List ℕ} {ts : Tables} {q : Query} {plan : List ℕ} {n d : �
               high-last pool plan base place k
               ∙ ap₂ _+_ (o .keys) (o .key-count ∙ groups.key-count u L b ∙ sym (interval-end (layerAt L rows .intervals) x (length (layerAt L rows .keys)) (getD plan (base + 5) 0) (omega (arith, o .interval-count, groups.interval-count u L b)) (omega (arith, k, interval-is))))
 
-      pub readable : Readable pool plan base place
+      readable : Readable pool plan base place
       readable = record {
         above = omega (arith, o .above, stood .above);
         inside = omega (arith, count, interval-is, inside);

@@ -6,22 +6,16 @@ use mathlib.Core.List.{List, [], _∷_, _++_}
 use lib.ListN.{getD, take}
 use Rattle.relation.specs.Lists.{Ascends}
 use Rattle.query.specs.Meet.{meet}
-use Rattle.leapfrog_join.specs.Ring.{keyOf}
+use Rattle.leapfrog_join.specs.Ring.{keyOf, SameAtoms}
 use Rattle.leapfrog_join.specs.Leapfrog.{runsIn, Ready, Agreed, Moved, Left, leftOf, Begun}
 use Rattle.leapfrog_join.specs.declared.Hit.{Hit}
 use Rattle.leapfrog_join.specs.declared.Hit.the-variants.{Key, Nothing}
-use Rattle.leapfrog_join.proofs.Laws.{Same, same-back, same-meet, same-agreed, same-moved, agreed-here, next-left}
+use Rattle.leapfrog_join.proofs.Laws.{same-back, same-meet, same-agreed, same-moved, agreed-here, next-left}
 use Rattle.leapfrog_join.proofs.Beginning.{begun-same}
-use Rattle.leapfrog_triejoin.specs.Descent.{SameAtoms, AgreedAt, Steps}
-
-pub same-of : {ring ring′ : List ℕ} {k : ℕ} → SameAtoms ring ring′ k → Same ring ring′ k
-same-of s = record { size = s .size; to = s .to; back = s .back; apart = s .apart }
-
-of-same : {ring ring′ : List ℕ} {k : ℕ} → Same ring ring′ k → SameAtoms ring ring′ k
-of-same s = record { size = s .size; to = s .to; back = s .back; apart = s .apart }
+use Rattle.leapfrog_triejoin.specs.Descent.{AgreedAt, Steps}
 
 -- what a search of one ring leaves, said of another with the same atoms
-module _ {pool end ring fresh : List ℕ} {k : ℕ} (s : Same ring fresh k) {at₀ at common passed : List ℕ} where
+module _ {pool end ring fresh : List ℕ} {k : ℕ} (s : SameAtoms ring fresh k) {at₀ at common passed : List ℕ} where
   same-ended : (hit : Hit) → Left pool end ring k at₀ at common passed hit → AgreedAt pool at end fresh k hit
   same-ended (Key x p) l = same-agreed s (l .ended) p (l .ended .place)
   same-ended (Nothing p) l = tt
@@ -34,7 +28,7 @@ module _ {pool end ring fresh : List ℕ} {k : ℕ} (s : Same ring fresh k) {at�
 
 module _ {pool at end fresh : List ℕ} {k x p : ℕ} (g : Agreed pool at end fresh k x p) where
   -- at the last depth the ring goes on as it is
-  module _ {ring : List ℕ} (s : Same fresh ring k) where
+  module _ {ring : List ℕ} (s : SameAtoms fresh ring k) where
     pub goes-on : Agreed pool at end ring k (keyOf pool at (getD ring p 0)) p
     goes-on = agreed-here (same-agreed s g p (g .place))
 
@@ -52,7 +46,7 @@ module _ {pool at end fresh : List ℕ} {k x p : ℕ} (g : Agreed pool at end fr
   anew : Agreed pool at end fresh k x 0
   anew = record { ready = g .ready; place = g .ready .some; all = g .all }
 
-  same-ring : Same fresh fresh k
+  same-ring : SameAtoms fresh fresh k
   same-ring = record { size = g .ready .size; to = λ a m. m; back = λ a m. m; apart = g .ready .apart }
 
   pub begins-anew : Agreed pool at end fresh k (keyOf pool at (getD fresh 0 0)) 0
@@ -67,13 +61,13 @@ module _ {pool at end fresh : List ℕ} {k x p : ℕ} (g : Agreed pool at end fr
 
 module _ {pool at end fresh ring ring′ : List ℕ} {k : ℕ} (r : Ready pool at end ring k) (f : Ready pool at end fresh k) (e : take k ring ≡ take k fresh) (asc : Ascends _<_ (take k ring)) {at′ : List ℕ} {hit : Hit} (b : Begun pool end k ring ring′ at at′ hit) where
   -- the ring in atom order, sorted and in atom order again
-  both : Same fresh ring k
+  both : SameAtoms fresh ring k
   both = record { size = r .size; to = λ a m. rw e m; back = λ a m. rw e at m; apart = r .apart }
 
-  sorts : Same ring ring′ k
+  sorts : SameAtoms ring ring′ k
   sorts = begun-same r asc (b .order)
 
-  through : Same ring′ fresh k
+  through : SameAtoms ring′ fresh k
   through = record { size = f .size; to = λ a m. both .back a (sorts .back a m); back = λ a m. sorts .to a (both .to a m); apart = f .apart }
 
   pub first-agreed : AgreedAt pool at′ end fresh k hit

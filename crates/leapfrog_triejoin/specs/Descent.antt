@@ -7,7 +7,6 @@ use mathlib.Core.List.{List, _∷_, map}
 use lib.ListN.{length, getD, take, drop}
 use lib.Dec.{ltb}
 use Rattle.relation.specs.Order.{Row, pick}
-use Rattle.relation.specs.Lists.{_∈_}
 use Rattle.relation.specs.Layers.{prefixes, keysUnder}
 use Rattle.relation.specs.Layers as layers
 use Rattle.query.specs.Meet.{meet}
@@ -18,7 +17,7 @@ use Rattle.column_trie.specs.Limits.{maxArity}
 use Rattle.column_trie.specs.Pool.{spot}
 use Rattle.column_trie.specs.Table.{rowsIn}
 use Rattle.column_trie.specs.declared.ColumnTrie.{ColumnTrie}
-use Rattle.leapfrog_join.specs.Ring.{maxAtoms}
+use Rattle.leapfrog_join.specs.Ring.{maxAtoms, SameAtoms}
 use Rattle.leapfrog_join.specs.Leapfrog.{runsIn, Agreed, Moved, leftOf}
 use Rattle.leapfrog_join.specs.declared.Hit.{Hit}
 use Rattle.leapfrog_join.specs.declared.Hit.the-variants.{Key, Nothing}
@@ -178,13 +177,6 @@ AgreedAt pool at end ring k (Nothing p) = Unit {0}
 abbrev pub IfFound : Hit → Type 0 → Type 0
 IfFound (Key x p) A = A
 IfFound (Nothing p) A = Unit {0}
-
--- two rings of the same k atoms
-pub record SameAtoms (ring ring′ : List ℕ) (k : ℕ) : Type 0 where
-  pub size : length ring′ ≡ maxAtoms
-  pub to : (a : ℕ) → a ∈ take k ring → a ∈ take k ring′
-  pub back : (a : ℕ) → a ∈ take k ring′ → a ∈ take k ring
-  pub apart : (i j : ℕ) → i < k → j < k → getD ring′ i 0 ≡ getD ring′ j 0 → i ≡ j
 
 -- the keys that the atoms that take part have in common under their words
 abbrev pub commonAt : List ℕ → Tables → Query → ℕ → (ℕ → Row) → List ℕ

@@ -26,7 +26,7 @@ no-words (x ∷ r) e = absurd (omega arith)
 
 -- ---- rows that begin with p
 
-pub under-asc : (p : Row) {rows : List Row} → Asc rows → Asc (under p rows)
+under-asc : (p : Row) {rows : List Row} → Asc rows → Asc (under p rows)
 unfolding under
 under-asc p anone = anone
 under-asc p (amore {r = q} {rs = qs} f s) = go (same p (take (length p) q)) (under-asc p s)

@@ -1,17 +1,16 @@
 -- The computed tests mean what `Passes` says, and how a loop comes by their results.
 -- Idea: each test is an `and` or an `or` of tests over a list; a test that a fact decides is true where the fact holds and false where it fails.
-use Prim.Native.Nat.{ℕ, zero, suc, _≤_, _<_}
+use Prim.Native.Nat.{ℕ, zero, suc, _<_}
 use native.Mathlib.Omega.{arith}
 use native.Mathlib.Nat.{le-of-suc-le-suc}
-use native.Mathlib.Decide.{decLt, ℕ-discrete}
+use native.Mathlib.Decide.{ℕ-discrete}
 use mathlib.Core.Path.{_≡_, refl, sym, ap, _∙_}
 use mathlib.Core.Logic.{_⊎_, inl, inr, ⊎-elim}
 use mathlib.Core.Bool.{Bool, true, false, _&&_, _||_, not, false≢true}
 use mathlib.Core.List.{List, [], _∷_, map, cons-ne-nil, Memᴰ·cast, Memᴰ·map, Memᴰ·of-map, Sublistᴰ, Sublistᴰ·cons, Sublistᴰ·cons-cons, Sublistᴰ·nil-sublist, Sublistᴰ·refl, Sublistᴰ·trans, Sublistᴰ·eq-nil, Sublistᴰ·cases-cons-cons}
-use lib.ListN.{length, getD, drop, drop-of-length-le}
-use lib.Seq.{drop-cons}
+use lib.ListN.{length, getD}
 use lib.Dec.{eqb, ltb}
-use borrow.Author.Tests.{eqb-true, eqb-false, eq-eqb, ne-eqb, ltb-true, lt-ltb}
+use borrow.Author.Tests.{eqb-true, eqb-false, eq-eqb, ltb-true, lt-ltb}
 use Rattle.relation.specs.Order.{pick}
 use Rattle.relation.specs.Lists.{_∈_, hd, tl, not-in-nil, in-cons, anone, amore}
 use Rattle.query.specs.Meaning.{Atom, Distinct, Permutation, follows, Table, Passes}
@@ -43,13 +42,10 @@ module _ {A : Type 0} (p : A → Bool) where
       let t = both (p y) (every p l) e in
       ⊎-elim (λ (d : x ≡ y). ap p d ∙ t .0) (λ (i : x ∈ l). every-in l (t .1) x i) (in-cons m)
 
-  pub in-every : (l : List A) → ((x : A) → x ∈ l → p x ≡ true) → every p l ≡ true
+  in-every : (l : List A) → ((x : A) → x ∈ l → p x ≡ true) → every p l ≡ true
   unfolding every
   in-every [] f = refl
   in-every (y ∷ l) f = both-and (p y) (every p l) (f y (hd refl)) (in-every l (λ x m. f x (tl m)))
-
-  pub every-false : {x : A} {l : List A} → x ∈ l → p x ≡ false → every p l ≡ false
-  every-false {x} {l} m e = refuted (every p l) (every-in l) (λ f. false≢true (sym e ∙ f x m))
 
   pub some-in : (l : List A) → some p l ≡ true → (x : A) × (x ∈ l) × (p x ≡ true)
   unfolding some
@@ -144,7 +140,7 @@ listed-true n order arity vars e =
     (eqb-true (length vars) arity (t .0), both (every (λ (x : ℕ). ltb x n) vars) (follows order vars) (t .1) .1)
 
 -- what follows the order is the order with some variables left out, and the other way round
-pub follows-sublist : (order vars : List ℕ) → follows order vars ≡ true → Sublistᴰ vars order
+follows-sublist : (order vars : List ℕ) → follows order vars ≡ true → Sublistᴰ vars order
 unfolding follows
 follows-sublist order [] e = Sublistᴰ·nil-sublist order
 follows-sublist [] (x ∷ xs) e = absurd (false≢true e)
@@ -154,7 +150,7 @@ follows-sublist (v ∷ vs) (x ∷ xs) e = go (follows-sublist vs xs) (follows-su
     go f g true q e = Sublistᴰ·cons-cons (eqb-true x v q) (f e)
     go f g false q e = Sublistᴰ·cons (g e)
 
-pub sublist-follows : (order vars : List ℕ) → Sublistᴰ vars order → follows order vars ≡ true
+sublist-follows : (order vars : List ℕ) → Sublistᴰ vars order → follows order vars ≡ true
 unfolding follows
 sublist-follows order [] s = refl
 sublist-follows [] (x ∷ xs) s = absurd (cons-ne-nil x xs (Sublistᴰ·eq-nil s))
@@ -166,35 +162,13 @@ sublist-follows (v ∷ vs) (x ∷ xs) s = go (sublist-follows vs xs) (sublist-fo
     go f g false q (inl t) = g t
     go f g false q (inr t) = absurd (eqb-false x v q (t .0))
 
--- one walk over the order: place t of it, place j of the list
-module _ (order vars : List ℕ) (t j : ℕ) where
-  pub follows-take : t < length order → j < length vars → getD vars j 0 ≡ getD order t 0 → follows (drop t order) (drop j vars) ≡ follows (drop (suc t) order) (drop (suc j) vars)
-  unfolding follows
-  follows-take h g e = rw (drop-cons order t 0 h, drop-cons vars j 0 g, eq-eqb (getD vars j 0) (getD order t 0) e) refl
-
-  pub follows-skip : t < length order → (j < length vars → getD vars j 0 ≡ getD order t 0 → ⊥) → follows (drop t order) (drop j vars) ≡ follows (drop (suc t) order) (drop j vars)
-  unfolding follows
-  follows-skip h n = go (decLt j (length vars))
-    where
-      go : Dec (j < length vars) → follows (drop t order) (drop j vars) ≡ follows (drop (suc t) order) (drop j vars)
-      go (yes g) = rw (drop-cons order t 0 h, drop-cons vars j 0 g, ne-eqb (getD vars j 0) (getD order t 0) (n g)) refl
-      go (no g) = rw (drop-of-length-le vars (let l : length vars ≤ j = omega arith in l)) refl
-
-  pub follows-all : length vars ≤ j → follows (drop t order) (drop j vars) ≡ true
-  unfolding follows
-  follows-all h = rw (drop-of-length-le vars h) refl
-
-  pub follows-short : length order ≤ t → j < length vars → follows (drop t order) (drop j vars) ≡ false
-  unfolding follows
-  follows-short h g = rw (drop-of-length-le order h, drop-cons vars j 0 g) refl
-
 -- ---- 11
 
 -- each variable below n is in some list
-abbrev pub Covered : ℕ → List (List ℕ) → Type 0
+abbrev Covered : ℕ → List (List ℕ) → Type 0
 Covered n lists = (x : ℕ) → x < n → (l : List ℕ) × (l ∈ lists) × (x ∈ l)
 
-pub covers-true : (n : ℕ) (lists : List (List ℕ)) → covers n lists ≡ true → Covered n lists
+covers-true : (n : ℕ) (lists : List (List ℕ)) → covers n lists ≡ true → Covered n lists
 unfolding covers
 covers-true zero lists e x h = absurd (omega arith)
 covers-true (suc n) lists e x h = go (covers-true n lists (t .1)) (ℕ-discrete x n)
@@ -206,7 +180,7 @@ covers-true (suc n) lists e x h = go (covers-true n lists (t .1)) (ℕ-discrete 
     go ih (yes d) = let u = some-in (λ (l : List ℕ). has l n) lists (t .0) in (u .0, u .1, Memᴰ·cast d (has-in (u .0) n (u .2)))
     go ih (no d) = ih x (omega arith)
 
-pub true-covers : (n : ℕ) (lists : List (List ℕ)) → Covered n lists → covers n lists ≡ true
+true-covers : (n : ℕ) (lists : List (List ℕ)) → Covered n lists → covers n lists ≡ true
 unfolding covers
 true-covers zero lists f = refl
 true-covers (suc n) lists f =

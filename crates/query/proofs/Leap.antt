@@ -12,7 +12,7 @@ use lib.Seq.{getD-set-same, getD-set-other}
 use Rattle.relation.specs.Lists.{_∈_, hd, tl, not-in-nil, in-cons, Ascends, amore}
 use Rattle.relation.proofs.Lists.{ascends-head, ascends-tail}
 use Rattle.relation.specs.Runs.{from}
-use Rattle.relation.proofs.Runs.{from-in, in-from, from-ascends, from-least}
+use Rattle.relation.proofs.Runs.{from-in, in-from, from-ascends}
 use Rattle.query.specs.Meet.{meet, All, Runs, Agree, total}
 use Rattle.query.proofs.Meet.{getD-in, meet-all, meet-to, meet-of, meet-asc, same-keys, none-left}
 
@@ -71,7 +71,7 @@ module _ (rs : List (List ℕ)) (c : Runs rs) (j : ℕ) (h : j < length rs) wher
       (λ k m. after-set r m (from-in t (getD rs j []) (least k (meet-to rs m i hi)) (meet-to rs m j h)))
 
   -- every run has x and run j begins with it: x is the first common key, and the others follow once run j has passed it
-  pub next-runs : {x : ℕ} {xs : List ℕ} → getD rs j [] ≡ x ∷ xs → Runs (set rs j xs)
+  next-runs : {x : ℕ} {xs : List ℕ} → getD rs j [] ≡ x ∷ xs → Runs (set rs j xs)
   next-runs {x} {xs} e = put-runs xs (ascends-tail (subst (Ascends _<_) e (c j h)))
 
   pub agree-meet : {x : ℕ} {xs : List ℕ} → All rs x → getD rs j [] ≡ x ∷ xs → meet rs ≡ x ∷ meet (set rs j xs)
@@ -87,25 +87,8 @@ module _ (rs : List (List ℕ)) (c : Runs rs) (j : ℕ) (h : j < length rs) wher
 pub agree-all : (rs : List (List ℕ)) {x : ℕ} → Agree rs x → All rs x
 agree-all rs {x} a i lt = rw (a i lt) (hd refl)
 
--- the meet of the tails, and of the runs from a target on
+-- the meet of the tails
 module _ (rs : List (List ℕ)) (c : Runs rs) (h : 0 < length rs) where
-  from-run : (t i : ℕ) → getD (map (from t) rs) i [] ≡ from t (getD rs i [])
-  unfolding from
-  from-run t i = List·getD-map (from t) rs i []
-
-  from-runs : (t : ℕ) → Runs (map (from t) rs)
-  from-runs t i lt = rw (from-run t i) (from-ascends t (c i (rw (length-map rs (from t)) at lt)))
-
-  pub meet-from : (t : ℕ) → meet (map (from t) rs) ≡ from t (meet rs)
-  meet-from t =
-      same-keys (meet-asc (map (from t) rs) (from-runs t)) (from-ascends t (meet-asc rs c))
-      (λ k m.
-      let all : (i : ℕ) → i < length rs → k ∈ from t (getD rs i []) = λ i lt. rw (from-run t i) at (meet-to (map (from t) rs) m i (rw (length-map rs (from t)) lt)) in
-      from-in t (meet rs) (from-least t (c 0 h) (all 0 h)) (meet-of rs h (λ i lt. in-from t (getD rs i []) (all i lt))))
-      (λ k m.
-      meet-of (map (from t) rs) (rw (length-map rs (from t)) h)
-      (λ i lt. rw (from-run t i) (from-in t (getD rs i []) (from-least t (meet-asc rs c) m) (meet-to rs (in-from t (meet rs) m) i (rw (length-map rs (from t)) at lt)))))
-
   drop-run : (i : ℕ) → getD (map (drop 1) rs) i [] ≡ drop 1 (getD rs i [])
   drop-run i = List·getD-map (drop 1) rs i []
 

@@ -143,7 +143,7 @@ module _ {n : ℕ} {order : List ℕ} {atoms : List Atom} (q : Passes n order at
   listing-listing = extend-listing (replicate n 0) (omega (arith, length-replicate {A = ℕ} n 0))
 
   -- any listing is this one
-  pub listing-only : {l : List Row} → Listing n order atoms l → l ≡ listing n order atoms
+  listing-only : {l : List Row} → Listing n order atoms l → l ≡ listing n order atoms
   listing-only p = unique p listing-listing
 
   -- so what stood in the row at the start does not matter

@@ -49,7 +49,7 @@ in-keep p (x ∷ xs) {k} m = go (λ m′. in-keep p xs m′) (p x) refl m
     go ih true q m = ⊎-elim (λ (e : k ≡ x). (hd e, ap p e ∙ q)) (λ (m′ : k ∈ keep p xs). (tl (ih m′ .0), ih m′ .1)) (in-cons m)
     go ih false q m = (tl (ih m .0), ih m .1)
 
-pub keep-in : (p : ℕ → Bool) {k : ℕ} {xs : List ℕ} → k ∈ xs → p k ≡ true → k ∈ keep p xs
+keep-in : (p : ℕ → Bool) {k : ℕ} {xs : List ℕ} → k ∈ xs → p k ≡ true → k ∈ keep p xs
 unfolding keep
 keep-in p {k} (hd {x = x} {xs = xs} e) q = subst (λ (b : Bool). k ∈ pick b (x ∷ keep p xs) (keep p xs)) (sym q ∙ ap p e) (hd e)
 keep-in p {k} (tl {x = x} {xs = xs} m) q = go (p x) (keep-in p m q)
@@ -67,7 +67,7 @@ keep-ascends {R} p (amore {r = x} {rs = xs} f s) = go (keep-ascends p s) (p x)
     go ih true = amore (λ y m. f y (in-keep p xs m .0)) ih
     go ih false = ih
 
-pub inAll-all : (rs : List (List ℕ)) (k : ℕ) → inAll rs k ≡ true → (r : List ℕ) → r ∈ rs → k ∈ r
+inAll-all : (rs : List (List ℕ)) (k : ℕ) → inAll rs k ≡ true → (r : List ℕ) → r ∈ rs → k ∈ r
 unfolding inAll
 inAll-all [] k e r m = absurd (not-in-nil m)
 inAll-all (s ∷ rs) k e r m = go (inAll-all rs k) (has s k) refl e
@@ -76,7 +76,7 @@ inAll-all (s ∷ rs) k e r m = go (inAll-all rs k) (has s k) refl e
     go ih true q e = ⊎-elim (λ (d : r ≡ s). rw d (has-in s k q)) (λ (m′ : r ∈ rs). ih e r m′) (in-cons m)
     go ih false q e = absurd (false≢true e)
 
-pub all-inAll : (rs : List (List ℕ)) (k : ℕ) → ((r : List ℕ) → r ∈ rs → k ∈ r) → inAll rs k ≡ true
+all-inAll : (rs : List (List ℕ)) (k : ℕ) → ((r : List ℕ) → r ∈ rs → k ∈ r) → inAll rs k ≡ true
 unfolding inAll
 all-inAll [] k f = refl
 all-inAll (s ∷ rs) k f = ap (λ (b : Bool). pick b (inAll rs k) false) (in-has (f s (hd refl))) ∙ all-inAll rs k (λ r m. f r (tl m))
@@ -110,7 +110,7 @@ none-left [] f = refl
 none-left (x ∷ l) f = absurd (f x (hd refl))
 
 -- the meet depends only on which runs there are: not on their sequence, nor on how often one stands there
-pub meet-same : (rs ss : List (List ℕ)) → ((r : List ℕ) → r ∈ rs → Ascends _<_ r) → ((r : List ℕ) → r ∈ rs → r ∈ ss) → ((r : List ℕ) → r ∈ ss → r ∈ rs) → meet rs ≡ meet ss
+meet-same : (rs ss : List (List ℕ)) → ((r : List ℕ) → r ∈ rs → Ascends _<_ r) → ((r : List ℕ) → r ∈ rs → r ∈ ss) → ((r : List ℕ) → r ∈ ss → r ∈ rs) → meet rs ≡ meet ss
 unfolding meet
 meet-same rs ss a f g =
     same-keys

@@ -54,7 +54,7 @@ follow-in (v ∷ vs) (y ∷ xs) {x} e m = go (λ p i. follow-in vs xs p i) (λ p
     go i j true q e = ⊎-elim (λ (d : x ≡ y). hd (d ∙ eqb-true y v q)) (λ (m′ : x ∈ xs). tl (i e m′)) (in-cons m)
     go i j false q e = tl (j e m)
 
-pub headed-some : (v : ℕ) (xs : List ℕ) → headed v xs ≡ true → 0 < length xs
+headed-some : (v : ℕ) (xs : List ℕ) → headed v xs ≡ true → 0 < length xs
 unfolding headed
 headed-some v [] e = absurd (false≢true e)
 headed-some v (x ∷ xs) e = omega arith
@@ -79,7 +79,7 @@ module _ (v : ℕ) (vs : List ℕ) where
 
 module _ (v k : ℕ) where
   -- what holds of an atom that takes part, and of one that does not
-  pub bind-cases : (P : Atom → Type 0) (a : Atom) → (headed v (a .vars) ≡ true → P (standing (k ∷ []) a)) → (headed v (a .vars) ≡ false → P a) → P (bind v k a)
+  bind-cases : (P : Atom → Type 0) (a : Atom) → (headed v (a .vars) ≡ true → P (standing (k ∷ []) a)) → (headed v (a .vars) ≡ false → P a) → P (bind v k a)
   unfolding bind
   bind-cases P a f g = go (headed v (a .vars)) refl
     where
@@ -133,7 +133,7 @@ module _ (v k : ℕ) where
 
 -- ---- the atoms that take part
 
-pub runs-in : (v : ℕ) {a : Atom} {atoms : List Atom} → a ∈ atoms → headed v (a .vars) ≡ true → keysUnder [] (a .rows) ∈ runs v atoms
+runs-in : (v : ℕ) {a : Atom} {atoms : List Atom} → a ∈ atoms → headed v (a .vars) ≡ true → keysUnder [] (a .rows) ∈ runs v atoms
 unfolding runs
 runs-in v {a} (hd {x = b} {xs = l} e) h =
     subst (λ (t : Bool). keysUnder [] (a .rows) ∈ pick t (keysUnder [] (b .rows) ∷ runs v l) (runs v l)) (sym h ∙ ap (λ (c : Atom). headed v (c .vars)) e) (hd (ap (λ (c : Atom). keysUnder [] (c .rows)) e))
@@ -150,7 +150,7 @@ pub record Holder (v : ℕ) (atoms : List Atom) (r : List ℕ) : Type 0 where
   pub heads : headed v (atom .vars) ≡ true
   pub run : r ≡ keysUnder [] (atom .rows)
 
-pub in-runs : (v : ℕ) (atoms : List Atom) {r : List ℕ} → r ∈ runs v atoms → Holder v atoms r
+in-runs : (v : ℕ) (atoms : List Atom) {r : List ℕ} → r ∈ runs v atoms → Holder v atoms r
 unfolding runs
 in-runs v [] m = absurd (not-in-nil m)
 in-runs v (b ∷ l) {r} m = go (λ i. in-runs v l i) (headed v (b .vars)) refl m
@@ -167,7 +167,7 @@ in-runs v (b ∷ l) {r} m = go (λ i. in-runs v l i) (headed v (b .vars)) refl m
     go ih false q m = later (ih m)
 
 -- a list that follows the variables left takes part at the first of them where it holds it
-pub headed-held : (v : ℕ) (vs xs : List ℕ) → Distinct (v ∷ vs) → follows (v ∷ vs) xs ≡ true → v ∈ xs → headed v xs ≡ true
+headed-held : (v : ℕ) (vs xs : List ℕ) → Distinct (v ∷ vs) → follows (v ∷ vs) xs ≡ true → v ∈ xs → headed v xs ≡ true
 headed-held v vs xs s e m = go (headed v xs) refl
   where
     go : (b : Bool) → headed v xs ≡ b → b ≡ true
@@ -175,7 +175,7 @@ headed-held v vs xs s e m = go (headed v xs) refl
     go false q = absurd (ascends-head s v (follow-in vs xs (sym (follows-out v vs xs q) ∙ e) m) refl)
 
 module _ (v : ℕ) (vs : List ℕ) (atoms : List Atom) (c : Joinable (v ∷ vs) atoms) where
-  pub runs-ascend : (r : List ℕ) → r ∈ runs v atoms → Ascends _<_ r
+  runs-ascend : (r : List ℕ) → r ∈ runs v atoms → Ascends _<_ r
   runs-ascend r i =
       let s = in-runs v atoms i in
       rw (s .run) (keys-ascend [] (c .partway (s .atom) (s .inside) .wide) (headed-some v (s .atom .vars) (s .heads)))

@@ -10,7 +10,6 @@ use mathlib.Core.Bool.{Bool, true, false, false≢true}
 use mathlib.Core.List.{List, [], _∷_, _++_, map}
 use lib.ListN.{length, getD, drop, take-append-drop, length-append, drop-of-length-le, List·getD-eq-default}
 use lib.Seq.{drop-cons, drop-drop, slice}
-use lib.Dec.{eqb}
 use Rattle.relation.specs.Order.{Row, pick}
 use Rattle.relation.specs.Lists.{_∈_, hd, tl}
 use Rattle.relation.specs.Rows.{Asc, Width}
@@ -30,36 +29,31 @@ use Rattle.query.proofs.Holders.{in-holders, runs-holders}
 
 module _ (p : Row) (a : Atom) where
   -- the keys that it shows next
-  pub standing-keys : Width (length (a .vars)) (a .rows) → length p < length (a .vars) → keysUnder [] (standing p a .rows) ≡ keysUnder p (a .rows)
+  standing-keys : Width (length (a .vars)) (a .rows) → length p < length (a .vars) → keysUnder [] (standing p a .rows) ≡ keysUnder p (a .rows)
   standing-keys = keys-beyond p
 
-  -- whether it takes part at v: the next of its variables is v
-  pub standing-headed : (v : ℕ) → length p < length (a .vars) → headed v (standing p a .vars) ≡ eqb (getD (a .vars) (length p) 0) v
-  unfolding headed
-  standing-headed v h = ap (headed v) (drop-cons (a .vars) (length p) 0 h)
-
   -- with all its variables given, it takes no part
-  pub standing-done : (v : ℕ) → length (a .vars) ≤ length p → headed v (standing p a .vars) ≡ false
+  standing-done : (v : ℕ) → length (a .vars) ≤ length p → headed v (standing p a .vars) ≡ false
   unfolding headed
   standing-done v h = ap (headed v) (drop-of-length-le (a .vars) h)
 
-  pub standing-append : (q : Row) → Asc (a .rows) → standing (p ++ q) a ≡ standing q (standing p a)
+  standing-append : (q : Row) → Asc (a .rows) → standing (p ++ q) a ≡ standing q (standing p a)
   standing-append q s =
       ap₂ {C = Atom} (λ vs rs. record { vars = vs; rows = rs })
       (ap (λ (n : ℕ). drop n (a .vars)) (length-append p q) ∙ sym (drop-drop (length q) (length p) (a .vars)))
       (beyond-append p q s)
 
   -- it takes part, and v has the word k
-  pub bind-in : (v k : ℕ) → Asc (a .rows) → headed v (standing p a .vars) ≡ true → bind v k (standing p a) ≡ standing (p ++ k ∷ []) a
+  bind-in : (v k : ℕ) → Asc (a .rows) → headed v (standing p a .vars) ≡ true → bind v k (standing p a) ≡ standing (p ++ k ∷ []) a
   unfolding bind
   bind-in v k s e = ap (λ (b : Bool). pick b (standing (k ∷ []) (standing p a)) (standing p a)) e ∙ sym (standing-append (k ∷ []) s)
 
 -- no word given
-pub standing-none : (a : Atom) → Asc (a .rows) → standing [] a ≡ a
+standing-none : (a : Atom) → Asc (a .rows) → standing [] a ≡ a
 standing-none a s i = record { vars = a .vars; rows = beyond-none s i }
 
 -- it takes no part
-pub bind-out : (v k : ℕ) (a : Atom) → headed v (a .vars) ≡ false → bind v k a ≡ a
+bind-out : (v k : ℕ) (a : Atom) → headed v (a .vars) ≡ false → bind v k a ≡ a
 unfolding bind
 bind-out v k a e = ap (λ (b : Bool). pick b (standing (k ∷ []) a) a) e
 

@@ -1,24 +1,22 @@
 -- The children of a parent in a layer: its group, its owner, and where a word stands or would stand in it.
-use Prim.Native.Nat.{ℕ, zero, suc, _+_, _≤_, _<_}
+use Prim.Native.Nat.{ℕ, zero, suc, _≤_, _<_}
 use mathlib.Core.Path.{_≡_, refl, sym, ap, _∙_, subst}
-use mathlib.Core.Bool.{Bool, true, false}
 use mathlib.Core.Logic.{_⊎_, inl, inr, ⊎-elim}
 use mathlib.Core.List.{List, [], _∷_, _++_, map}
 use native.Mathlib.Omega.{arith}
 use native.Mathlib.Decide.{decLt}
 use lib.ListN.{length, take, getD, length-map, List·getD-eq-default}
-use lib.Dec.{T, leb}
+use lib.Dec.{T}
 use lib.Seq.{take-at, getD-at, slice, drop-nil}
-use Rattle.relation.specs.Order.{Row, pick, _≺_}
+use Rattle.relation.specs.Order.{Row, _≺_}
 use Rattle.relation.specs.Lists.{_∈_, hd, tl, not-in-nil, in-cons, anone, amore}
 use Rattle.relation.specs.Rows.{Asc, same, Width}
 use Rattle.relation.specs.Layers.{prefixes, under, keysUnder}
-use Rattle.relation.specs.Paths.{upto, owner, grow}
 use Rattle.relation.proofs.Order.{pick-true, pick-false, test, irrefl, trans, Tri, lt, eq, gt, tri, asym, le-lt, lt-le, dec≺, snoc-after, take-not-after, take-before}
 use Rattle.relation.proofs.Sorting.{same→eq, same-refl}
 use Rattle.relation.proofs.Rank.{rank, rank-lt, rank-not, rank-le, rank-at, startsIn, length-starts}
-use Rattle.relation.proofs.Layers.{keysAt, intervalsAt, prefixes-asc, prefixes-width, length-keys, length-intervals, parent-in}
-use Rattle.relation.proofs.Paths.{word-snoc, word-snoc-inv, snoc-mono, snoc-form, between-prefixes}
+use Rattle.relation.proofs.Layers.{keysAt, intervalsAt, prefixes-asc, prefixes-width, length-keys, parent-in}
+use Rattle.relation.proofs.Paths.{word-snoc, word-snoc-inv, snoc-mono, snoc-form}
 
 pub in-getD : (qs : List Row) (j : ℕ) → j < length qs → getD qs j [] ∈ qs
 in-getD [] j h = absurd (omega arith)
@@ -26,7 +24,7 @@ in-getD (q ∷ qs) zero h = hd refl
 in-getD (q ∷ qs) (suc j) h = tl (in-getD qs j (omega arith))
 
 -- in ascending rows, place j is before p's place exactly where its row is before p
-pub rank-index : {qs : List Row} → Asc qs → (p : Row) (j : ℕ) → j < length qs → (getD qs j [] ≺ p → j < rank p qs) × (j < rank p qs → getD qs j [] ≺ p)
+rank-index : {qs : List Row} → Asc qs → (p : Row) (j : ℕ) → j < length qs → (getD qs j [] ≺ p → j < rank p qs) × (j < rank p qs → getD qs j [] ≺ p)
 rank-index anone p j h = absurd (omega arith)
 rank-index (amore {r = q} {rs = qs} f s) p zero h = (λ l. omega (arith, rank-lt p q qs l), λ l. ⊎-elim (λ (x : q ≺ p). x) (λ (n : q ≺ p → ⊥). absurd (omega (arith, l, rank-not p q qs n))) (dec≺ q p))
 rank-index (amore {r = q} {rs = qs} f s) p (suc j) h = go (rank-index s p j (omega arith)) (dec≺ q p)
@@ -36,7 +34,7 @@ rank-index (amore {r = q} {rs = qs} f s) p (suc j) h = go (rank-index s p j (ome
     go ih (inr n) = (λ x. absurd (n (trans (f (getD qs j []) (in-getD qs j (omega arith))) x)), λ x. absurd (omega (arith, rank-not p q qs n, x)))
 
 -- ascending, by places
-pub asc-getD : {qs : List Row} → Asc qs → (i j : ℕ) → i < j → j < length qs → getD qs i [] ≺ getD qs j []
+asc-getD : {qs : List Row} → Asc qs → (i j : ℕ) → i < j → j < length qs → getD qs i [] ≺ getD qs j []
 asc-getD anone i j l h = absurd (omega arith)
 asc-getD (amore {rs = qs} f s) zero zero l h = absurd (omega arith)
 asc-getD (amore {rs = qs} f s) zero (suc j) l h = f (getD qs j []) (in-getD qs j (omega arith))
@@ -56,17 +54,17 @@ rank-of {qs} s i h = go (decLt i (rank (getD qs i []) qs)) (decLt (rank (getD qs
     go (no l) (yes g) = absurd (omega (arith, rank-index s r (rank r qs) (omega arith) .0 (asc-getD s (rank r qs) i g h)))
 
 -- the start of parent i, or the end
-pub start-at : (ps qs : List Row) (i z : ℕ) → i < length ps → getD (startsIn ps qs) i z ≡ rank (getD ps i []) qs
+start-at : (ps qs : List Row) (i z : ℕ) → i < length ps → getD (startsIn ps qs) i z ≡ rank (getD ps i []) qs
 unfolding startsIn
 start-at [] qs i z h = absurd (omega arith)
 start-at (p ∷ ps) qs zero z h = refl
 start-at (p ∷ ps) qs (suc i) z h = start-at ps qs i z (omega arith)
 
-pub start-end : (ps qs : List Row) (i z : ℕ) → length ps ≤ i → getD (startsIn ps qs) i z ≡ z
+start-end : (ps qs : List Row) (i z : ℕ) → length ps ≤ i → getD (startsIn ps qs) i z ≡ z
 start-end ps qs i z h = List·getD-eq-default (startsIn ps qs) z (omega (arith, length-starts ps qs))
 
 -- a later parent is not before the next one
-pub next-le : {ps : List Row} → Asc ps → (i : ℕ) (t : Row) → i < length ps → t ∈ ps → getD ps i [] ≺ t → (suc i < length ps) × (t ≺ getD ps (suc i) [] → ⊥)
+next-le : {ps : List Row} → Asc ps → (i : ℕ) (t : Row) → i < length ps → t ∈ ps → getD ps i [] ≺ t → (suc i < length ps) × (t ≺ getD ps (suc i) [] → ⊥)
 next-le {ps} s i t h m l =
     let a : i < rank t ps = rank-index s t i h .0 l in
     let b : rank t ps < length ps = rank-at s m .0 in
@@ -222,21 +220,6 @@ map-slice f lo (suc hi) [] = ap (map f) (drop-nil lo) ∙ sym (drop-nil lo)
 map-slice {B = B} f zero (suc hi) (x ∷ l) = ap {B = List B} (λ z. f x ∷ z) (map-slice f zero hi l)
 map-slice f (suc lo) (suc hi) (x ∷ l) = map-slice f lo hi l
 
-upto-length : (j : ℕ) (ss : List ℕ) → upto j ss ≤ length ss
-unfolding upto
-upto-length j [] = omega arith
-upto-length j (s ∷ ss) = go (leb s j) (upto-length j ss)
-  where
-    go : (b : Bool) → upto j ss ≤ length ss → pick b (suc (upto j ss)) 0 ≤ suc (length ss)
-    go true h = omega arith
-    go false h = omega arith
-
-grow-at : (ps : List Row) (ints : List ℕ) (at : ℕ) (ks : List ℕ) (j : ℕ) → j < length ks → getD (grow ps ints at ks) j [] ≡ getD ps (owner ints (at + j)) [] ++ (getD ks j 0 ∷ [])
-unfolding grow
-grow-at ps ints at [] j h = absurd (omega arith)
-grow-at ps ints at (k ∷ ks) zero h = ap (λ (n : ℕ). getD ps (owner ints n) [] ++ (k ∷ [])) (let e : at ≡ at + 0 = omega arith in e)
-grow-at ps ints at (k ∷ ks) (suc j) h = grow-at ps ints (suc at) ks j (omega arith) ∙ ap (λ (n : ℕ). getD ps (owner ints n) [] ++ (getD ks j 0 ∷ [])) (let e : suc at + j ≡ at + suc j = omega arith in e)
-
 -- the same in a layer of rows
 module _ (a d : ℕ) (rows : List Row) (w : Width a rows) (h : d < a) where
   pub key-at : (j : ℕ) → j < length (keysAt d rows) → getD (keysAt d rows) j 0 ≡ getD (getD (prefixes (suc d) rows) j []) d 0
@@ -294,42 +277,6 @@ module _ (a d : ℕ) (rows : List Row) (w : Width a rows) (h : d < a) where
           (λ j l e.
           let g = group-of d (prefixes d rows) qs (prefixes-asc d rows) (prefixes-width d w (omega arith)) (prefixes-asc (suc d) rows) (prefixes-width (suc d) w h) (λ q m. parent-in d rows m) i j k l (ap (λ (n : ℕ). take n (getD qs j [])) (sym wide) ∙ sym e) in
           (g .0, omega (arith, g .1, end-is i)))
-
-  -- the owner of the key at place j is its parent's number
-  pub owner-row : (j : ℕ) → j < length (keysAt d rows) → (owner (intervalsAt d rows) j < length (prefixes d rows)) × (take d (getD (prefixes (suc d) rows) j []) ≡ getD (prefixes d rows) (owner (intervalsAt d rows) j) [])
-  unfolding owner
-  owner-row j l = (inside, ap (take d) form ∙ take-at (getD ps (owner (intervalsAt d rows) j) []) (getD (keysAt d rows) j 0 ∷ []) d (prefixes-width d w (omega arith) (getD ps (owner (intervalsAt d rows) j) []) (in-getD ps (owner (intervalsAt d rows) j) inside)))
-    where
-      ps : List Row
-      ps = prefixes d rows
-
-      qs : List Row
-      qs = prefixes (suc d) rows
-
-      many : 0 < length ps
-      many = omega (arith, rank-at (prefixes-asc d rows) (parent-in d rows (in-getD qs j (omega (arith, l, length-keys d rows)))) .0)
-
-      inside : owner (intervalsAt d rows) j < length ps
-      inside = omega (arith, many, upto-length j (intervalsAt d rows), length-intervals d rows)
-
-      form : getD qs j [] ≡ getD ps (owner (intervalsAt d rows) j) [] ++ (getD (keysAt d rows) j 0 ∷ [])
-      form =
-          ap (λ (us : List Row). getD us j []) (sym (between-prefixes d w h .1)) ∙
-          grow-at ps (intervalsAt d rows) 0 (keysAt d rows) j l ∙
-          ap (λ (n : ℕ). getD ps (owner (intervalsAt d rows) n) [] ++ (getD (keysAt d rows) j 0 ∷ [])) (let e : 0 + j ≡ j = omega arith in e)
-
-  pub owner-group : (j : ℕ) → j < length (keysAt d rows) → (getD (intervalsAt d rows) (owner (intervalsAt d rows) j) 0 ≤ j) × (j < getD (intervalsAt d rows) (suc (owner (intervalsAt d rows) j)) (length (keysAt d rows)))
-  owner-group j l =
-      let o = owner-row j l in
-      let g = group-of d (prefixes d rows) (prefixes (suc d) rows) (prefixes-asc d rows) (prefixes-width d w (omega arith)) (prefixes-asc (suc d) rows) (prefixes-width (suc d) w h) (λ q m. parent-in d rows m) (owner (intervalsAt d rows) j) j (o .0) (omega (arith, l, length-keys d rows)) (o .1) in
-      (omega (arith, g .0, begin-is (owner (intervalsAt d rows) j) (o .0)), omega (arith, g .1, end-is (owner (intervalsAt d rows) j)))
-
-  pub owner-is : (i j : ℕ) → i < length (prefixes d rows) → getD (intervalsAt d rows) i 0 ≤ j → j < getD (intervalsAt d rows) (suc i) (length (keysAt d rows)) → owner (intervalsAt d rows) j ≡ i
-  owner-is i j k lo hi =
-      let l : j < length (keysAt d rows) = omega (arith, hi, end-le i k) in
-      let o = owner-row j l in
-      let e = group-in d (prefixes d rows) (prefixes (suc d) rows) (prefixes-asc d rows) (prefixes-width d w (omega arith)) (prefixes-asc (suc d) rows) (prefixes-width (suc d) w h) (λ q m. parent-in d rows m) i j k (omega (arith, l, length-keys d rows)) (omega (arith, lo, begin-is i k)) (omega (arith, hi, end-is i)) in
-      sym (rank-of (prefixes-asc d rows) (owner (intervalsAt d rows) j) (o .0)) ∙ ap (λ (z : Row). rank z (prefixes d rows)) (sym (o .1) ∙ e) ∙ rank-of (prefixes-asc d rows) i k
 
 pub in-under : (p : Row) (qs : List Row) (q : Row) → (q ∈ under p qs → (q ∈ qs) × (take (length p) q ≡ p)) × (q ∈ qs → take (length p) q ≡ p → q ∈ under p qs)
 unfolding under

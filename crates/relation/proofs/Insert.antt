@@ -7,22 +7,15 @@ use native.Mathlib.Omega.{arith}
 use lib.ListN.{length, take, getD, drop}
 use lib.Seq.{take-all}
 use Rattle.relation.specs.Order.{Row}
-use Rattle.relation.specs.Lists.{_∈_, hd, not-in-nil}
-use Rattle.relation.specs.Rows.{Asc, sort, Members, put, distinct, Width}
-use Rattle.relation.specs.Layers.{prefixes, Layer, layer}
-use Rattle.relation.specs.Undamaged.{Undamaged}
-use Rattle.relation.specs.Paths.{rowsOf}
+use Rattle.relation.specs.Lists.{_∈_, not-in-nil}
+use Rattle.relation.specs.Rows.{Asc, Members, put, Width}
+use Rattle.relation.specs.Layers.{prefixes}
 use Rattle.relation.proofs.Order.{irrefl}
-use Rattle.relation.proofs.Sorting.{perm-in, sort-perm, sort-sorted, in-put, put-asc, put-known, perm-members, distinct-members, distinct-asc, distinct-sort, length-asSet}
+use Rattle.relation.proofs.Sorting.{in-put}
 use Rattle.relation.proofs.Rank.{rank, ins, bump, rank-not, rank-le, rank-end, put-ins, rank-at, ins-bump, length-ins}
 use Rattle.relation.proofs.Layers.{keysAt, intervalsAt, prefix-of, prefix-in, prefixes-asc, prefixes-width, prefixes-full, layer-cong, length-keys, length-intervals, parent-in, grown-put, known-shorter, snoc-take, step-known, step-keys, step-first, step-new, new-place, rankedAt}
-use Rattle.relation.proofs.Paths.{layer-from, Held, undamaged-held, roots, relation-rows, relation-undamaged, rankedFrom}
+use Rattle.relation.proofs.Paths.{roots, rankedFrom}
 use Rattle.relation.proofs.Children.{found-place, new-at, key-at, begin-is, end-is, end-le}
-
--- a table's layers, by its rows
-pub held-layer : {a : ℕ} {ls : List Layer} → Held a ls → (d : ℕ) → d < a → layer ls d ≡ rankedAt d (rowsOf ls)
-held-layer {a} {ls} H d h =
-    ap (λ (ms : List Layer). layer ms d) (sym (H .layers)) ∙ layer-from 0 a (rowsOf ls) d h ∙ ap (λ (k : ℕ). rankedAt k (rowsOf ls)) (let e : 0 + d ≡ d = omega arith in e)
 
 -- layers depend on the members alone: a build may take the rows as given, sorted, or distinct
 pub layers-cong : (d n : ℕ) (xs ys : List Row) → Members xs ys → rankedFrom d n xs ≡ rankedFrom d n ys
@@ -34,13 +27,6 @@ layers-cong d (suc n) xs ys p =
     let c = layers-cong (suc d) n xs ys p in
     cc
 
-pub build-layers : (d n : ℕ) (rows : List Row) → (rankedFrom d n (sort rows) ≡ rankedFrom d n rows) × (rankedFrom d n (distinct (sort rows)) ≡ rankedFrom d n rows)
-build-layers d n rows = (
-  layers-cong d n (sort rows) rows (perm-members (sort rows) rows (λ q. sym (sort-perm rows q))),
-  layers-cong d n (distinct (sort rows)) rows
-      (λ x. (λ m. perm-in (distinct-members (sort rows) x .0 m) (λ q. sym (sort-perm rows q)), λ m. distinct-members (sort rows) x .1 (perm-in m (sort-perm rows)))),
-)
-
 -- r's beginning of d words is stored
 abbrev pub Stored : List Row → Row → ℕ → Type 0
 Stored rows r d = take d r ∈ prefixes d rows
@@ -50,16 +36,13 @@ abbrev pub number : List Row → Row → ℕ → ℕ
 number rows r d = rank (take d r) (prefixes d rows)
 
 module _ (a : ℕ) (rows : List Row) (r : Row) (w : Width a rows) (lr : length r ≡ a) where
-  pub stored-fewer : (k d : ℕ) → Stored rows r (d + k) → Stored rows r d
+  stored-fewer : (k d : ℕ) → Stored rows r (d + k) → Stored rows r d
   stored-fewer zero d m = subst (Stored rows r) (let e : d + 0 ≡ d = omega arith in e) m
   stored-fewer (suc k) d m = stored-fewer k d (known-shorter a rows r (r ∷ rows) w lr (λ x. (λ m. m, λ m. m)) (d + k) (subst (Stored rows r) (let e : d + suc k ≡ suc (d + k) = omega arith in e) m))
 
   -- the longest stored beginning has k words: those of fewer words are stored, those of more are not
   pub stored-below : (d k : ℕ) → d ≤ k → Stored rows r k → Stored rows r d
   stored-below d k h m = stored-fewer (k - d) d (subst (Stored rows r) (let e : k ≡ d + (k - d) = omega arith in e) m)
-
-  pub stored-above : (d k : ℕ) → k < d → (Stored rows r (suc k) → ⊥) → Stored rows r d → ⊥
-  stored-above d k h n m = n (stored-below (suc k) d h m)
 
   -- r is stored exactly where its beginning of a words is
   pub stored-whole : Asc rows → (r ∈ rows → Stored rows r a) × (Stored rows r a → r ∈ rows)
@@ -113,44 +96,11 @@ module _ (a : ℕ) (rows : List Row) (r : Row) (w : Width a rows) (lr : length r
   pub insert-new : (d : ℕ) → d < a → (Stored rows r d → ⊥) → intervalsAt d (put r rows) ≡ take (number rows r d) (intervalsAt d rows) ++ number rows r (suc d) ∷ map suc (drop (number rows r d) (intervalsAt d rows))
   insert-new d h n = step-new a rows r (put r rows) w lr (grown-put rows r) d h n ∙ ins-bump (number rows r d) (number rows r (suc d)) (intervalsAt d rows) (omega (arith, rank-le (take d r) (prefixes d rows), length-intervals d rows))
 
-  -- a row that is stored changes nothing
-  pub insert-same : Asc rows → r ∈ rows → put r rows ≡ rows
-  insert-same s m = put-known s m
-
   pub insert-count : (r ∈ rows → ⊥) → length (put r rows) ≡ suc (length rows)
   insert-count n = ap length (put-ins r rows n) ∙ length-ins (rank r rows) r rows
 
 pub put-width : {a : ℕ} {rows : List Row} (r : Row) → Width a rows → length r ≡ a → Width a (put r rows)
 put-width {a} {rows} r w e q m = ⊎-elim (λ (f : q ≡ r). ap length f ∙ e) (λ (f : q ∈ rows). w q f) (in-put r rows m)
-
--- what an insert leaves: undamaged, and it holds the old rows and the new one
-pub insert-leaves : {a c : ℕ} {ls : List Layer} {count : ℕ} (r : Row) → 0 < a → Undamaged a c ls count → length r ≡ a → length (put r (rowsOf ls)) ≤ c → Undamaged a c (rankedFrom 0 a (put r (rowsOf ls))) (length (put r (rowsOf ls))) × (rowsOf (rankedFrom 0 a (put r (rowsOf ls))) ≡ put r (rowsOf ls))
-insert-leaves {a} {c} {ls} r h u e k =
-    let H = undamaged-held h u in
-    (relation-undamaged c h (put-asc r (H .asc)) (put-width r (H .width) e) k, relation-rows h (put-asc r (H .asc)) (put-width r (H .width) e))
-
--- a row that is there: the table stays
-pub insert-stays : {a c : ℕ} {ls : List Layer} {count : ℕ} (r : Row) → 0 < a → Undamaged a c ls count → r ∈ rowsOf ls → rankedFrom 0 a (put r (rowsOf ls)) ≡ ls
-insert-stays {a} {c} {ls} r h u m = let H = undamaged-held h u in ap (rankedFrom 0 a) (put-known (H .asc) m) ∙ H .layers
-
--- what a build leaves: undamaged, and it holds each distinct row once
-pub build-leaves : (a c : ℕ) (rows : List Row) → 0 < a → Width a rows → length rows ≤ c → Undamaged a c (rankedFrom 0 a rows) (length (distinct (sort rows))) × (rowsOf (rankedFrom 0 a rows) ≡ distinct (sort rows))
-build-leaves a c rows h w k = (
-  subst (λ (ls : List Layer). Undamaged a c ls (length ds)) (build-layers 0 a rows .1) (relation-undamaged c h asc wd room),
-  ap rowsOf (sym (build-layers 0 a rows .1)) ∙ relation-rows h asc wd,
-)
-  where
-    ds : List Row
-    ds = distinct (sort rows)
-
-    asc : Asc ds
-    asc = distinct-asc (sort rows) (sort-sorted rows)
-
-    wd : Width a ds
-    wd q m = w q (perm-in (distinct-members (sort rows) q .0 m) (λ x. sym (sort-perm rows x)))
-
-    room : length ds ≤ c
-    room = omega (arith, ap length (distinct-sort rows), length-asSet rows)
 
 -- where an insert starts: at the root, which an empty table does not have
 pub root : {rows : List Row} (r : Row) {q : Row} → q ∈ rows → Stored rows r 0 × (number rows r 0 ≡ 0)
@@ -164,9 +114,3 @@ root {rows} r {q} m = (prefix-in 0 m, ⊎-elim (λ (e : prefixes 0 rows ≡ []).
 
 pub no-root : (r : Row) (d : ℕ) → Stored [] r d → ⊥
 no-root r d m = not-in-nil (prefix-of d [] m .1)
-
-pub no-keys-no-rows : (d : ℕ) (rows : List Row) → length (keysAt d rows) ≡ 0 → rows ≡ []
-no-keys-no-rows d [] e = refl
-no-keys-no-rows d (q ∷ qs) e =
-    let m : q ∈ (q ∷ qs) = hd refl in
-    absurd (omega (arith, e, length-keys d (q ∷ qs), rank-at (prefixes-asc (suc d) (q ∷ qs)) (prefix-in (suc d) m) .0))

@@ -7,11 +7,11 @@ use native.Mathlib.Omega.{arith}
 use lib.ListN.{length, take, getD, length-map}
 use lib.Seq.{take-take, take-suc, take-all, length-take-le, getD-take}
 use Rattle.relation.specs.Order.{Row, _≺_}
-use Rattle.relation.specs.Lists.{_∈_, hd, tl, not-in-nil, in-cons, anone, amore}
-use Rattle.relation.specs.Rows.{Sorted, Asc, Members, put, asSet, distinct, Width}
+use Rattle.relation.specs.Lists.{_∈_, hd, tl, not-in-nil, in-cons}
+use Rattle.relation.specs.Rows.{Asc, Members, put, asSet, Width}
 use Rattle.relation.specs.Layers.{prefixes, Layer}
 use Rattle.relation.proofs.Order.{Tri, lt, eq, gt, tri, asym, le-lt, le-le, pick-not, snoc-after, take-le, take-not-after, shared, shared-take, shared-apart}
-use Rattle.relation.proofs.Sorting.{in-put, put-self, put-old, put-known, asSet-asc, asSet-members, asSet-is, distinct-members, distinct-asc}
+use Rattle.relation.proofs.Sorting.{in-put, put-self, put-old, put-known, asSet-asc, asSet-members, asSet-is}
 use Rattle.relation.proofs.Rank.{rank, ins, bump, rank-end, put-ins, rank-put, startsIn, starts-put, map-ins, ins-end, bump-end, length-starts, rank-snoc-in, rank-snoc-out, rank-snoc-gap, start-place}
 
 -- the keys at depth d: the last word of each beginning of d + 1 words
@@ -27,12 +27,12 @@ intervalsAt d rows = startsIn (prefixes d rows) (prefixes (suc d) rows)
 abbrev pub rankedAt : ℕ → List Row → Layer
 rankedAt d rows = record { keys = keysAt d rows; intervals = intervalsAt d rows }
 
-pub in-take : (d : ℕ) (rows : List Row) {x : Row} → x ∈ map (take d) rows → (q : Row) × (q ∈ rows) × (x ≡ take d q)
+in-take : (d : ℕ) (rows : List Row) {x : Row} → x ∈ map (take d) rows → (q : Row) × (q ∈ rows) × (x ≡ take d q)
 in-take d [] m = absurd (not-in-nil m)
 in-take d (r ∷ rs) (hd e) = (r, hd refl, e)
 in-take d (r ∷ rs) (tl m) = let w = in-take d rs m in (w .0, tl (w .1), w .2)
 
-pub take-in : (d : ℕ) {rows : List Row} {q : Row} → q ∈ rows → take d q ∈ map (take d) rows
+take-in : (d : ℕ) {rows : List Row} {q : Row} → q ∈ rows → take d q ∈ map (take d) rows
 take-in d (hd e) = hd (ap (take d) e)
 take-in d (tl m) = tl (take-in d m)
 
@@ -58,7 +58,7 @@ prefixes-are d rows {ps} s f g =
       λ m. let w = g x m in subst (λ (z : Row). z ∈ map (take d) rows) (sym (w .2)) (take-in d (w .1)),
     ))
 
-pub prefixes-cong : (d : ℕ) (xs ys : List Row) → Members xs ys → prefixes d xs ≡ prefixes d ys
+prefixes-cong : (d : ℕ) (xs ys : List Row) → Members xs ys → prefixes d xs ≡ prefixes d ys
 prefixes-cong d xs ys p =
     prefixes-are d xs (prefixes-asc d ys) (λ q m. prefix-in d (p q .0 m)) (λ x m. let w = prefix-of d ys m in (w .0, p (w .0) .1 (w .1), w .2))
 
@@ -96,7 +96,7 @@ parent-in d rows m =
     subst (λ (z : Row). z ∈ prefixes d rows) (sym (ap (take d) (v .2) ∙ take-take d (suc d) (v .0) (omega arith))) (prefix-in d (v .1))
 
 -- xs has the rows of `rows`, and r
-abbrev pub Grown : List Row → Row → List Row → Type 0
+abbrev Grown : List Row → Row → List Row → Type 0
 Grown rows r xs = Members xs (r ∷ rows)
 
 pub grown-put : (rows : List Row) (r : Row) → Grown rows r (put r rows)
@@ -105,7 +105,7 @@ grown-put rows r x = (
   λ m. ⊎-elim (λ (e : x ≡ r). rw e (put-self r rows)) (λ (w : x ∈ rows). put-old r rows w) (in-cons m),
 )
 
-pub grown-end : (rows : List Row) (r : Row) → Grown rows r (rows ++ (r ∷ []))
+grown-end : (rows : List Row) (r : Row) → Grown rows r (rows ++ (r ∷ []))
 grown-end [] r x = (λ m. m, λ m. m)
 grown-end (q ∷ qs) r x = go (grown-end qs r x)
   where
@@ -175,7 +175,7 @@ module _ (a : ℕ) (rows : List Row) (r : Row) (xs : List Row) (w : Width a rows
       (sym (ap (take d) (v .2) ∙ take-take d (suc d) (v .0) (omega arith)) ∙ ap (λ (k : ℕ). take k q) (sym (length-take-le d r (omega arith))) ∙ e)
       (prefix-in d (v .1)))
 
-  pub place-gap : (d : ℕ) → d < a → (take d r ∈ prefixes d rows → ⊥) → rank (take (suc d) r) (prefixes (suc d) rows) ≡ rank (take d r) (prefixes (suc d) rows)
+  place-gap : (d : ℕ) → d < a → (take d r ∈ prefixes d rows → ⊥) → rank (take (suc d) r) (prefixes (suc d) rows) ≡ rank (take d r) (prefixes (suc d) rows)
   place-gap d h n = ap (λ (u : Row). rank u (prefixes (suc d) rows)) (snoc-take d h) ∙ rank-snoc-gap (take d r) (getD r d 0) (prefixes (suc d) rows) (gap d h n)
 
   -- below: a new interval at the place of the new parent, starting at the new key's place, the later ones one amore
@@ -214,10 +214,10 @@ module _ (a : ℕ) (rows : List Row) (r : Row) (xs : List Row) (w : Width a rows
 -- what a bulk build does: r comes after all rows, whose last one is l; the row is stored at the end of the layers from the first word on that l does not share
 module _ (a : ℕ) (rows : List Row) (l r : Row) (w : Width a rows) (lr : length r ≡ a) (known : l ∈ rows) (top : (q : Row) → q ∈ rows → l ≺ q → ⊥) (after : r ≺ l → ⊥) where
   -- r's beginning is stored exactly where l shares it
-  pub share-known : (d : ℕ) → d ≤ shared l r → take d r ∈ prefixes d rows
+  share-known : (d : ℕ) → d ≤ shared l r → take d r ∈ prefixes d rows
   share-known d h = subst (λ (z : Row). z ∈ prefixes d rows) (shared-take l r d h) (prefix-in d known)
 
-  pub share-new : (d : ℕ) → shared l r < d → d ≤ a → take d r ∈ prefixes d rows → ⊥
+  share-new : (d : ℕ) → shared l r < d → d ≤ a → take d r ∈ prefixes d rows → ⊥
   share-new d h g m =
       let v = prefix-of d rows m in
       shared-apart l r d h (omega (arith, w l known)) (omega arith) (between (v .0) (v .2) (tri (take d l) (take d r)) (take-le d (top (v .0) (v .1))))
@@ -277,12 +277,3 @@ build-one d r = (
 pub build-none : (d : ℕ) → (keysAt d [] ≡ []) × (intervalsAt d [] ≡ [])
 unfolding keysAt intervalsAt prefixes asSet startsIn
 build-none d = (refl, refl)
-
--- of sorted rows the beginnings are those of the rows with equal neighbours once
-pub sorted-take : (d : ℕ) {rows : List Row} → Sorted rows → Sorted (map (take d) rows)
-sorted-take d anone = anone
-sorted-take d (amore {r = r} {rs = rs} f s) = amore {r = take d r} (λ q m (l : q ≺ take d r). let v = in-take d rs m in take-le d (f (v .0) (v .1)) (rw (v .2) at l)) (sorted-take d s)
-
-pub prefixes-distinct : (d : ℕ) {rows : List Row} → Sorted rows → prefixes d rows ≡ distinct (map (take d) rows)
-unfolding prefixes
-prefixes-distinct d {rows} s = asSet-is (distinct-asc (map (take d) rows) (sorted-take d s)) (λ x. let v = distinct-members (map (take d) rows) x in (v .1, v .0))

@@ -23,7 +23,7 @@ pub test : (b : Bool) → T b ⊎ (T b → ⊥)
 test true = inl tt
 test false = inr (λ x. x)
 
-pub nat-tri : (x y : ℕ) → (x < y) ⊎ ((x ≡ y) ⊎ (y < x))
+nat-tri : (x y : ℕ) → (x < y) ⊎ ((x ≡ y) ⊎ (y < x))
 nat-tri x y = go (decLt x y) (decLt y x)
   where
     go : Dec (x < y) → Dec (y < x) → (x < y) ⊎ ((x ≡ y) ⊎ (y < x))
@@ -150,7 +150,7 @@ snoc-gap (x ∷ xs) (y ∷ ys) k n (word≺ h) = word≺ h
 snoc-gap (x ∷ xs) (y ∷ ys) k n (rest≺ d h) = rest≺ d (snoc-gap xs ys k (λ (e : take (length ys) xs ≡ ys). n (cc)) h)
 
 -- beginnings keep the order, or become equal
-pub take-mono : (d : ℕ) {a b : Row} → a ≺ b → (take d a ≺ take d b) ⊎ (take d a ≡ take d b)
+take-mono : (d : ℕ) {a b : Row} → a ≺ b → (take d a ≺ take d b) ⊎ (take d a ≡ take d b)
 take-mono zero h = inr refl
 take-mono (suc d) nil≺ = inl nil≺
 take-mono (suc d) (word≺ h) = inl (word≺ h)

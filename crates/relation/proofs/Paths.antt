@@ -228,7 +228,7 @@ pub record Back (d : ℕ) (ps : List Row) (ls : List Layer) : Type 0 where
   pub above : prefixes d (rowsFrom ps ls) ≡ ps
   pub layers : rankedFrom d (length ls) (rowsFrom ps ls) ≡ ls
 
-pub read-back : {n : ℕ} {ls : List Layer} → Chain n ls → (d : ℕ) (ps : List Row) → Asc ps → Width d ps → length ps ≡ n → Back d ps ls
+read-back : {n : ℕ} {ls : List Layer} → Chain n ls → (d : ℕ) (ps : List Row) → Asc ps → Width d ps → length ps ≡ n → Back d ps ls
 unfolding rowsFrom rankedFrom keysAt intervalsAt
 read-back cend d ps s v n =
     record { asc = s; width = λ q m. omega (arith, v q m); above = prefixes-full s v; layers = refl }
@@ -321,10 +321,6 @@ undamaged-count {a = suc a} {c} {ls} {count} h u =
     ap (λ (n : ℕ). length (keysAt n (rowsOf ls))) (let e : 0 + a ≡ a = omega arith in e) ∙
     length-map (prefixes (suc a) (rowsOf ls)) (λ q. getD q a 0) ∙
     ap length (prefixes-full (H .asc) (H .width))
-
--- equal rows, equal layers
-pub same-rows : {a : ℕ} {ls ms : List Layer} → Held a ls → Held a ms → rowsOf ls ≡ rowsOf ms → ls ≡ ms
-same-rows {a} H G e = sym (H .layers) ∙ ap (rankedFrom 0 a) e ∙ G .layers
 
 -- parents p, ps and children qs, each child of one of them, each of ps with a child, and the children behind p's key prev
 record Given (d prev : ℕ) (p : Row) (ps qs : List Row) : Type 0 where
@@ -501,7 +497,7 @@ between-prefixes {a} {rows} d w h =
     (λ q m. parent-in d rows m)
     (λ x m. let v = prefix-of d rows m in (take (suc d) (v .0), prefix-in (suc d) (v .1), v .2 ∙ sym (take-take d (suc d) (v .0) (omega arith))))
 
-pub layers-chain : {a : ℕ} {rows : List Row} → Width a rows → (n d : ℕ) → d + n ≤ a → Chain (length (prefixes d rows)) (rankedFrom d n rows) × (rowsFrom (prefixes d rows) (rankedFrom d n rows) ≡ prefixes (d + n) rows)
+layers-chain : {a : ℕ} {rows : List Row} → Width a rows → (n d : ℕ) → d + n ≤ a → Chain (length (prefixes d rows)) (rankedFrom d n rows) × (rowsFrom (prefixes d rows) (rankedFrom d n rows) ≡ prefixes (d + n) rows)
 unfolding rankedFrom rowsFrom
 layers-chain {a} {rows} w zero d h = (cend, ap (λ (k : ℕ). prefixes k rows) (let e : d ≡ d + 0 = omega arith in e))
 layers-chain {a} {rows} w (suc n) d h =
@@ -521,7 +517,7 @@ pub roots : (rows : List Row) → (prefixes 0 rows ≡ []) ⊎ (prefixes 0 rows 
 roots [] = inl (prefixes-are 0 [] anone (λ q m. absurd (not-in-nil m)) (λ q m. absurd (not-in-nil m)))
 roots (r ∷ rs) = inr (prefixes-are 0 (r ∷ rs) (amore (λ q m. absurd (not-in-nil m)) anone) (λ q m. hd refl) (λ p m. ⊎-elim (λ (e : p ≡ []). (r, hd refl, e)) (λ (w : p ∈ []). absurd (not-in-nil w)) (in-cons m)))
 
-pub relation-chain : {a : ℕ} {rows : List Row} → Width a rows → Chain 0 (rankedFrom 0 a rows) ⊎ Chain 1 (rankedFrom 0 a rows)
+relation-chain : {a : ℕ} {rows : List Row} → Width a rows → Chain 0 (rankedFrom 0 a rows) ⊎ Chain 1 (rankedFrom 0 a rows)
 relation-chain {a} {rows} w =
     let c : Chain (length (prefixes 0 rows)) (rankedFrom 0 a rows) = layers-chain w a 0 (omega arith) .0 in
     ⊎-elim (λ (e : prefixes 0 rows ≡ []). inl (subst (λ (k : ℕ). Chain k (rankedFrom 0 a rows)) (ap length e) c)) (λ (e : prefixes 0 rows ≡ ([] ∷ [])). inr (subst (λ (k : ℕ). Chain k (rankedFrom 0 a rows)) (ap length e) c)) (roots rows)

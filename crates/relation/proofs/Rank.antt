@@ -5,7 +5,7 @@ use mathlib.Core.Bool.{Bool, true, false}
 use mathlib.Core.Logic.{_⊎_, inl, inr, ⊎-elim}
 use mathlib.Core.List.{List, [], _∷_, _++_, map}
 use native.Mathlib.Omega.{arith}
-use lib.ListN.{length, take, getD, drop, length-map}
+use lib.ListN.{length, take, getD, drop}
 use Rattle.relation.specs.Order.{Row, pick, before, _≺_}
 use Rattle.relation.specs.Lists.{_∈_, hd, tl, not-in-nil, in-cons, anone, amore}
 use Rattle.relation.specs.Rows.{Asc, put}
@@ -43,7 +43,7 @@ rank-le p (q ∷ qs) = go (before q p) (rank-le p qs)
     go false h = omega arith
 
 -- rows that tell a and b apart in no member give them one place
-pub rank-cong : (a b : Row) (qs : List Row) → ((q : Row) → q ∈ qs → (q ≺ a → q ≺ b) × (q ≺ b → q ≺ a)) → rank a qs ≡ rank b qs
+rank-cong : (a b : Row) (qs : List Row) → ((q : Row) → q ∈ qs → (q ≺ a → q ≺ b) × (q ≺ b → q ≺ a)) → rank a qs ≡ rank b qs
 unfolding rank
 rank-cong a b [] f = refl
 rank-cong a b (q ∷ qs) f = go (dec≺ q a) (rank-cong a b qs (λ x m. f x (tl m)))
@@ -204,44 +204,22 @@ length-ins (suc n) x [] = refl
 length-ins (suc n) x (y ∷ ys) = ap suc (length-ins n x ys)
 
 -- by places, for a loop that shifts words
-pub getD-ins-lt {ℓ} : {A : Type ℓ} (n : ℕ) (x : A) (xs : List A) (j : ℕ) (z : A) → n ≤ length xs → j < n → getD (ins n x xs) j z ≡ getD xs j z
+getD-ins-lt {ℓ} : {A : Type ℓ} (n : ℕ) (x : A) (xs : List A) (j : ℕ) (z : A) → n ≤ length xs → j < n → getD (ins n x xs) j z ≡ getD xs j z
 unfolding ins
 getD-ins-lt zero x xs j z h k = absurd (omega arith)
 getD-ins-lt (suc n) x [] j z h k = absurd (omega arith)
 getD-ins-lt (suc n) x (y ∷ ys) zero z h k = refl
 getD-ins-lt (suc n) x (y ∷ ys) (suc j) z h k = getD-ins-lt n x ys j z (omega arith) (omega arith)
 
-pub getD-ins-at {ℓ} : {A : Type ℓ} (n : ℕ) (x : A) (xs : List A) (z : A) → n ≤ length xs → getD (ins n x xs) n z ≡ x
+getD-ins-at {ℓ} : {A : Type ℓ} (n : ℕ) (x : A) (xs : List A) (z : A) → n ≤ length xs → getD (ins n x xs) n z ≡ x
 unfolding ins
 getD-ins-at zero x xs z h = refl
 getD-ins-at (suc n) x [] z h = absurd (omega arith)
 getD-ins-at (suc n) x (y ∷ ys) z h = getD-ins-at n x ys z (omega arith)
 
-pub getD-ins-gt {ℓ} : {A : Type ℓ} (n : ℕ) (x : A) (xs : List A) (j : ℕ) (z : A) → n ≤ length xs → n ≤ j → getD (ins n x xs) (suc j) z ≡ getD xs j z
+getD-ins-gt {ℓ} : {A : Type ℓ} (n : ℕ) (x : A) (xs : List A) (j : ℕ) (z : A) → n ≤ length xs → n ≤ j → getD (ins n x xs) (suc j) z ≡ getD xs j z
 unfolding ins
 getD-ins-gt zero x xs j z h k = refl
 getD-ins-gt (suc n) x [] j z h k = absurd (omega arith)
 getD-ins-gt (suc n) x (y ∷ ys) zero z h k = absurd (omega arith)
 getD-ins-gt (suc n) x (y ∷ ys) (suc j) z h k = getD-ins-gt n x ys j z (omega arith) (omega arith)
-
-pub length-bump : (n : ℕ) (xs : List ℕ) → length (bump n xs) ≡ length xs
-unfolding bump
-length-bump zero xs = length-map xs suc
-length-bump (suc n) [] = refl
-length-bump (suc n) (x ∷ xs) = ap suc (length-bump n xs)
-
-pub getD-bump-lt : (n : ℕ) (xs : List ℕ) (j z : ℕ) → j < n → getD (bump n xs) j z ≡ getD xs j z
-unfolding bump
-getD-bump-lt zero xs j z h = absurd (omega arith)
-getD-bump-lt (suc n) [] j z h = refl
-getD-bump-lt (suc n) (x ∷ xs) zero z h = refl
-getD-bump-lt (suc n) (x ∷ xs) (suc j) z h = getD-bump-lt n xs j z (omega arith)
-
-pub getD-bump-ge : (n : ℕ) (xs : List ℕ) (j z : ℕ) → n ≤ j → j < length xs → getD (bump n xs) j z ≡ suc (getD xs j z)
-unfolding bump
-getD-bump-ge zero [] j z h k = absurd (omega arith)
-getD-bump-ge zero (x ∷ xs) zero z h k = refl
-getD-bump-ge zero (x ∷ xs) (suc j) z h k = getD-bump-ge zero xs j z (omega arith) (omega arith)
-getD-bump-ge (suc n) [] j z h k = absurd (omega arith)
-getD-bump-ge (suc n) (x ∷ xs) zero z h k = absurd (omega arith)
-getD-bump-ge (suc n) (x ∷ xs) (suc j) z h k = getD-bump-ge n xs j z (omega arith) (omega arith)

@@ -30,7 +30,7 @@ ranked-at {a} {rows} d w h =
     let i : intervalsAt d rows ≡ starts 0 (groupsAt d rows) = g .1 in
     cc
 
-pub ranked-from : {a : ℕ} {rows : List Row} → Width a rows → (n d : ℕ) → d + n ≤ a → rankedFrom d n rows ≡ layersFrom d n rows
+ranked-from : {a : ℕ} {rows : List Row} → Width a rows → (n d : ℕ) → d + n ≤ a → rankedFrom d n rows ≡ layersFrom d n rows
 unfolding rankedFrom layersFrom
 ranked-from w zero d h = refl
 ranked-from {a} {rows} w (suc n) d h =

@@ -32,7 +32,7 @@ pub both-and : (a b : Bool) → T a → T b → T (a && b)
 both-and true b t u = u
 both-and false b t u = absurd t
 
-pub walk→ : (at prev : ℕ) (ss ks : List ℕ) → T (walk at prev ss ks) → Walk at prev ss ks
+walk→ : (at prev : ℕ) (ss ks : List ℕ) → T (walk at prev ss ks) → Walk at prev ss ks
 unfolding walk
 walk→ at prev [] [] t = done
 walk→ at prev (s ∷ ss) [] t = absurd t
@@ -51,7 +51,7 @@ walk-starts done h = absurd (omega arith)
 walk-starts (open′ e w) h = omega arith
 walk-starts (step l w) h = omega (arith, walk-starts w h)
 
-pub →walk : {at prev : ℕ} {ss ks : List ℕ} → Walk at prev ss ks → T (walk at prev ss ks)
+→walk : {at prev : ℕ} {ss ks : List ℕ} → Walk at prev ss ks → T (walk at prev ss ks)
 unfolding walk
 →walk done = tt
 →walk (open′ {at} {prev} {s} {k} {ss} {ks} e w) =
@@ -69,14 +69,14 @@ unfolding walk
         (rw (pick-false (eqb s at) true (ltb prev k) n) (lt→ltb prev k l))
         (rw (pick-false (eqb s at) qs (s ∷ qs) n) t)
 
-pub sound→ : (ints keys : List ℕ) → T (sound ints keys) → Sound ints keys
+sound→ : (ints keys : List ℕ) → T (sound ints keys) → Sound ints keys
 unfolding sound
 sound→ [] [] t = bare
 sound→ [] (k ∷ ks) t = absurd t
 sound→ (s ∷ ss) [] t = absurd t
 sound→ (s ∷ ss) (k ∷ ks) t = let w = both (eqb s 0) (walk 1 k ss ks) t in full (eqb→eq s 0 (w .0)) (walk→ 1 k ss ks (w .1))
 
-pub →sound : {ints keys : List ℕ} → Sound ints keys → T (sound ints keys)
+→sound : {ints keys : List ℕ} → Sound ints keys → T (sound ints keys)
 unfolding sound
 →sound bare = tt
 →sound (full {s} {k} {ss} {ks} e w) = both-and (eqb s 0) (walk 1 k ss ks) (subst (λ (z : ℕ). T (eqb s z)) e (eqb-refl s)) (→walk w)
@@ -268,7 +268,7 @@ from-groups ints keys some start f j h n = down (length ints - 1) (omega (arith,
 pub sound-ordered : {ints keys : List ℕ} → Sound ints keys → Ordered ints keys
 sound-ordered s = let m = sound-marked s in record { start = m .start; ascend = m .ascend; inside = m .inside; groups = in-groups m }
 
-pub ordered-sound : (ints keys : List ℕ) → Ordered ints keys → (length ints ≡ 0 → length keys ≡ 0) → Sound ints keys
+ordered-sound : (ints keys : List ℕ) → Ordered ints keys → (length ints ≡ 0 → length keys ≡ 0) → Sound ints keys
 ordered-sound ints keys o n =
     marked-sound ints keys
     (record { start = o .start; ascend = o .ascend; inside = o .inside; groups = from-groups ints keys (λ h. some (decLt 0 (length ints)) h) (o .start) (o .groups) })
@@ -283,7 +283,7 @@ pub data Chain : ℕ → List Layer → Type 0 where
   cend : {n : ℕ} → Chain n []
   cnext : {n : ℕ} {l : Layer} {ls : List Layer} → length (l .intervals) ≡ n → Sound (l .intervals) (l .keys) → Chain (length (l .keys)) ls → Chain n (l ∷ ls)
 
-pub chain→ : (n : ℕ) (ls : List Layer) → T (chain n ls) → Chain n ls
+chain→ : (n : ℕ) (ls : List Layer) → T (chain n ls) → Chain n ls
 unfolding chain
 chain→ n [] t = cend
 chain→ n (l ∷ ls) t =
@@ -291,16 +291,16 @@ chain→ n (l ∷ ls) t =
     let w = both (eqb (length (l .intervals)) n) (sound (l .intervals) (l .keys)) (v .0) in
     cnext (eqb→eq (length (l .intervals)) n (w .0)) (sound→ (l .intervals) (l .keys) (w .1)) (chain→ (length (l .keys)) ls (v .1))
 
-pub eq→eqb : (m n : ℕ) → m ≡ n → T (eqb m n)
+eq→eqb : (m n : ℕ) → m ≡ n → T (eqb m n)
 eq→eqb m n e = subst (λ (z : ℕ). T (eqb m z)) e (eqb-refl m)
 
-pub →chain : {n : ℕ} {ls : List Layer} → Chain n ls → T (chain n ls)
+→chain : {n : ℕ} {ls : List Layer} → Chain n ls → T (chain n ls)
 unfolding chain
 →chain cend = tt
 →chain (cnext {n} {l} {ls} e s c) =
     both-and (linked n l) (chain (length (l .keys)) ls) (both-and (eqb (length (l .intervals)) n) (sound (l .intervals) (l .keys)) (eq→eqb (length (l .intervals)) n e) (→sound s)) (→chain c)
 
-pub rooms→ : (c : ℕ) (ls : List Layer) → T (rooms c ls) → (d : ℕ) → d < length ls → (length (layer ls d .keys) ≤ c) × (length (layer ls d .intervals) ≤ c)
+rooms→ : (c : ℕ) (ls : List Layer) → T (rooms c ls) → (d : ℕ) → d < length ls → (length (layer ls d .keys) ≤ c) × (length (layer ls d .intervals) ≤ c)
 unfolding rooms
 rooms→ c [] t d h = absurd (omega arith)
 rooms→ c (l ∷ ls) t zero h =
@@ -318,21 +318,21 @@ unfolding rooms
     (both-and (leb (length (l .intervals)) c) (rooms c ls) (le→leb (length (l .intervals)) c (f zero (omega arith) .1)) (→rooms c ls (λ d h. f (suc d) (omega arith))))
 
 -- what hangs together, layer by layer
-pub chain-sound : {n : ℕ} {ls : List Layer} → Chain n ls → (d : ℕ) → d < length ls → Sound (layer ls d .intervals) (layer ls d .keys)
+chain-sound : {n : ℕ} {ls : List Layer} → Chain n ls → (d : ℕ) → d < length ls → Sound (layer ls d .intervals) (layer ls d .keys)
 chain-sound cend d h = absurd (omega arith)
 chain-sound (cnext e s c) zero h = s
 chain-sound (cnext e s c) (suc d) h = chain-sound c d (omega arith)
 
-pub chain-top : {n : ℕ} {ls : List Layer} → Chain n ls → 0 < length ls → length (layer ls 0 .intervals) ≡ n
+chain-top : {n : ℕ} {ls : List Layer} → Chain n ls → 0 < length ls → length (layer ls 0 .intervals) ≡ n
 chain-top cend h = absurd (omega arith)
 chain-top (cnext e s c) h = e
 
-pub chain-linked : {n : ℕ} {ls : List Layer} → Chain n ls → (d : ℕ) → suc d < length ls → length (layer ls (suc d) .intervals) ≡ length (layer ls d .keys)
+chain-linked : {n : ℕ} {ls : List Layer} → Chain n ls → (d : ℕ) → suc d < length ls → length (layer ls (suc d) .intervals) ≡ length (layer ls d .keys)
 chain-linked cend d h = absurd (omega arith)
 chain-linked (cnext e s c) zero h = chain-top c (omega arith)
 chain-linked (cnext e s c) (suc d) h = chain-linked c d (omega arith)
 
-pub chain-made : (n : ℕ) (ls : List Layer) → ((d : ℕ) → d < length ls → Sound (layer ls d .intervals) (layer ls d .keys)) → (0 < length ls → length (layer ls 0 .intervals) ≡ n) → ((d : ℕ) → suc d < length ls → length (layer ls (suc d) .intervals) ≡ length (layer ls d .keys)) → Chain n ls
+chain-made : (n : ℕ) (ls : List Layer) → ((d : ℕ) → d < length ls → Sound (layer ls d .intervals) (layer ls d .keys)) → (0 < length ls → length (layer ls 0 .intervals) ≡ n) → ((d : ℕ) → suc d < length ls → length (layer ls (suc d) .intervals) ≡ length (layer ls d .keys)) → Chain n ls
 chain-made n [] f g h = cend
 chain-made n (l ∷ ls) f g h = cnext (g (omega arith)) (f zero (omega arith)) (chain-made (length (l .keys)) ls (λ d k. f (suc d) (omega arith)) (λ k. h zero (omega arith)) (λ d k. h (suc d) (omega arith)))
 
@@ -340,7 +340,7 @@ pub sound-empty : {ints keys : List ℕ} → Sound ints keys → length ints ≡
 sound-empty bare h = refl
 sound-empty (full e w) h = absurd (omega arith)
 
-pub chain-empty : {n : ℕ} {ls : List Layer} → Chain n ls → n ≡ 0 → (d : ℕ) → d < length ls → (length (layer ls d .keys) ≡ 0) × (length (layer ls d .intervals) ≡ 0)
+chain-empty : {n : ℕ} {ls : List Layer} → Chain n ls → n ≡ 0 → (d : ℕ) → d < length ls → (length (layer ls d .keys) ≡ 0) × (length (layer ls d .intervals) ≡ 0)
 chain-empty cend z d h = absurd (omega arith)
 chain-empty (cnext e s c) z zero h = (sound-empty s (e ∙ z), e ∙ z)
 chain-empty (cnext e s c) z (suc d) h = chain-empty c (sound-empty s (e ∙ z)) d (omega arith)

@@ -55,7 +55,7 @@ in-getD [] j h = absurd (omega arith)
 in-getD (q ∷ qs) zero h = hd refl
 in-getD (q ∷ qs) (suc j) h = tl (in-getD qs j (omega arith))
 
-pub sorted-getD : {rows : List Row} → Sorted rows → (i j : ℕ) → i ≤ j → j < length rows → getD rows j [] ≺ getD rows i [] → ⊥
+sorted-getD : {rows : List Row} → Sorted rows → (i j : ℕ) → i ≤ j → j < length rows → getD rows j [] ≺ getD rows i [] → ⊥
 sorted-getD anone i j h k l = omega arith
 sorted-getD (amore f s) zero zero h k l = irrefl l
 sorted-getD (amore {rs = rs} f s) zero (suc j) h k l = f (getD rs j []) (in-getD rs j (omega arith)) l
@@ -68,7 +68,7 @@ in-front [] (suc n) q m = absurd (not-in-nil m)
 in-front (r ∷ rs) (suc n) q (hd e) = (0, omega arith, omega arith, e)
 in-front (r ∷ rs) (suc n) q (tl m) = let v = in-front rs n q m in (suc (v .0), omega (arith, v .1), omega (arith, v .2), v .3)
 
-pub front-in : (rows : List Row) (n i : ℕ) → i < n → i < length rows → getD rows i [] ∈ take n rows
+front-in : (rows : List Row) (n i : ℕ) → i < n → i < length rows → getD rows i [] ∈ take n rows
 front-in [] n i h k = absurd (omega arith)
 front-in (r ∷ rs) zero i h k = absurd (omega arith)
 front-in (r ∷ rs) (suc n) zero h k = hd refl

@@ -25,15 +25,13 @@ use Rattle.relation.proofs.Children.{group-row, key-at, begin-is, end-is, end-l
 use Rattle.relation.proofs.Paths.{layer-from, between-prefixes}
 use Rattle.relation.proofs.Tables.{ranked, ranked-at, every-undamaged-table-is-what-a-build-of-its-own-rows-leaves}
 use Rattle.column_trie.specs.Limits.{maxArity}
-use Rattle.column_trie.specs.Pool.{spot, reads}
+use Rattle.column_trie.specs.Pool.{reads}
 use Rattle.column_trie.specs.Table.{dataLen, intervalLen, layersIn, layerIn, rowsIn, headerSound, pastAt, Undamaged, undamaged}
 use Rattle.column_trie.specs.declared.ColumnTrie.{ColumnTrie}
 use Rattle.column_trie.proofs.Layers.{reads-at}
-use Rattle.column_trie.proofs.Header.{layer-fits, header-told}
 use Rattle.column_trie.proofs.Damage.{told-undamaged}
 use Rattle.column_trie_iter.specs.Cursor.{groupFrom, groupTo, keysOf, lies, countUpTo}
-use Rattle.column_trie_iter.proofs.Groups.{getD-any, keys-long}
-use Rattle.column_trie_iter.proofs.Places.{lies-told, run-part}
+use Rattle.column_trie_iter.proofs.Groups.{getD-any}
 use Rattle.seek.specs.Offset.{NonFalling}
 use Rattle.seek.proofs.Laws.{leading-one, binary-leading}
 use Rattle.trie_iterator.specs.Cursor.{Layered}
@@ -202,13 +200,3 @@ module _ {pool : List ℕ} {t : ColumnTrie} {rows : List Row} (H : Layered pool 
   pub held-group : {i : ℕ} → i < length (prefixes d rows) → {p : Row} → getD (prefixes d rows) i [] ≡ p → Group (layerIn pool t d) rows d i p
   held-group {i} k {p} e =
       subst (λ (l : Layer). Group l rows d i p) (sym layer-ranked) (subst (Group (rankedAt d rows) rows d i) e (ranked-group (H .width) d h i k))
-
-  -- the words of the pool from the key at offset o to the group's end are the keys from there on
-  pub held-words : {i : ℕ} → i < length (prefixes d rows) → {p : Row} → getD (prefixes d rows) i [] ≡ p → (o : ℕ) → let l = layerIn pool t d in let at = spot (t .start) (t .capacity) d in (at + groupTo l i ≤ length pool) × (take (at + groupTo l i - (at + (groupFrom l i + o))) (drop (at + (groupFrom l i + o)) pool) ≡ drop o (keysUnder p rows))
-  held-words {i} k {p} e o =
-      let l = layerIn pool t d in
-      let g = held-group k e in
-      let f = layer-fits (header-told (length pool) t (H .sound)) h in
-      let m = lies-told l i (g .lies) .2 in
-      let n = keys-long pool f in
-      (omega arith, run-part pool (spot (t .start) (t .capacity) d) (dataLen t d) (groupFrom l i) (groupTo l i) o (omega arith) ∙ ap (drop o) (g .keys))

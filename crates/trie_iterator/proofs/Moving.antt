@@ -88,7 +88,7 @@ module _ {pool : List ℕ} {t : ColumnTrie} {rows : List Row} (H : Layered pool 
   -- ---- seek
 
   -- the siblings left don't fall
-  pub left-rises : {s : State} {it : ColumnTrieIter} → Stands (t .arity) rows s it → NonFalling (left s)
+  left-rises : {s : State} {it : ColumnTrieIter} → Stands (t .arity) rows s it → NonFalling (left s)
   left-rises (at-root e) = λ x y h k. absurd (omega arith)
   left-rises (at-level {it = it} w b) = subst NonFalling (b .rest) (group-at H b .rises (it .«slice_offset»))
 
@@ -125,7 +125,7 @@ module _ {pool : List ℕ} {t : ColumnTrie} {rows : List Row} (H : Layered pool 
 
   -- ---- open
 
-  pub depth-is : {s : State} {it : ColumnTrieIter} → Stands (t .arity) rows s it → it .depth ≡ levels s
+  depth-is : {s : State} {it : ColumnTrieIter} → Stands (t .arity) rows s it → it .depth ≡ levels s
   depth-is (at-root e) = ap (λ (x : ColumnTrieIter). x .depth) e
   depth-is (at-level w b) = b .depth
 
@@ -198,10 +198,10 @@ module _ {pool : List ℕ} {t : ColumnTrie} {rows : List Row} (H : Layered pool 
         sym (answers (cursor.unopened it) (pick (cursor.opens pool t it) (cursor.openAt pool t it (cursor.child pool t it)) (cursor.unopened it 0)) (clear H w)) ∙
         ap (λ (b : Bool). pick b (cursor.openAt pool t it (cursor.child pool t it)) (cursor.unopened it 0)) (opens-is w)
 
-    pub open-not : opens (t .arity) rows s ≡ false → cursor.openOf pool t it ≡ cursor.unopened it 0
+    open-not : opens (t .arity) rows s ≡ false → cursor.openOf pool t it ≡ cursor.unopened it 0
     open-not e = open-is ∙ ap (λ (b : Bool). pick b (cursor.openAt pool t it (cursor.child pool t it)) (cursor.unopened it 0)) e
 
-    pub open-does : opens (t .arity) rows s ≡ true → cursor.openOf pool t it ≡ record { number = 0; opened = true; iter = cursor.cursor (it .depth + 1) (cursor.child pool t it) 0 }
+    open-does : opens (t .arity) rows s ≡ true → cursor.openOf pool t it ≡ record { number = 0; opened = true; iter = cursor.cursor (it .depth + 1) (cursor.child pool t it) 0 }
     open-does e =
         let c = child-of w e in
         open-is ∙

@@ -1,13 +1,13 @@
 -- `descent::onward` meets its contract: either ring is searched from a place where all agree.
-use Rattle.leapfrog_triejoin.proofs.Stepping.{same-of, goes-on, went-on, begins-anew, went-anew}
+use Rattle.leapfrog_triejoin.proofs.Stepping.{goes-on, went-on, begins-anew, went-anew}
 use Rattle.leapfrog_triejoin.proofs.descent.onward.Statement.{statement}
 use Rattle.leapfrog_triejoin.proofs.descent.onward.Tie as tie
 
 leapfrog-next-requires : tie.Need-leapfrog-next-requires
-leapfrog-next-requires c κs = let s = c .before .before .before in goes-on (s .pre .0) (same-of (s .pre .1))
+leapfrog-next-requires c κs = let s = c .before .before .before in goes-on (s .pre .0) (s .pre .1)
 
 returns : tie.Need-returns
-returns c = let s = c .before .before .before .before in went-on (s .pre .0) (same-of (s .pre .1)) (c .leapfrog-next .result) (c .leapfrog-next .ensures)
+returns c = let s = c .before .before .before .before in went-on (s .pre .0) (s .pre .1) (c .leapfrog-next .result) (c .leapfrog-next .ensures)
 
 leapfrog-next-requires-2 : tie.Need-leapfrog-next-requires-2
 leapfrog-next-requires-2 c κs = begins-anew (c .before .before .before .pre .0)
