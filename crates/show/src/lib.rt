@@ -16,6 +16,16 @@ pub fn labelled(words: &[u8], n: u64) {
     number(n);
 }
 
+// Each word behind a blank.
+pub fn listed(run: &[u64]) {
+    let mut i = 0;
+    while i < run.len() {
+        text(b" ");
+        number(run[i]);
+        i += 1;
+    }
+}
+
 pub fn signed(n: i64) {
     if n >= 0 {
         number(n as u64);
@@ -26,6 +36,21 @@ pub fn signed(n: i64) {
         text(b"-");
         number(size);
     }
+}
+
+// Whether both are the same words.
+pub fn same(run: &[u64], expected: &[u64]) -> bool {
+    if run.len() != expected.len() {
+        return false;
+    }
+    let mut i = 0;
+    while i < run.len() {
+        if run[i] != expected[i] {
+            return false;
+        }
+        i += 1;
+    }
+    true
 }
 
 // ` ok` or ` WRONG`, and the line's end.

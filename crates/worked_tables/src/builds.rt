@@ -2,7 +2,8 @@
 use column_trie::ColumnTrie;
 use column_trie_build::build;
 use show::labelled;
-use show::number;
+use show::listed;
+use show::same;
 use show::text;
 use show::verdict;
 
@@ -42,29 +43,6 @@ fn line(
     text(b")");
     verdict(came.number == number && table.tuple_count == count);
     table
-}
-
-pub fn same(run: &[u64], expected: &[u64]) -> bool {
-    if run.len() != expected.len() {
-        return false;
-    }
-    let mut i = 0;
-    while i < run.len() {
-        if run[i] != expected[i] {
-            return false;
-        }
-        i += 1;
-    }
-    true
-}
-
-fn listed(run: &[u64]) {
-    let mut i = 0;
-    while i < run.len() {
-        text(b" ");
-        number(run[i]);
-        i += 1;
-    }
 }
 
 fn list(label: &[u8], run: &[u64], expected: &[u64]) {

@@ -1,9 +1,9 @@
 // The inserts: a row again, an empty table of each arity, every order of three rows, a table at capacity, and each refusal.
-use crate::builds::same;
 use column_trie::ColumnTrie;
 use column_trie_build::build;
 use column_trie_insert::insert;
 use show::labelled;
+use show::same;
 use show::text;
 use show::verdict;
 

@@ -1,10 +1,10 @@
--- `worked_tables::builds::same` is safe: the slices are equally long. The measure is the words left.
+-- `show::same` is safe: the slices are equally long. The measure is the words left.
 use borrow.Author.Needs.{needs}
 use Prim.Native.Nat.{_≤_, _-_}
 use mathlib.Core.Path.{_≡_}
 use lib.ListN.{length}
-use Rattle.worked_tables.proofs.builds.same.Statement.{statement}
-use Rattle.worked_tables.proofs.builds.same.Tie as tie
+use Rattle.show.proofs.same.Statement.{statement}
+use Rattle.show.proofs.same.Tie as tie
 
 abbrev Inv-loop : tie.InvT-loop
 Inv-loop run expected i₀ i = (i ≤ length run) × (length run ≡ length expected)

@@ -1,10 +1,10 @@
--- `worked_tables::builds::listed` is safe: every index is below the length, and the blank is one byte. The measure is the words left.
+-- `show::listed` is safe: every index is below the length, and the blank is one byte. The measure is the words left.
 use borrow.Author.Needs.{needs}
 use Prim.Native.Nat.{_≤_, _-_}
 use mathlib.Core.Path.{_≡_}
 use lib.ListN.{length}
-use Rattle.worked_tables.proofs.builds.listed.Statement.{statement}
-use Rattle.worked_tables.proofs.builds.listed.Tie as tie
+use Rattle.show.proofs.listed.Statement.{statement}
+use Rattle.show.proofs.listed.Tie as tie
 
 abbrev Inv-loop : tie.InvT-loop
 Inv-loop run i₀ t3 i = (i ≤ length run) × (length t3 ≡ 1)
