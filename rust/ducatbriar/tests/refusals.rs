@@ -1,0 +1,75 @@
+//! Each number of refusal that the owned types can meet, and what the pool holds behind it.
+use ducatbriar::{calls, Pool, Query, Refusal, SeekStrategy, Table};
+
+const NO_ROWS: &[[u64; 2]] = &[];
+
+fn number<T: std::fmt::Debug>(answer: Result<T, Refusal>) -> u64 {
+    answer.unwrap_err().number()
+}
+
+/// A pool with the pairs (1, 2) and (2, 3).
+fn pairs() -> (Pool, Table) {
+    let mut pool = Pool::new();
+    let table = pool.build(2, 2, &[[1, 2], [2, 3]]).unwrap();
+    (pool, table)
+}
+
+fn join(query: &Query) -> Result<usize, Refusal> {
+    let (pool, table) = pairs();
+    pool.join(SeekStrategy::Galloping, &[&table], query).map(|rows| rows.len())
+}
+
+#[test]
+fn builds() {
+    let mut pool = Pool::new();
+    assert_eq!(number(pool.build(0, 1, NO_ROWS)), 1);
+    assert_eq!(number(pool.build(2, 0, NO_ROWS)), 2);
+    assert_eq!(number(pool.build(2, 4097, NO_ROWS)), 2);
+    // Three words and one: together they would be two rows.
+    assert_eq!(number(pool.build(2, 2, &[&[1, 2, 3][..], &[4]])), 4);
+    assert_eq!(number(pool.build(2, 1, &[[1, 2], [1, 2]])), 5);
+    assert!(pool.words().is_empty());
+}
+
+#[test]
+fn inserts() {
+    let (mut pool, mut table) = pairs();
+    let words = pool.words().to_vec();
+    assert_eq!(number(pool.insert(&mut table, &[1])), 4);
+    assert_eq!(number(pool.insert(&mut table, &[3, 3])), 5);
+    assert_eq!(pool.insert(&mut table, &[2, 3]), Ok(false));
+    assert_eq!((pool.words(), table.len()), (&words[..], 2));
+}
+
+#[test]
+fn another_pool() {
+    let (_, mut table) = pairs();
+    let mut other = Pool::new();
+    assert_eq!(number(other.insert(&mut table, &[1, 2])), 6);
+    assert_eq!(number(other.list(&table)), 6);
+    assert_eq!(number(other.cursor(&table, SeekStrategy::Linear).open()), 6);
+}
+
+#[test]
+fn joins() {
+    assert_eq!(join(&Query::new(&[0, 1]).atom(0, &[0, 1])), Ok(2));
+    assert_eq!(join(&Query::new(&[])), Ok(1));
+    assert_eq!(number(join(&Query::new(&[0, 2]).atom(0, &[0, 1]))), 8);
+    assert_eq!(number(join(&Query::new(&[0, 1, 2, 3, 4, 5, 6, 7, 8]))), 8);
+    assert_eq!(number(join(&Query::new(&[0, 1]).atom(1, &[0, 1]))), 9);
+    let nine = (0..9).fold(Query::new(&[0, 1]), |query, _| query.atom(0, &[0, 1]));
+    assert_eq!(number(join(&nine)), 9);
+    assert_eq!(number(join(&Query::new(&[0, 1]).atom(0, &[1, 0]))), 10);
+    assert_eq!(number(join(&Query::new(&[0, 1, 2]).atom(0, &[0, 1]))), 11);
+}
+
+#[test]
+fn small_windows() {
+    let (pool, table) = pairs();
+    let query = Query::new(&[0, 1]).atom(0, &[0, 1]);
+    let mut window = [7; 3];
+    let filled = pool.join_into(SeekStrategy::Linear, &[&table], &query, &mut window).unwrap();
+    assert_eq!((filled.rows, filled.full, window), (1, true, [1, 2, 7]));
+    let mut text = [7; 5];
+    assert_eq!((calls::list(pool.words(), table.header(), &mut text).number, text), (14, [7; 5]));
+}
