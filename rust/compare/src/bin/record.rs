@@ -102,11 +102,11 @@ mod recorded {
                 }
             }
         }
-        for i in 0..32 {
+        for i in 0..24 {
             let arity = 1 + i % 8;
             let keys = rng.keys();
             let mut rows = |count: usize| -> Vec<Row> { (0..count).map(|_| rng.row(arity, keys)).collect() };
-            let (built, inserted) = (rows(1 + i / 4), rows(2));
+            let (built, inserted) = (rows(1 + i / 3), rows(2));
             cases.push(Grown { arity, capacity: built.len() + 2, margins: (0, 0), built, inserted });
         }
         for (arity, below, count) in [(1, 2000, 200), (2, 30, 200), (3, 8, 100), (8, 2, 50)] {
@@ -145,8 +145,12 @@ mod recorded {
         let mut cases = vec![];
         for (arity, below) in [(1, 3), (2, 2)] {
             for rows in cursors::subsets(&all_rows(arity, below), 4) {
-                for moves in [8, 16, 24, 32] {
-                    cases.push((arity, rows.clone(), random_moves(rng, &rows, Keys::Below(4), moves)));
+                for count in [8, 16] {
+                    let moves = (0..count).map(|_| cursors::random_move(rng, &rows, Keys::Below(4))).collect();
+                    cases.push((arity, rows.clone(), moves));
+                }
+                for count in [24, 32] {
+                    cases.push((arity, rows.clone(), steered(rng, arity, &rows, Keys::Below(4), count)));
                 }
             }
         }
@@ -154,14 +158,41 @@ mod recorded {
             let arity = 1 + i % 8;
             let keys = rng.keys();
             let rows: Vec<Row> = (0..1 + i / 3).map(|_| rng.row(arity, keys)).collect();
-            let moves = random_moves(rng, &rows, keys, 30);
+            let moves = steered(rng, arity, &rows, keys, 30);
             cases.push((arity, rows, moves));
         }
         cases.iter().map(|(arity, rows, moves)| walk(*arity, rows, moves)).collect()
     }
 
-    fn random_moves(rng: &mut Rng, rows: &[Row], keys: Keys, count: usize) -> Vec<Move> {
-        (0..count).map(|_| cursors::random_move(rng, rows, keys)).collect()
+    /// Moves that go by where kermit's cursor is, since any moves soon stay at the root or at an end.
+    fn steered(rng: &mut Rng, arity: usize, rows: &[Row], keys: Keys, count: usize) -> Vec<Move> {
+        let trie = kermit::trie::<LinearSeek>(arity, rows);
+        let mut cursor = oracle::ColumnTrieIter::new(&trie);
+        let mut next = || {
+            let step = match (rng.below(8), cursor.key()) {
+                (0, _) => cursors::random_move(rng, rows, keys),
+                (1..=3, _) => Move::Open,
+                (_, None) => Move::Up,
+                (4 | 5, Some(key)) => Move::Seek((key as u64).saturating_add(rng.below(3) as u64)),
+                (_, Some(_)) => Move::Next,
+            };
+            moved(&mut cursor, step);
+            step
+        };
+        (0..count).map(|_| next()).collect()
+    }
+
+    fn moved<S: oracle::SeekStrategy>(cursor: &mut oracle::ColumnTrieIter<S>, step: Move) -> bool {
+        match step {
+            Move::Next => {
+                let next = cursor.next();
+                assert_eq!(next, cursor.key(), "next shows another key than the cursor then does");
+                next.is_some()
+            }
+            Move::Open => cursor.open(),
+            Move::Up => cursor.up(),
+            Move::Seek(target) => cursor.seek(target as usize),
+        }
     }
 
     fn walk(arity: usize, rows: &[Row], moves: &[Move]) -> String {
@@ -192,16 +223,7 @@ mod recorded {
         let mut cursor = oracle::ColumnTrieIter::new(&trie);
         let mut answer = |step: &Move| {
             taken();
-            let yes = match *step {
-                Move::Next => {
-                    let next = cursor.next();
-                    assert_eq!(next, cursor.key(), "next shows another key than the cursor then does");
-                    next.is_some()
-                }
-                Move::Open => cursor.open(),
-                Move::Up => cursor.up(),
-                Move::Seek(target) => cursor.seek(target as usize),
-            };
+            let yes = moved(&mut cursor, *step);
             let probes = taken().1;
             let key = cursor.key();
             ([yes as u64, key.is_some() as u64, key.unwrap_or(0) as u64, cursor.at_end() as u64], probes)
@@ -209,7 +231,7 @@ mod recorded {
         moves.iter().map(&mut answer).unzip()
     }
 
-    /// All paths of two atoms over two small relations, all triangles over one, and larger ones of any kind.
+    /// All paths of two atoms over two small relations, all triangles over one; larger triangles, a path of eight variables, and larger ones of any kind.
     pub fn joins() -> Vec<String> {
         let rng = &mut rng("joins");
         let small = cursors::subsets(&all_rows(2, 2), 4);
@@ -222,17 +244,25 @@ mod recorded {
                     atoms: vec![(0, vec![0, 1]), (1, vec![1, 2])],
                 });
             }
-            cases.push(Joins {
-                order: vec![2, 0, 1],
-                tables: vec![(2, r.clone())],
-                atoms: vec![(0, vec![0, 1]), (0, vec![2, 1]), (0, vec![2, 0])],
-            });
+            cases.push(triangle(r.clone()));
         }
+        for below in [8, 12, 20] {
+            cases.push(triangle((0..60).map(|_| rng.row(2, Keys::Below(below))).collect()));
+        }
+        cases.push(Joins {
+            order: (0..8).collect(),
+            tables: vec![(2, vec![vec![0, 1], vec![1, 0], vec![1, 1]])],
+            atoms: (0..7).map(|v| (0, vec![v, v + 1])).collect(),
+        });
         let mut texts: Vec<String> = cases.iter().map(join).collect();
-        // Many have more rows than a test needs: one in twenty may be long.
+        // Many have more rows than a test needs: one in eight may be long.
         let large = std::iter::repeat_with(|| join(&joins::random(rng))).enumerate();
-        texts.extend(large.filter(|(i, text)| text.len() < if i % 20 == 0 { 4000 } else { 600 }).map(|(_, text)| text).take(160));
+        texts.extend(large.filter(|(i, text)| text.len() < if i % 8 == 0 { 4000 } else { 600 }).map(|(_, text)| text).take(160));
         texts
+    }
+
+    fn triangle(rows: Vec<Row>) -> Joins {
+        Joins { order: vec![2, 0, 1], tables: vec![(2, rows)], atoms: vec![(0, vec![0, 1]), (0, vec![2, 1]), (0, vec![2, 0])] }
     }
 
     fn join(case: &Joins) -> String {
