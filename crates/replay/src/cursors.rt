@@ -9,7 +9,7 @@ use column_trie::ColumnTrie;
 use column_trie_iter::ColumnTrieIter;
 use seek::SeekStrategy;
 
-const POOL: usize = 8192;
+const POOL: usize = 512;
 
 // Of a move: which it is (0 next, 1 open, 2 up, 3 seek); the answer, yes or no; then whether there is a key, the key, and whether it is the end; of a
 // seek its target and its linear probes. And the place behind all that.
@@ -69,6 +69,8 @@ fn is_key(number: u64, found: bool, key: u64, told: u64, told_key: u64) -> bool 
     is_told(number, found, told) && key == told_key
 }
 
+// ---- the moves, each with whether its answer is the recorded one. A next's key is the one that is shown then.
+
 fn next(pool: &[u64], table: ColumnTrie, iter: ColumnTrieIter, told: Told) -> Moved {
     let answer = iter.next(pool, table);
     let after = answer.iter;
@@ -121,6 +123,7 @@ fn seek(
     }
 }
 
+// The move that is told.
 fn step(
     pool: &[u64],
     table: ColumnTrie,

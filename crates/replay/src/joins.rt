@@ -22,7 +22,7 @@ const POOL: usize = 4096;
 
 const WINDOW: usize = 1024;
 
-// What a window holds before the join; no recorded key.
+// What a window holds before the join: no recorded row has it.
 const MARK: u64 = 1234567890123456789;
 
 // ---- what is asked
@@ -269,6 +269,7 @@ fn windows(
     asked(strategy, pool, tables, query, rows, least, size, tally)
 }
 
+// The same under every strategy.
 fn strategies(
     pool: &[u64],
     tables: Tables,

@@ -1,11 +1,13 @@
-// Reads a text of recorded answers: its decimal numbers one by one, whatever stands between them, and parts of it as they are.
-
+// Reads a text of recorded answers: its decimal numbers one by one, whatever stands between them.
 ghost use Rattle.io.specs.Counts.{Counts};
 use std::num::wrapping_add_u64;
 
-// No place of a text. Who meets something that isn't as recorded cases are answers it, and behind it nothing is read: each number from there is 0, and
-// there is no end of it but NOWHERE again. Loops stop at it, so no count that a text gives is trusted.
+// No place of a text: the answer of whoever looks for what isn't there, or finds what no recorded case has. From it on there is nothing, and each loop
+// over what a text counts stops at it, so that a count goes no further than the text does.
 pub const NOWHERE: usize = 18446744073709551615;
+
+// The greatest word has this many tens.
+const TENS: u64 = 1844674407370955161;
 
 // A number, and the place behind it.
 pub struct Read {
@@ -26,7 +28,7 @@ fn is_digit(byte: u8) -> bool {
 
 // Whether the word with this digit behind it is a word.
 fn has_room(word: u64, byte: u8) -> bool {
-    word < 1844674407370955161 || word == 1844674407370955161 && byte <= 53
+    word < TENS || word == TENS && byte <= 53
 }
 
 // The word with this digit behind it; 0 where that is none.
@@ -34,7 +36,7 @@ fn appended(word: u64, byte: u8) -> u64 {
     if byte < 48 {
         return 0;
     }
-    if 1844674407370955161 < word {
+    if TENS < word {
         return 0;
     }
     wrapping_add_u64(word * 10, (byte - 48) as u64)
@@ -96,7 +98,7 @@ pub fn numbers(text: &[u8], from: usize, words: &mut [u64], n: usize) -> usize {
     at
 }
 
-// n, or as many words as there are.
+// n, or as many words as there are: the `ensures` lets a caller lend so many.
 pub fn cut(words: &[u64], n: usize) -> usize
     ensures { λ r. ⌜ Counts r (now (words .entry)) ⌝ }
 {

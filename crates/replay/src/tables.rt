@@ -8,14 +8,14 @@ use crate::tally::Tally;
 use crate::tally::is_told;
 use column_trie::ColumnTrie;
 use column_trie_build::build;
-use column_trie_insert::Inserted;
+use column_trie_insert::insert;
 use std::num::wrapping_add_usize;
 
-const WORDS: usize = 2048;
+const WORDS: usize = 512;
 
-const POOL: usize = 8192;
+const POOL: usize = 1024;
 
-const TEXT: usize = 16384;
+const TEXT: usize = 4096;
 
 // A table, and how far the text was read.
 pub struct Made {
@@ -120,12 +120,6 @@ struct Grown {
     tally: Tally,
 }
 
-// An insert of the first n words.
-fn insert(pool: &mut [u64], table: ColumnTrie, words: &[u64], n: usize) -> Inserted {
-    let len = cut(words, n);
-    column_trie_insert::insert(pool, table, &words[..len])
-}
-
 // One insert: the tuple, whether it was new, and what is then told of the table.
 fn grow(text: &[u8], pool: &mut [u64], grown: Grown) -> Grown {
     let before = grown.table;
@@ -133,7 +127,8 @@ fn grow(text: &[u8], pool: &mut [u64], grown: Grown) -> Grown {
     let mut tuple = [0u64; ColumnTrie::MAX_ARITY];
     let behind = numbers(text, tally.at, &mut tuple, before.arity);
     let is_new = number(text, behind);
-    let answer = insert(pool, before, &tuple, before.arity);
+    let n = cut(&tuple, before.arity);
+    let answer = insert(pool, before, &tuple[..n]);
     let table = answer.table;
     let same = is_told(answer.number, answer.is_new, is_new.word);
     let then = told(text, pool, table, tally.at(is_new.at).with(same));
