@@ -1,4 +1,4 @@
-//! record DIR: writes kermit's answers as text for the program `replay`, which asks the library the same. docs/DECISIONS.md says what is recorded.
+//! record DIR: writes kermit's answers as text for the program `replay`, which asks the library the same. docs/replay.md says what is recorded.
 //!
 //! The answers are kermit's alone: nothing here asks the library. The cases are the same at every run. A reader takes the decimal numbers of the text in
 //! sequence, whatever stands between them, so no other text may hold a digit; a listing stands as it is behind its length and a newline.
@@ -32,8 +32,8 @@ mod recorded {
     use compare::rng::{Keys, Rng};
     use compare::seeks::{self, Seek};
     use compare::tables::{self, all_rows, Grown};
-    use oracle::{Cardinality, GallopingSeek, LinearIterator, Relation, TrieIterator};
-    use std::fmt::Write;
+    use oracle::{taken, BinarySeek, Cardinality, Counted, GallopingSeek, LinearIterator, LinearSeek, Relation, TrieIterator};
+    use std::fmt::{Debug, Write};
 
     fn words(words: &[u64]) -> String {
         words.iter().map(u64::to_string).collect::<Vec<_>>().join(" ")
@@ -43,23 +43,46 @@ mod recorded {
         Rng::new(2014, name)
     }
 
-    /// All small runs that don't fall, and larger ones.
+    /// What kermit answers under each of its strategies, which is one answer.
+    fn agreed<T: PartialEq + Debug>(linear: T, binary: T, galloping: T) -> T {
+        assert_eq!(linear, binary, "kermit's strategies differ");
+        assert_eq!(linear, galloping, "kermit's strategies differ");
+        linear
+    }
+
+    /// All runs of up to four keys below 4 that don't fall, with targets up to 4; larger ones, with targets at some of their keys and beside them.
     pub fn seeks() -> Vec<String> {
         let rng = &mut rng("seeks");
-        let ascends = |seek: &Seek| seek.run.windows(2).all(|pair| pair[0] <= pair[1]);
-        let small = seeks::exhaustive().filter(|seek| seek.run.len() <= 4 && ascends(seek));
-        let large: Vec<Seek> =
-            std::iter::repeat_with(|| seeks::random(rng)).filter(|s| ascends(s) && s.run.len() <= 64).take(500).collect();
-        let mut longest: Vec<Seek> = (0..10).map(|i| Seek { run: (0..1024).map(|k| 3 * k).collect(), target: 331 * i }).collect();
-        longest.push(Seek { run: vec![u64::MAX], target: u64::MAX });
-        small
-            .chain(large)
-            .chain(longest)
-            .map(|Seek { run, target }| {
-                let (offset, probes) = seeks::theirs::<oracle::LinearSeek>(&keys(&run), target as usize);
-                format!("run of {}: {}, target {target}: offset {offset}, linear probes {probes}\n", run.len(), words(&run))
-            })
-            .collect()
+        let ascends = |run: &[u64]| run.windows(2).all(|pair| pair[0] <= pair[1]);
+        let mut cases: Vec<(Vec<u64>, Vec<u64>)> = vec![];
+        for Seek { run, target } in seeks::exhaustive().filter(|seek| seek.run.len() <= 4 && ascends(&seek.run)) {
+            match cases.last_mut() {
+                Some((last, targets)) if *last == run => targets.push(target),
+                _ => cases.push((run, vec![target])),
+            }
+        }
+        let large = std::iter::repeat_with(|| seeks::random(rng)).filter(|s| ascends(&s.run) && s.run.len() <= 64);
+        for Seek { run, target } in large.take(150) {
+            let mut targets = vec![target, 0, u64::MAX];
+            for key in run.iter().step_by(1 + run.len() / 4) {
+                targets.extend([key.wrapping_sub(1), *key, key.wrapping_add(1)]);
+            }
+            cases.push((run, targets));
+        }
+        cases.push(((0..1024).map(|k| 3 * k).collect(), (0..40).map(|i| 79 * i).collect()));
+        cases.iter().map(|(run, targets)| sought(run, targets)).collect()
+    }
+
+    fn sought(run: &[u64], targets: &[u64]) -> String {
+        let mut text = format!("run of {}: {}\ntargets {}", run.len(), words(run), targets.len());
+        let run = keys(run);
+        for &target in targets {
+            let (offset, probes) = seeks::theirs::<LinearSeek>(&run, target as usize);
+            let (binary, _) = seeks::theirs::<BinarySeek>(&run, target as usize);
+            let (galloping, _) = seeks::theirs::<GallopingSeek>(&run, target as usize);
+            write!(text, "; {target} {} {probes}", agreed(offset, binary, galloping)).unwrap();
+        }
+        text + "\n"
     }
 
     fn table(arity: usize, capacity: usize, rows: &[Row]) -> String {
@@ -67,42 +90,44 @@ mod recorded {
         format!("arity {arity}, capacity {capacity}, words {}: {}\n", flat.len(), words(&flat))
     }
 
-    type Trie = oracle::ColumnTrie<GallopingSeek>;
-
-    /// All sequences of up to three rows over small keys, some built and the others inserted; larger ones.
+    /// All sequences of up to three rows over small keys, each with none of them built, some, and all, and the others inserted; larger ones.
     pub fn tables() -> Vec<String> {
         let rng = &mut rng("tables");
-        let mut cases: Vec<Grown> = [(1, 3), (2, 2)]
-            .into_iter()
-            .flat_map(|(arity, keys)| tables::sequences(&all_rows(arity, keys), 3).into_iter().map(move |rows| (arity, rows)))
-            .enumerate()
-            .map(|(i, (arity, rows))| {
-                let built = i % (rows.len() + 1);
-                let (built, inserted) = (rows[..built].to_vec(), rows[built..].to_vec());
-                Grown { arity, capacity: 4, margins: (0, 0), built, inserted }
-            })
-            .collect();
-        for i in 0..120 {
+        let mut cases = vec![];
+        for (arity, keys) in [(1, 3), (2, 2)] {
+            for rows in tables::sequences(&all_rows(arity, keys), 3) {
+                for built in 0..=rows.len() {
+                    let (built, inserted) = (rows[..built].to_vec(), rows[built..].to_vec());
+                    cases.push(Grown { arity, capacity: 4, margins: (0, 0), built, inserted });
+                }
+            }
+        }
+        for i in 0..24 {
             let arity = 1 + i % 8;
             let keys = rng.keys();
             let mut rows = |count: usize| -> Vec<Row> { (0..count).map(|_| rng.row(arity, keys)).collect() };
-            let (built, inserted) = (rows(1 + i / 12), rows(2));
+            let (built, inserted) = (rows(1 + i / 3), rows(2));
             cases.push(Grown { arity, capacity: built.len() + 2, margins: (0, 0), built, inserted });
         }
-        for (arity, below, count) in [(1, 2000, 800), (2, 60, 800), (3, 12, 400), (8, 2, 100)] {
+        for (arity, below, count) in [(1, 2000, 200), (2, 30, 200), (3, 8, 100), (8, 2, 50)] {
             let built: Vec<Row> = (0..count).map(|_| rng.row(arity, Keys::Below(below))).collect();
             let inserted = vec![rng.row(arity, Keys::Below(below))];
             cases.push(Grown { arity, capacity: count + 1, margins: (0, 0), built, inserted });
         }
-        cases.iter().map(grown).collect()
+        cases
+            .iter()
+            .map(|case| agreed(grown::<LinearSeek>(case), grown::<BinarySeek>(case), grown::<GallopingSeek>(case)))
+            .collect()
     }
 
-    fn grown(case: &Grown) -> String {
-        let mut trie: Trie = kermit::trie(case.arity, &case.built);
-        let listing = |trie: &Trie| {
-            let text = trie.to_string();
-            format!("listing of {}\n{text}", text.len())
-        };
+    /// The count of tuples, and the listing.
+    fn listing<S: oracle::SeekStrategy>(trie: &oracle::ColumnTrie<S>) -> String {
+        let text = trie.to_string();
+        format!("tuples {}, listing of {}\n{text}", trie.tuple_count(), text.len())
+    }
+
+    fn grown<S: oracle::SeekStrategy>(case: &Grown) -> String {
+        let mut trie = kermit::trie::<S>(case.arity, &case.built);
         let mut text = table(case.arity, case.capacity, &case.built) + &listing(&trie);
         writeln!(text, "inserts {}", case.inserted.len()).unwrap();
         for row in &case.inserted {
@@ -114,51 +139,99 @@ mod recorded {
         text
     }
 
-    /// For each small relation walks that reach all of it, and walks over larger ones.
+    /// Walks over each small relation, and over larger ones.
     pub fn cursors() -> Vec<String> {
         let rng = &mut rng("cursors");
         let mut cases = vec![];
         for (arity, below) in [(1, 3), (2, 2)] {
             for rows in cursors::subsets(&all_rows(arity, below), 4) {
-                for moves in [8, 16, 24, 32] {
-                    cases.push((arity, rows.clone(), random_moves(rng, &rows, Keys::Below(4), moves)));
+                for count in [8, 16] {
+                    let moves = (0..count).map(|_| cursors::random_move(rng, &rows, Keys::Below(4))).collect();
+                    cases.push((arity, rows.clone(), moves));
+                }
+                for count in [24, 32] {
+                    cases.push((arity, rows.clone(), steered(rng, arity, &rows, Keys::Below(4), count)));
                 }
             }
         }
-        for i in 0..120 {
+        for i in 0..64 {
             let arity = 1 + i % 8;
             let keys = rng.keys();
-            let rows: Vec<Row> = (0..1 + i / 4).map(|_| rng.row(arity, keys)).collect();
-            let moves = random_moves(rng, &rows, keys, 40);
+            let rows: Vec<Row> = (0..1 + i / 3).map(|_| rng.row(arity, keys)).collect();
+            let moves = steered(rng, arity, &rows, keys, 30);
             cases.push((arity, rows, moves));
         }
         cases.iter().map(|(arity, rows, moves)| walk(*arity, rows, moves)).collect()
     }
 
-    fn random_moves(rng: &mut Rng, rows: &[Row], keys: Keys, count: usize) -> Vec<Move> {
-        (0..count).map(|_| cursors::random_move(rng, rows, keys)).collect()
+    /// Moves that go by where kermit's cursor is, since any moves soon stay at the root or at an end.
+    fn steered(rng: &mut Rng, arity: usize, rows: &[Row], keys: Keys, count: usize) -> Vec<Move> {
+        let trie = kermit::trie::<LinearSeek>(arity, rows);
+        let mut cursor = oracle::ColumnTrieIter::new(&trie);
+        let mut next = || {
+            let step = match (rng.below(8), cursor.key()) {
+                (0, _) => cursors::random_move(rng, rows, keys),
+                (1..=3, _) => Move::Open,
+                (_, None) => Move::Up,
+                (4 | 5, Some(key)) => Move::Seek((key as u64).saturating_add(rng.below(3) as u64)),
+                (_, Some(_)) => Move::Next,
+            };
+            moved(&mut cursor, step);
+            step
+        };
+        (0..count).map(|_| next()).collect()
+    }
+
+    fn moved<S: oracle::SeekStrategy>(cursor: &mut oracle::ColumnTrieIter<S>, step: Move) -> bool {
+        match step {
+            Move::Next => {
+                let next = cursor.next();
+                assert_eq!(next, cursor.key(), "next shows another key than the cursor then does");
+                next.is_some()
+            }
+            Move::Open => cursor.open(),
+            Move::Up => cursor.up(),
+            Move::Seek(target) => cursor.seek(target as usize),
+        }
     }
 
     fn walk(arity: usize, rows: &[Row], moves: &[Move]) -> String {
-        let trie: Trie = kermit::trie(arity, rows);
-        let mut cursor = oracle::ColumnTrieIter::new(&trie);
+        let (linear, probes) = walked::<LinearSeek>(arity, rows, moves);
+        let (binary, _) = walked::<BinarySeek>(arity, rows, moves);
+        let (galloping, _) = walked::<GallopingSeek>(arity, rows, moves);
         let mut text = table(arity, rows.len().max(1), rows);
         writeln!(text, "moves {}", moves.len()).unwrap();
-        for &step in moves {
-            let (code, target, yes) = match step {
-                Move::Next => (0, 0, cursor.next().is_some()),
-                Move::Open => (1, 0, cursor.open()),
-                Move::Up => (2, 0, cursor.up()),
-                Move::Seek(target) => (3, target, cursor.seek(target as usize)),
+        for ((step, answers), probes) in moves.iter().zip(agreed(linear, binary, galloping)).zip(probes) {
+            let kind = match step {
+                Move::Next => 0,
+                Move::Open => 1,
+                Move::Up => 2,
+                Move::Seek(_) => 3,
             };
-            let key = cursor.key();
-            let (has, key, end) = (key.is_some() as u64, key.unwrap_or(0), cursor.at_end() as u64);
-            writeln!(text, "{code} {target}: {} key {has} {key} end {end}", yes as u64).unwrap();
+            write!(text, "{kind}: {}", words(&answers)).unwrap();
+            if let Move::Seek(target) = step {
+                write!(text, " ({target} {probes})").unwrap();
+            }
+            text += "\n";
         }
         text
     }
 
-    /// All paths of two atoms over two small relations, all triangles over one, and larger ones of any kind.
+    /// Of each move its yes or no, whether there is a key then, the key, and whether it is the end; and the probes of each.
+    fn walked<S: oracle::SeekStrategy>(arity: usize, rows: &[Row], moves: &[Move]) -> (Vec<[u64; 4]>, Vec<usize>) {
+        let trie = kermit::trie::<Counted<S>>(arity, rows);
+        let mut cursor = oracle::ColumnTrieIter::new(&trie);
+        let mut answer = |step: &Move| {
+            taken();
+            let yes = moved(&mut cursor, *step);
+            let probes = taken().1;
+            let key = cursor.key();
+            ([yes as u64, key.is_some() as u64, key.unwrap_or(0) as u64, cursor.at_end() as u64], probes)
+        };
+        moves.iter().map(&mut answer).unzip()
+    }
+
+    /// All paths of two atoms over two small relations, all triangles over one; larger triangles, a path of eight variables, and larger ones of any kind.
     pub fn joins() -> Vec<String> {
         let rng = &mut rng("joins");
         let small = cursors::subsets(&all_rows(2, 2), 4);
@@ -171,37 +244,45 @@ mod recorded {
                     atoms: vec![(0, vec![0, 1]), (1, vec![1, 2])],
                 });
             }
-            cases.push(Joins {
-                order: vec![2, 0, 1],
-                tables: vec![(2, r.clone())],
-                atoms: vec![(0, vec![0, 1]), (0, vec![2, 1]), (0, vec![2, 0])],
-            });
+            cases.push(triangle(r.clone()));
         }
-        cases.extend(std::iter::repeat_with(|| joins::random(rng)).take(400));
-        cases
-            .iter()
-            .filter_map(|case| {
-                let text = join(case);
-                // Some have more rows than a test needs.
-                (text.len() < 3000).then_some(text)
-            })
-            .collect()
+        for below in [8, 12, 20] {
+            cases.push(triangle((0..60).map(|_| rng.row(2, Keys::Below(below))).collect()));
+        }
+        cases.push(Joins {
+            order: (0..8).collect(),
+            tables: vec![(2, vec![vec![0, 1], vec![1, 0], vec![1, 1]])],
+            atoms: (0..7).map(|v| (0, vec![v, v + 1])).collect(),
+        });
+        let mut texts: Vec<String> = cases.iter().map(join).collect();
+        // Many have more rows than a test needs: one in eight may be long.
+        let large = std::iter::repeat_with(|| join(&joins::random(rng))).enumerate();
+        texts.extend(large.filter(|(i, text)| text.len() < if i % 8 == 0 { 4000 } else { 600 }).map(|(_, text)| text).take(160));
+        texts
+    }
+
+    fn triangle(rows: Vec<Row>) -> Joins {
+        Joins { order: vec![2, 0, 1], tables: vec![(2, rows)], atoms: vec![(0, vec![0, 1]), (0, vec![2, 1]), (0, vec![2, 0])] }
     }
 
     fn join(case: &Joins) -> String {
-        let tries: Vec<Trie> = case.tables.iter().map(|(arity, rows)| kermit::trie(*arity, rows)).collect();
-        let rows = kermit::join(&case.order, &case.atoms, &tries);
+        let rows = agreed(joined::<LinearSeek>(case), joined::<BinarySeek>(case), joined::<GallopingSeek>(case));
         let numbers = |list: &[usize]| list.iter().map(usize::to_string).collect::<Vec<_>>().join(" ");
-        let mut text = format!("variables {}: {}\ntables {}\n", case.order.len(), numbers(&case.order), case.tables.len());
+        let mut text = format!("tables {}\n", case.tables.len());
         for (arity, rows) in &case.tables {
             text += &table(*arity, rows.len().max(1), rows);
         }
-        writeln!(text, "atoms {}", case.atoms.len()).unwrap();
+        write!(text, "variables {}: {}\natoms {}", case.order.len(), numbers(&case.order), case.atoms.len()).unwrap();
         for (table, list) in &case.atoms {
-            writeln!(text, "table {table}, list of {}: {}", list.len(), numbers(list)).unwrap();
+            write!(text, "; table {table}, list of {}: {}", list.len(), numbers(list)).unwrap();
         }
         let flat = rows.concat();
-        writeln!(text, "rows {}: {}", rows.len(), words(&flat)).unwrap();
+        writeln!(text, "\nrows {}, words {}: {}", rows.len(), flat.len(), words(&flat)).unwrap();
         text
+    }
+
+    fn joined<S: oracle::SeekStrategy>(case: &Joins) -> Vec<Row> {
+        let tries: Vec<_> = case.tables.iter().map(|(arity, rows)| kermit::trie::<S>(*arity, rows)).collect();
+        kermit::join(&case.order, &case.atoms, &tries)
     }
 }
