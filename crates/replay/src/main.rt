@@ -1,6 +1,6 @@
 // Replays recorded answers of kermit: asks the library what kermit was asked, and counts the answers that differ.
 //
-// Each file of data/ holds the cases of one kind, made by `record` (rust/compare), and starts with their number; docs/replay.md says what is in them. The
+// Each file of data/ holds the cases of one kind, made by `record` (rust/compare), and starts with their number; docs/REPLAY.md says what is in them. The
 // gate holds the counts to the file `stdout`, so the library is held to kermit's answers where no Rust is at hand.
 ghost use lib.ListN.{length};
 ghost use mathlib.Core.Path.{_≡_};

@@ -1,4 +1,4 @@
-//! record DIR: writes kermit's answers as text for the program `replay`, which asks the library the same. docs/replay.md says what is recorded.
+//! record DIR: writes kermit's answers as text for the program `replay`, which asks the library the same. docs/REPLAY.md says what is recorded.
 //!
 //! The answers are kermit's alone: nothing here asks the library. The cases are the same at every run. A reader takes the decimal numbers of the text in
 //! sequence, whatever stands between them, so no other text may hold a digit; a listing stands as it is behind its length and a newline.
