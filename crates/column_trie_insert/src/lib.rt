@@ -127,7 +127,7 @@ fn find_place(pool: &[u64], t: ColumnTrie, d: usize, i: usize, key: u64) -> Plac
     let a = data_from + from;
     let e = data_from + to;
     let run = &pool[a..e];
-    let offset = partition_point(SeekStrategy::Linear, run, key).offset;
+    let offset = partition_point(SeekStrategy::Binary, run, key).offset;
     if offset < run.len() {
         return Place {
             at: from + offset,
