@@ -18,7 +18,7 @@ use Rattle.column_trie.proofs.Header.{LayerFits, length-part}
 use Rattle.column_trie.proofs.Words.{part-at}
 use Rattle.column_trie_insert.specs.Shift.{SmallFrom}
 use Rattle.column_trie_insert.specs.Grow.{branched, sprouted, grown, relaid, resized, Added}
-use Rattle.column_trie_insert.proofs.Shifts.{gap, length-gap, lifted, length-lifted}
+use Rattle.column_trie_insert.proofs.Shifts.{gap, length-gap, length-wedged, lifted, length-lifted}
 
 -- what lies behind the words laid stays
 pub part-kept : (pool : List ℕ) (at : ℕ) (xs : List ℕ) (b m : ℕ) → at + length xs ≤ b → b + m ≤ length pool → take m (drop b (lay pool at xs)) ≡ take m (drop b pool)
@@ -37,10 +37,6 @@ pub getD-any : (l : List ℕ) (n x y : ℕ) → n < length l → getD l n x ≡ 
 getD-any [] n x y h = absurd (omega arith)
 getD-any (z ∷ l) zero x y h = refl
 getD-any (z ∷ l) (suc n) x y h = getD-any l n x y (omega arith)
-
--- a list with a word more
-pub length-wedged : (n w : ℕ) (xs : List ℕ) → length (take n xs ++ w ∷ drop n xs) ≡ suc (length xs)
-length-wedged n w xs = ap (λ (l : List ℕ). length (take n xs ++ w ∷ l)) (sym (map-id (drop n xs))) ∙ length-gap n w (λ x. x) xs
 
 module _ (pool : List ℕ) (t : ColumnTrie) (d i at key : ℕ) (f : LayerFits (length pool) t d) (room : dataLen t d < t .capacity) (da : ℕ) (e : da ≡ spot (t .start) (t .capacity) d) (pool₁ : List ℕ) (first : pool₁ ≡ lay pool da (take at (take (dataLen t d) (drop da pool)) ++ key ∷ drop at (take (dataLen t d) (drop da pool)))) where
   key-count : length (take (dataLen t d) (drop da pool)) ≡ dataLen t d

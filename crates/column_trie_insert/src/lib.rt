@@ -6,7 +6,7 @@
 ghost use mathlib.Core.Path.{_≡_};
 ghost use mathlib.Core.Bool.{true, false};
 ghost use mathlib.Core.List.{_∷_, _++_, map};
-ghost use Prim.Native.Nat.{ℕ, suc, _+_, _≤_, _<_, _^_};
+ghost use Prim.Native.Nat.{ℕ, suc, _+_, _-_, _≤_, _<_, _^_};
 ghost use lib.ListN.{length, take, drop, getD};
 ghost use Rattle.column_trie.specs.Pool.{lay};
 ghost use Rattle.column_trie.specs.Table.{dataLen, layerIn, rowsIn, headerSound, undamaged};
@@ -19,32 +19,27 @@ use column_trie::undamaged;
 use seek::SeekStrategy;
 use seek::partition_point;
 
+// The words move one up, the last one out, and `word` goes to the front. Over a slice of its own, the loop is compiled to a move of the whole block.
+fn shift_in(words: &mut [u64], word: u64)
+    requires { ⌜ 0 < length (now words) ⌝ }
+    ensures { λ r. ⌜ now (words .exit) ≡ word ∷ take (length (now (words .entry)) - 1) (now (words .entry)) ⌝ }
+{
+    let mut i = words.len() - 1;
+    while 0 < i {
+        words[i] = words[i - 1];
+        i -= 1;
+    }
+    words[0] = word;
+}
+
 // Puts `word` at place `at` of the n words from `base` on: those from `at` on move one up.
 fn wedge(pool: &mut [u64], base: usize, at: usize, n: usize, word: u64)
     requires { ⌜ (at ≤ n) × (base + n < length (now pool)) ⌝ }
     ensures { λ r. ⌜ now (pool .exit) ≡ lay (now (pool .entry)) base (take at (take n (drop base (now (pool .entry)))) ++ word ∷ drop at (take n (drop base (now (pool .entry))))) ⌝ }
 {
-    let end = base + at;
-    let mut i = base + n;
-    while end < i {
-        pool[i] = pool[i - 1];
-        i -= 1;
-    }
-    pool[end] = word;
-}
-
-// The same, and each word that moves becomes one more.
-fn wedge_raised(pool: &mut [u64], base: usize, at: usize, n: usize, word: u64)
-    requires { ⌜ (at ≤ n) × (base + n < length (now pool)) × SmallFrom (base + at) (base + n) (now pool) ⌝ }
-    ensures { λ r. ⌜ now (pool .exit) ≡ lay (now (pool .entry)) base (take at (take n (drop base (now (pool .entry)))) ++ word ∷ map suc (drop at (take n (drop base (now (pool .entry)))))) ⌝ }
-{
-    let end = base + at;
-    let mut i = base + n;
-    while end < i {
-        pool[i] = pool[i - 1] + 1;
-        i -= 1;
-    }
-    pool[end] = word;
+    let from = base + at;
+    let end = base + n + 1;
+    shift_in(&mut pool[from..end], word);
 }
 
 // Each of the n words from `base` on becomes one more from place `from` on.
@@ -58,6 +53,15 @@ fn raise(pool: &mut [u64], base: usize, from: usize, n: usize)
         pool[i] = pool[i] + 1;
         i += 1;
     }
+}
+
+// Puts `word` at place `at` of the n words from `base` on: those from `at` on move one up, and become one more.
+fn wedge_raised(pool: &mut [u64], base: usize, at: usize, n: usize, word: u64)
+    requires { ⌜ (at ≤ n) × (base + n < length (now pool)) × SmallFrom (base + at) (base + n) (now pool) ⌝ }
+    ensures { λ r. ⌜ now (pool .exit) ≡ lay (now (pool .entry)) base (take at (take n (drop base (now (pool .entry)))) ++ word ∷ map suc (drop at (take n (drop base (now (pool .entry)))))) ⌝ }
+{
+    wedge(pool, base, at, n, word);
+    raise(pool, base, at + 1, n + 1);
 }
 
 // Where a key stands in its group, or where it goes.

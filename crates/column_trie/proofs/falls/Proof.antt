@@ -6,8 +6,6 @@ use lib.ListN.{length}
 use Rattle.column_trie.proofs.Counts.{Falling, falling, falling-on, falls-out, falls-last, fall, rise}
 use Rattle.column_trie.proofs.falls.Statement.{statement}
 use Rattle.column_trie.proofs.falls.Tie as tie
-use Rattle.column_trie.proofs.falls.Reads as reads
-use Rattle.column_trie.proofs.falls.Lts as lts
 
 abbrev Inv-loop : tie.InvT-loop
 Inv-loop keys odd₀ even₀ j₀ odd even j = Falling keys odd even j

@@ -8,9 +8,6 @@ use borrow.Author.Needs.{needs}
 use Rattle.column_trie.proofs.Counts.{Starting, bare, unstarted, outside, starting, falling-start, starting-before, late-start, all-counted, fall, rise}
 use Rattle.column_trie.proofs.layer_sound.Statement.{statement}
 use Rattle.column_trie.proofs.layer_sound.Tie as tie
-use Rattle.column_trie.proofs.layer_sound.Reads as reads
-use Rattle.column_trie.proofs.layer_sound.Lts as lts
-use Rattle.column_trie.proofs.falls.Reads as falls-reads
 
 abbrev Inv-loop : tie.InvT-loop
 Inv-loop interval «data» i₀ at₀ starts₀ i at starts = Starting interval «data» i at starts
