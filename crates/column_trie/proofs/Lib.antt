@@ -1,3 +1,4 @@
+mod Counting
 mod Counts
 pub mod Damage
 pub mod Header

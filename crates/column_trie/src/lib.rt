@@ -137,8 +137,8 @@ fn falls(keys: &[u64]) -> usize
     odd + even
 }
 
-// Whether the intervals start at 0, ascend and stay inside the data, and no group falls. With such intervals the keys fall as often as groups start with
-// a fall exactly when none falls inside a group, and to count is quicker than to look at each key whether a group starts there.
+// Whether the intervals start at 0, ascend and stay inside the data, and no group falls. Where the intervals do, no group falls exactly when the
+// keys fall as often in all as at the starts of groups. To count is quicker than to ask at each key whether a group starts there.
 fn layer_sound(interval: &[u64], data: &[u64]) -> bool
     ensures { λ r. ⌜ r ≡ sound (now (interval .entry)) (now («data» .entry)) ⌝ }
 {
@@ -214,7 +214,7 @@ fn layers_linked(pool: &[u64], t: ColumnTrie) -> bool
     true
 }
 
-// Whether the table is undamaged. It reads the table's used words once each, and nothing else of the pool.
+// Whether the table is undamaged. It reads the table's used words, and nothing else of the pool.
 pub fn undamaged(pool: &[u64], t: ColumnTrie) -> bool
     ensures { λ r. ⌜ r ≡ undamaged (now (pool .entry)) t ⌝ }
 {

@@ -2,7 +2,7 @@
 -- there, and is the key's place once the group's start is added.
 use Prim.Native.Nat.{ℕ, suc, _+_, _-_, _≤_, _<_}
 use mathlib.Core.Path.{_≡_, refl, sym, ap, subst, _∙_}
-use mathlib.Core.Bool.{Bool, true, false}
+use mathlib.Core.Bool.{false}
 use mathlib.Core.List.{List}
 use native.Mathlib.Omega.{arith}
 use native.Mathlib.Numerals.{add-one}
@@ -17,9 +17,8 @@ use Rattle.column_trie.specs.Pool.{spot}
 use Rattle.column_trie.specs.Table.{dataLen, intervalLen, layerIn}
 use Rattle.column_trie.specs.declared.ColumnTrie.{ColumnTrie}
 use Rattle.column_trie.proofs.Header.{LayerFits, length-part}
-use Rattle.column_trie.proofs.Words.{part-at}
+use Rattle.column_trie.proofs.Words.{part-at, getD-any}
 use Rattle.column_trie_insert.specs.Grow.{groupFrom, groupTo, Grouped, PlaceOf}
-use Rattle.column_trie_insert.proofs.Grows.{getD-any}
 
 -- a layer in the pool, a group of it, and where the code reads that its data starts, and the group in it starts and ends
 pub record Group (pool : List ℕ) (t : ColumnTrie) (d i data-from from to : ℕ) : Type 0 where

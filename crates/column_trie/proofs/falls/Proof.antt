@@ -1,9 +1,10 @@
--- `column_trie::falls` meets its contract: a turn counts the falls at two places (Counts.antt), and the way out the one that is left.
-use Prim.Native.Nat.{ℕ, _+_, _-_}
+-- `column_trie::falls` meets its contract: a turn counts the falls at two places (Counting.antt), and the way out the one that is left.
+use Prim.Native.Nat.{_+_, _-_}
 use mathlib.Core.Logic.{⊎-elim}
 use native.Mathlib.Omega.{arith}
 use lib.ListN.{length}
-use Rattle.column_trie.proofs.Counts.{Falling, falling, falling-on, falls-out, falls-last, fall, rise}
+use Rattle.column_trie.proofs.Counting.{Falling, falling, falling-on, falls-out, falls-last}
+use Rattle.column_trie.proofs.Counts.{fall, rise}
 use Rattle.column_trie.proofs.falls.Statement.{statement}
 use Rattle.column_trie.proofs.falls.Tie as tie
 

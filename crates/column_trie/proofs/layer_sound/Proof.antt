@@ -1,11 +1,11 @@
--- `column_trie::layer_sound` meets its contract: the loop goes down the intervals (Counts.antt), and what it counted is held against all falls.
+-- `column_trie::layer_sound` meets its contract: the loop goes down the intervals (Counting.antt), and what it counted is held against all falls.
 use Prim.Native.Nat.{suc, _-_}
 use mathlib.Core.Path.{_≡_}
 use mathlib.Core.Logic.{⊎-elim}
 use native.Mathlib.Omega.{arith}
-use lib.ListN.{length}
 use borrow.Author.Needs.{needs}
-use Rattle.column_trie.proofs.Counts.{Starting, bare, unstarted, outside, starting, falling-start, starting-before, late-start, all-counted, fall, rise}
+use Rattle.column_trie.proofs.Counting.{Starting, bare, unstarted, outside, starting, falling-start, starting-before, late-start, all-counted}
+use Rattle.column_trie.proofs.Counts.{fall, rise}
 use Rattle.column_trie.proofs.layer_sound.Statement.{statement}
 use Rattle.column_trie.proofs.layer_sound.Tie as tie
 

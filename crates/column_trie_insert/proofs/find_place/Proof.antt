@@ -47,11 +47,11 @@ begins-requires-2 c κs = search needs
 layer-at-requires : tie.Need-layer-at-requires
 layer-at-requires c κs = let f = told (c .before .before .before) in (omega (arith, f, c .before .before .before .good), f .small, f .depth)
 
-add-a : tie.Need-add-a
-add-a c = omega (arith, group-fits (group c))
+add-run-from : tie.Need-add-run-from
+add-run-from c = omega (arith, group-fits (group c))
 
-add-e : tie.Need-add-e
-add-e c = omega (arith, group-fits (group c))
+add-run-to : tie.Need-add-run-to
+add-run-to c = omega (arith, group-fits (group c))
 
 mul-run : tie.Need-mul-run
 mul-run c = omega (arith, group-fits (group c))
@@ -91,8 +91,8 @@ find-place-spec =
     add-begins
     begins-requires-2
     layer-at-requires
-    add-a
-    add-e
+    add-run-from
+    add-run-to
     mul-run
     sub-run
     part-run-start

@@ -1,6 +1,6 @@
--- `column_trie_insert::wedge_raised` meets its contract: what the wedge leaves can be raised, and raised it is what is asked (Shifts.antt).
+-- `column_trie_insert::wedge_raised` meets its contract: what the wedge leaves can be raised, and raised it is what is asked (Raises.antt).
 use native.Mathlib.Omega.{arith}
-use Rattle.column_trie_insert.proofs.Shifts.{still-long, still-small, wedged-raised}
+use Rattle.column_trie_insert.proofs.Raises.{still-long, still-small, wedged-raised}
 use borrow.Author.Needs.{needs}
 use Rattle.column_trie_insert.proofs.wedge_raised.Statement.{statement}
 use Rattle.column_trie_insert.proofs.wedge_raised.Tie as tie
