@@ -1,24 +1,25 @@
--- The damage test decides the facts, and an undamaged table is its own layers stored in the pool, with the header that describes them.
-use Prim.Native.Nat.{ℕ, zero, suc, _+_, _*_, _-_, _≤_, _<_}
-use mathlib.Core.Path.{_≡_, refl, sym, ap, ap₂, _∙_, subst}
+-- The damage test decides the facts: with a sound header the layers have room, so that the count and the chain of layers are left to ask. And the
+-- ways out of the check, each the test's value.
+use Prim.Native.Nat.{ℕ, _+_, _-_, _≤_, _<_}
+use mathlib.Core.Path.{_≡_, refl, sym, ap, _∙_}
 use mathlib.Core.Bool.{Bool, true, false, _&&_, _||_}
-use mathlib.Core.List.{List, [], _∷_}
-use mathlib.Core.Logic.{_⊎_, inl, inr, ⊎-elim}
+use mathlib.Core.List.{List}
+use mathlib.Core.Logic.{_⊎_, inl, inr}
 use native.Mathlib.Omega.{arith}
-use lib.ListN.{length, take, drop, getD}
-use lib.Dec.{T, ltb, leb, eqb}
-use borrow.Author.Tests.{ltb-true, ltb-false, leb-true, le-leb, lt-ltb, eqb-true, eq-eqb}
+use lib.ListN.{length}
+use lib.Dec.{ltb, eqb}
+use borrow.Author.Tests.{ltb-true, ltb-false, eqb-true, eq-eqb}
 use Rattle.relation.specs.Tests.{every}
 use Rattle.relation.specs.Layers.{Layer, layer}
 use Rattle.relation.specs.Undamaged.{chain, rooms}
 use Rattle.relation.specs.Undamaged as layers
 use Rattle.relation.proofs.Undamaged as layer-laws
-use Rattle.relation.proofs.Tests.{T-true, true-T, and-left, and-right, and-true, or-right, not-both, every-at, every-all, gate-shut, gate-open}
-use Rattle.column_trie.specs.Limits.{maxArity, maxCapacity}
+use Rattle.relation.proofs.Tests.{T-true, true-T, and-left, and-right, and-true, every-at, every-all, gate-shut, gate-open}
+use Rattle.column_trie.specs.Limits.{maxArity}
 use Rattle.column_trie.specs.Pool.{spot}
-use Rattle.column_trie.specs.Table.{dataLen, intervalLen, layersIn, layerIn, arityOk, capacityOk, liesIn, withinAt, pastAt, headerSound, Undamaged, undamaged}
+use Rattle.column_trie.specs.Table.{dataLen, intervalLen, layersIn, pastAt, headerSound, Undamaged, undamaged}
 use Rattle.column_trie.specs.declared.ColumnTrie.{ColumnTrie}
-use Rattle.column_trie.proofs.Header.{InPool, header-told, told-header, layer-fits, length-part, within-told, past-told}
+use Rattle.column_trie.proofs.Header.{InPool, header-told, told-header, layer-fits, length-part, past-told}
 use Rattle.column_trie.proofs.Layers.{Whole, layers-length, layers-at}
 
 module _ (pool : List ℕ) {t : ColumnTrie} (o : Whole t) (p : InPool (length pool) t) where
@@ -38,7 +39,7 @@ module _ (pool : List ℕ) {t : ColumnTrie} (o : Whole t) (p : InPool (length po
       (omega (arith, keys-length d b, layer-fits p b), omega (arith, intervals-length d b, layer-fits p b))
 
   -- so of the layers' test the count and the chain are left
-  pub layers-test : (eqb (t .«tuple_count») (dataLen t (t .arity - 1)) && (chain 0 (layersIn pool t) || chain 1 (layersIn pool t))) ≡ layers.undamaged (t .arity) (t .capacity) (layersIn pool t) (t .«tuple_count»)
+  layers-test : (eqb (t .«tuple_count») (dataLen t (t .arity - 1)) && (chain 0 (layersIn pool t) || chain 1 (layersIn pool t))) ≡ layers.undamaged (t .arity) (t .capacity) (layersIn pool t) (t .«tuple_count»)
   unfolding layers.undamaged
   layers-test =
       let a : eqb (length (layersIn pool t)) (t .arity) ≡ true = eq-eqb (length (layersIn pool t)) (t .arity) (layers-length pool t o (p .few)) in

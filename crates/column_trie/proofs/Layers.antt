@@ -1,6 +1,6 @@
 -- The layers of a table in the pool: how many, what stands at each depth, and the check's loop over them.
 use Prim.Native.Nat.{ℕ, zero, suc, _+_, _-_, _≤_, _<_}
-use mathlib.Core.Path.{_≡_, refl, sym, ap, _∙_, subst}
+use mathlib.Core.Path.{_≡_, refl, sym, ap, _∙_}
 use mathlib.Core.Bool.{Bool, true, false, _&&_, _||_}
 use mathlib.Core.List.{List, [], _∷_}
 use native.Mathlib.Omega.{arith}
@@ -8,18 +8,18 @@ use native.Mathlib.Numerals.{add-one}
 use lib.ListN.{length, take, drop, getD, drop-of-length-le}
 use lib.Seq.{drop-cons, getD-take, length-take-le}
 use lib.Dec.{eqb}
-use borrow.Author.Tests.{eqb-true, eqb-false, eq-eqb, ne-eqb}
+use borrow.Author.Tests.{eqb-true, eqb-false, ne-eqb}
 use Rattle.relation.specs.Order.{pick}
 use Rattle.relation.specs.Layers.{Layer, layer, noLayer}
 use Rattle.relation.specs.Undamaged.{sound, linked, chain}
-use Rattle.relation.proofs.Tests.{and-false-left, and-false-right, gate-shut}
+use Rattle.relation.proofs.Tests.{and-false-left, and-false-right}
 use Rattle.column_trie.specs.Limits.{maxArity}
 use Rattle.column_trie.specs.Pool.{spot, reads}
 use Rattle.column_trie.specs.Table.{dataLen, intervalLen, layersIn, layerIn}
 use Rattle.column_trie.specs.declared.ColumnTrie.{ColumnTrie}
-use Rattle.column_trie.proofs.Header.{InPool, LayerFits, layer-fits, length-part}
+use Rattle.column_trie.proofs.Header.{InPool, layer-fits, length-part}
 
-pub length-reads : (at c : ℕ) (ks ns pool : List ℕ) → length ks ≡ length ns → length (reads at c ks ns pool) ≡ length ks
+length-reads : (at c : ℕ) (ks ns pool : List ℕ) → length ks ≡ length ns → length (reads at c ks ns pool) ≡ length ks
 unfolding reads
 length-reads at c [] ns pool e = refl
 length-reads at c (k ∷ ks) [] pool e = absurd (omega arith)
@@ -53,13 +53,13 @@ module _ (pool : List ℕ) (t : ColumnTrie) (o : Whole t) (few : t .arity ≤ ma
       let y : getD (take (t .arity) (t .«interval_len»)) d 0 ≡ intervalLen t d = getD-take (t .arity) (t .«interval_len») d 0 h in
       cc)
 
-  pub layers-drop : (d : ℕ) → d < t .arity → drop d (layersIn pool t) ≡ layerIn pool t d ∷ drop (suc d) (layersIn pool t)
+  layers-drop : (d : ℕ) → d < t .arity → drop d (layersIn pool t) ≡ layerIn pool t d ∷ drop (suc d) (layersIn pool t)
   layers-drop d h = drop-cons (layersIn pool t) d noLayer (omega (arith, layers-length)) ∙ ap (λ (l : Layer). l ∷ drop (suc d) (layersIn pool t)) (layers-at d h)
 
 -- ---- the check's loop
 
 -- how many intervals layer 0 must have
-abbrev pub topOf : ℕ → ℕ
+abbrev topOf : ℕ → ℕ
 topOf n = pick (eqb n 0) 0 1
 
 top-none : (n : ℕ) → eqb n 0 ≡ true → topOf n ≡ 0
@@ -86,7 +86,7 @@ or-false true b e = refl
 or-false false b e = e
 
 -- of the two shapes only one can be
-pub one-shape : (ls : List Layer) → 0 < length ls → (chain 0 ls || chain 1 ls) ≡ chain (topOf (length (layer ls 0 .keys))) ls
+one-shape : (ls : List Layer) → 0 < length ls → (chain 0 ls || chain 1 ls) ≡ chain (topOf (length (layer ls 0 .keys))) ls
 unfolding chain
 one-shape [] h = absurd (omega arith)
 one-shape (l ∷ ls) h = go (eqb (length (l .keys)) 0) refl

@@ -1,8 +1,9 @@
+mod Counting
+mod Counts
 pub mod Damage
 pub mod Header
 pub mod Layers
 pub mod Pool
 pub mod Stored
 pub mod Tables
-mod Walks
 pub mod Words

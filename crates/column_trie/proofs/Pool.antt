@@ -1,13 +1,13 @@
 -- Storing layers and reading them back: what lies outside stays, what is stored is read, one key or interval more is one word more.
 use Prim.Native.Nat.{ℕ, zero, suc, _+_, _*_, _-_, _≤_, _<_}
-use mathlib.Core.Path.{_≡_, refl, sym, ap, _∙_, subst}
+use mathlib.Core.Path.{_≡_, refl, sym, ap, _∙_}
 use mathlib.Core.Logic.{_⊎_, inl, inr, ⊎-elim}
-use mathlib.Core.List.{List, [], _∷_, _++_, map, append-assoc}
+use mathlib.Core.List.{List, [], _∷_, _++_, append-assoc}
 use native.Mathlib.Omega.{arith}
 use native.Mathlib.Nat.{suc-mul, zero-mul}
-use lib.ListN.{length, take, drop, getD, set, length-set, length-append}
+use lib.ListN.{length, take, drop, getD, set, length-set}
 use lib.Seq.{sets, take-set-le, take-take, drop-cons, length-sets, sets-eq, set-comm, set-set, set-getD, getD-set-same, getD-set-other, length-take-le, drop-at, take-at}
-use Rattle.relation.specs.Layers.{Layer, layer, noLayer}
+use Rattle.relation.specs.Layers.{Layer, layer}
 use Rattle.column_trie.specs.Pool.{lay, store, spot, reads}
 
 pub lay-length : (pool : List ℕ) (at : ℕ) (xs : List ℕ) → length (lay pool at xs) ≡ length pool
@@ -21,7 +21,7 @@ lay-snoc pool at [] x = ap (λ (k : ℕ). set pool k x) (let e : at ≡ at + 0 =
 lay-snoc pool at (y ∷ ys) x = lay-snoc (set pool at y) (suc at) ys x ∙ ap (λ (k : ℕ). set (sets (set pool at y) (suc at) ys) k x) (let e : suc at + length ys ≡ at + suc (length ys) = omega arith in e)
 
 -- a word stored outside what is laid
-pub lay-set : (pool : List ℕ) (at : ℕ) (xs : List ℕ) (k x : ℕ) → (k < at) ⊎ (at + length xs ≤ k) → lay (set pool k x) at xs ≡ set (lay pool at xs) k x
+lay-set : (pool : List ℕ) (at : ℕ) (xs : List ℕ) (k x : ℕ) → (k < at) ⊎ (at + length xs ≤ k) → lay (set pool k x) at xs ≡ set (lay pool at xs) k x
 unfolding lay
 lay-set pool at [] k x h = refl
 lay-set pool at (y ∷ ys) k x h =
@@ -64,7 +64,7 @@ lay-over pool at (x ∷ xs) (y ∷ ys) h =
     lay-over (set pool at y) (suc at) xs ys (omega arith)
 
 -- two that do not overlap
-pub lay-apart : (pool : List ℕ) (at : ℕ) (xs : List ℕ) (at′ : ℕ) (ys : List ℕ) → at + length xs ≤ at′ → lay (lay pool at xs) at′ ys ≡ lay (lay pool at′ ys) at xs
+lay-apart : (pool : List ℕ) (at : ℕ) (xs : List ℕ) (at′ : ℕ) (ys : List ℕ) → at + length xs ≤ at′ → lay (lay pool at xs) at′ ys ≡ lay (lay pool at′ ys) at xs
 unfolding lay
 lay-apart pool at [] at′ ys h = refl
 lay-apart pool at (x ∷ xs) at′ ys h =
@@ -90,7 +90,7 @@ store-length at c [] pool = refl
 store-length at c (l ∷ ls) pool = store-length (at + c + c) c ls (lay (lay pool at (l .keys)) (at + c) (l .intervals)) ∙ lay-length (lay pool at (l .keys)) (at + c) (l .intervals) ∙ lay-length pool at (l .keys)
 
 -- a word before the table
-pub store-set : (at c : ℕ) (ls : List Layer) (pool : List ℕ) (k x : ℕ) → k < at → store at c ls (set pool k x) ≡ set (store at c ls pool) k x
+store-set : (at c : ℕ) (ls : List Layer) (pool : List ℕ) (k x : ℕ) → k < at → store at c ls (set pool k x) ≡ set (store at c ls pool) k x
 unfolding store
 store-set at c [] pool k x h = refl
 store-set at c (l ∷ ls) pool k x h =
@@ -117,12 +117,12 @@ store-interval at c (l ∷ ls) pool zero x h r k =
 store-interval at c (l ∷ ls) pool (suc d) x h r k = store-interval (at + c + c) c ls (lay (lay pool at (l .keys)) (at + c) (l .intervals)) d x (omega arith) (λ e m. r (suc e) (omega arith)) k
 
 -- what lies before stays
-pub lay-front : (m : ℕ) (pool : List ℕ) (at : ℕ) (xs : List ℕ) → m ≤ at → take m (lay pool at xs) ≡ take m pool
+lay-front : (m : ℕ) (pool : List ℕ) (at : ℕ) (xs : List ℕ) → m ≤ at → take m (lay pool at xs) ≡ take m pool
 unfolding lay
 lay-front m pool at [] h = refl
 lay-front m pool at (x ∷ xs) h = lay-front m (set pool at x) (suc at) xs (omega arith) ∙ take-set-le m pool at x h
 
-pub store-front : (m at c : ℕ) (ls : List Layer) (pool : List ℕ) → m ≤ at → take m (store at c ls pool) ≡ take m pool
+store-front : (m at c : ℕ) (ls : List Layer) (pool : List ℕ) → m ≤ at → take m (store at c ls pool) ≡ take m pool
 unfolding store
 store-front m at c [] pool h = refl
 store-front m at c (l ∷ ls) pool h =
@@ -182,7 +182,7 @@ store-own at c (k ∷ ks) (n ∷ ns) pool e r f =
     store-own (at + c + c) c ks ns pool (omega arith) (λ d h. r (suc d) (omega arith)) f
 
 -- words laid before the table
-pub store-lay : (at c : ℕ) (ls : List Layer) (pool : List ℕ) (b : ℕ) (xs : List ℕ) → b + length xs ≤ at → store at c ls (lay pool b xs) ≡ lay (store at c ls pool) b xs
+store-lay : (at c : ℕ) (ls : List Layer) (pool : List ℕ) (b : ℕ) (xs : List ℕ) → b + length xs ≤ at → store at c ls (lay pool b xs) ≡ lay (store at c ls pool) b xs
 unfolding lay
 store-lay at c ls pool b [] h = refl
 store-lay at c ls pool b (x ∷ xs) h =

@@ -3,21 +3,20 @@
 use Prim.Native.Nat.{ℕ, zero, suc, _+_, _*_, _-_, _≤_, _<_}
 use mathlib.Core.Path.{_≡_, refl, sym, ap, ap₂, _∙_, subst}
 use mathlib.Core.List.{List, [], _∷_, _++_, map}
-use mathlib.Core.Logic.{⊎-elim}
 use native.Mathlib.Omega.{arith}
 use native.Mathlib.Decide.{decLt}
 use native.Mathlib.Nat.{mul-comm, mul-assoc}
 use lib.ListN.{length, take, drop, getD, set, replicate, length-set, length-append, length-replicate, length-map, getD-replicate, List·getD-eq-default, List·getD-append, List·getD-map}
-use lib.Seq.{take-at, getD-append-add, getD-take, ext-getD, length-take-le}
+use lib.Seq.{getD-append-add, getD-take, ext-getD, length-take-le}
 use Rattle.relation.specs.Layers.{Layer, layer, noLayer}
 use Rattle.relation.specs.Undamaged as layers
 use Rattle.column_trie.specs.Limits.{maxArity, maxCapacity}
-use Rattle.column_trie.specs.Pool.{lay, store, spot, reads}
+use Rattle.column_trie.specs.Pool.{store, spot}
 use Rattle.column_trie.specs.Table.{dataLen, intervalLen, padded, header, layersIn, layerIn, Undamaged}
 use Rattle.column_trie.specs.declared.ColumnTrie.{ColumnTrie}
 use Rattle.column_trie.proofs.Pool.{Room, spot-is, store-length, store-keys, store-intervals, store-own}
 use Rattle.column_trie.proofs.Header.{InPool}
-use Rattle.column_trie.proofs.Layers.{Whole, length-reads, reads-at, layers-length, layers-at}
+use Rattle.column_trie.proofs.Layers.{Whole, layers-length, layers-at}
 use Rattle.column_trie.proofs.Damage.{keys-length, intervals-length, roomy}
 
 -- ---- the header's lists of lengths
@@ -32,7 +31,7 @@ zeros-at n i = go (decLt i n)
     go (yes l) = getD-replicate n i 0 0 l
     go (no l) = List·getD-eq-default (replicate n 0) 0 {n = i} (omega (arith, zeros-long n))
 
-pub padded-long : (ns : List ℕ) → length ns ≤ maxArity → length (padded ns) ≡ maxArity
+padded-long : (ns : List ℕ) → length ns ≤ maxArity → length (padded ns) ≡ maxArity
 padded-long ns h = omega (arith, length-append ns (replicate (maxArity - length ns) 0), zeros-long (maxArity - length ns))
 
 padded-at : (ns : List ℕ) (d : ℕ) → d < length ns → getD (padded ns) d 0 ≡ getD ns d 0
@@ -44,7 +43,7 @@ padded-past ns d h =
     ap (λ (n : ℕ). getD (padded ns) n 0) (sym e) ∙ getD-append-add ns (replicate (maxArity - length ns) 0) (d - length ns) 0 ∙ zeros-at (maxArity - length ns) (d - length ns)
 
 -- a list of maxArity lengths whose entries from a on are 0 is its first a entries, padded
-pub padded-own : (ns : List ℕ) (a : ℕ) → length ns ≡ maxArity → a ≤ maxArity → ((d : ℕ) → a ≤ d → d < maxArity → getD ns d 0 ≡ 0) → ns ≡ padded (take a ns)
+padded-own : (ns : List ℕ) (a : ℕ) → length ns ≡ maxArity → a ≤ maxArity → ((d : ℕ) → a ≤ d → d < maxArity → getD ns d 0 ≡ 0) → ns ≡ padded (take a ns)
 padded-own ns a e h z =
     ext-getD 0 ns (padded (take a ns)) (e ∙ sym (padded-long (take a ns) (omega (arith, l)))) (λ d k. go d k (decLt d a))
   where
@@ -56,7 +55,7 @@ padded-own ns a e h z =
     go d k (no b) = z d (omega arith) (omega arith) ∙ sym (padded-past (take a ns) d (omega (arith, l)))
 
 -- where the table ends
-pub spot-end : (start a c : ℕ) → spot start c a ≡ start + 2 * a * c
+spot-end : (start a c : ℕ) → spot start c a ≡ start + 2 * a * c
 spot-end start a c =
     let e : c + c ≡ 2 * c = omega arith in
     spot-is start c a ∙ ap (λ (n : ℕ). start + n) (ap (λ (n : ℕ). a * n) e ∙ sym (mul-assoc a 2 c) ∙ ap (λ (n : ℕ). n * c) (mul-comm a 2))

@@ -1,7 +1,7 @@
 -- The tie between tables in the pool and relations: an undamaged table is a relation's layers, stored, with their header; and a relation's layers, stored
 -- within the limits, are an undamaged table that holds the relation.
 use Prim.Native.Nat.{ℕ, _+_, _*_, _-_, _≤_, _<_}
-use mathlib.Core.Path.{_≡_, sym, ap, ap₂, _∙_, subst}
+use mathlib.Core.Path.{_≡_, sym, ap, ap₂, _∙_}
 use mathlib.Core.List.{List}
 use native.Mathlib.Omega.{arith}
 use lib.ListN.{length}

@@ -1,3 +1,4 @@
+pub mod Falls
 pub mod Limits
 pub mod Pool
 pub mod Table

@@ -1,7 +1,7 @@
 -- Words in the pool: a list laid over it, a table's layers stored in it, and layers read from it.
 use Prim.Native.Nat.{ℕ, zero, suc, _+_}
 use mathlib.Core.List.{List, [], _∷_}
-use lib.ListN.{length, take, drop}
+use lib.ListN.{take, drop}
 use lib.Seq.{sets}
 use Rattle.relation.specs.Layers.{Layer}
 

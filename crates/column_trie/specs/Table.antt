@@ -101,10 +101,6 @@ headerSound len t = arityOk (t .arity) && (capacityOk (t .capacity) && (liesIn l
 abbrev pub pastAt : ColumnTrie → ℕ → Bool
 pastAt t d = ltb d (t .arity) || (eqb (dataLen t d) 0 && eqb (intervalLen t d) 0)
 
--- interval i is the place j
-abbrev pub startsGroup : List ℕ → ℕ → ℕ → Bool
-startsGroup ints i j = ltb i (length ints) && eqb (getD ints i 0) j
-
 -- the header's tests, then those of the layers that it describes
 unfoldable pub undamaged : List ℕ → ColumnTrie → Bool
 undamaged pool t = headerSound (length pool) t && (every maxArity (pastAt t) && layers.undamaged (t .arity) (t .capacity) (layersIn pool t) (t .«tuple_count»))

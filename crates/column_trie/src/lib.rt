@@ -6,13 +6,14 @@
 // ties an undamaged table's words to its rows. The Rust's lists grow; here each has room for `capacity` words.
 ghost use mathlib.Core.Path.{_≡_};
 ghost use mathlib.Core.Bool.{true, _||_};
-ghost use Prim.Native.Nat.{_+_, _*_, _≤_, _<_, _^_};
+ghost use Prim.Native.Nat.{_+_, _*_, _-_, _≤_, _<_, _^_};
 ghost use lib.ListN.{length};
 ghost use Rattle.relation.specs.Tests.{every};
 ghost use Rattle.relation.specs.Undamaged.{sound, chain, linked};
+ghost use Rattle.column_trie.specs.Falls.{fallsIn};
 ghost use Rattle.column_trie.specs.Limits.{maxArity, maxCapacity};
 ghost use Rattle.column_trie.specs.Pool.{spot};
-ghost use Rattle.column_trie.specs.Table.{emptyTable, arityOk, capacityOk, liesIn, withinAt, headerSound, pastAt, startsGroup, layersIn, layerIn, undamaged};
+ghost use Rattle.column_trie.specs.Table.{emptyTable, arityOk, capacityOk, liesIn, withinAt, headerSound, pastAt, layersIn, layerIn, undamaged};
 
 #[repr(C)]
 pub struct ColumnTrie {
@@ -108,37 +109,66 @@ pub fn header_sound(len: usize, t: ColumnTrie) -> bool
     lengths_within(t)
 }
 
-// Whether interval i is where the key at place j stands: a group starts there.
-fn starts_group(interval: &[u64], i: usize, j: usize) -> bool
-    ensures { λ r. ⌜ r ≡ startsGroup (now (interval .entry)) i j ⌝ }
+// How many keys aren't above the key before them. Two counts, each of every other key: a single one waits for itself at each key, or is compiled to
+// vector code that is slower still.
+fn falls(keys: &[u64]) -> usize
+    requires { ⌜ 0 < length (now keys) ⌝ }
+    ensures { λ r. ⌜ r ≡ fallsIn (now (keys .entry)) (length (now (keys .entry)) - 1) ⌝ }
 {
-    i < interval.len() && interval[i] == j as u64
+    let mut odd = 0;
+    let mut even = 0;
+    let mut j = 2;
+    while j < keys.len() {
+        if keys[j - 1] <= keys[j - 2] {
+            odd += 1;
+        }
+        if keys[j] <= keys[j - 1] {
+            even += 1;
+        }
+        j += 2;
+    }
+    if keys.len() < j {
+        return odd + even;
+    }
+    // As many keys as j: the last one is left.
+    if keys[j - 1] <= keys[j - 2] {
+        return odd + even + 1;
+    }
+    odd + even
 }
 
-// One walk over a layer's keys: each starts a group or is above the key before it, and every interval is met on the way.
+// Whether the intervals start at 0, ascend and stay inside the data, and no group falls. Where the intervals do, no group falls exactly when the
+// keys fall as often in all as at the starts of groups. To count is quicker than to ask at each key whether a group starts there.
 fn layer_sound(interval: &[u64], data: &[u64]) -> bool
     ensures { λ r. ⌜ r ≡ sound (now (interval .entry)) (now («data» .entry)) ⌝ }
 {
     if data.len() == 0 {
         return interval.len() == 0;
     }
-    if !starts_group(interval, 0, 0) {
+    if interval.len() == 0 {
         return false;
     }
-    let mut i = 1;
-    let mut j = 1;
-    while j < data.len() {
-        if starts_group(interval, i, j) {
-            i += 1;
-            j += 1;
-        } else {
-            if data[j] <= data[j - 1] {
-                return false;
-            }
-            j += 1;
-        }
+    let mut i = interval.len() - 1;
+    let mut at = interval[i] as usize;
+    if data.len() <= at {
+        return false;
     }
-    i == interval.len()
+    let mut starts = 0;
+    while 0 < i {
+        let before = interval[i - 1] as usize;
+        if at <= before {
+            return false;
+        }
+        if data[at] <= data[at - 1] {
+            starts += 1;
+        }
+        at = before;
+        i -= 1;
+    }
+    if at != 0 {
+        return false;
+    }
+    falls(data) == starts
 }
 
 // Where the data of layer d starts; its intervals start `capacity` words further.
@@ -184,7 +214,7 @@ fn layers_linked(pool: &[u64], t: ColumnTrie) -> bool
     true
 }
 
-// Whether the table is undamaged. It reads the table's used words once each, and nothing else of the pool.
+// Whether the table is undamaged. It reads the table's used words, and nothing else of the pool.
 pub fn undamaged(pool: &[u64], t: ColumnTrie) -> bool
     ensures { λ r. ⌜ r ≡ undamaged (now (pool .entry)) t ⌝ }
 {

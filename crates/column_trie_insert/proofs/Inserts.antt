@@ -1,5 +1,6 @@
--- The ways out of an insert, and what each leaves.
-use Prim.Native.Nat.{ℕ, suc, _≤_, _<_}
+-- The ways out of an insert, and what each leaves: the number is the first refusal's in the contract's sequence, and only the way out that is none
+-- of them takes the tuple in.
+use Prim.Native.Nat.{ℕ, _<_}
 use mathlib.Core.Path.{_≡_, refl, sym, ap, subst, _∙_}
 use mathlib.Core.Bool.{Bool, true, false, not, _&&_, _||_}
 use mathlib.Core.List.{List, [], _∷_}
@@ -26,7 +27,7 @@ use Rattle.column_trie_insert.specs.declared.Inserted.{Inserted}
 use Rattle.column_trie_insert.specs.declared.Path.{Path}
 use Rattle.column_trie_insert.specs.Grow.{PathOf, Addable, RowAdded}
 use Rattle.column_trie_insert.specs.Insert.{known, insertNumber, takesIn, Inserts}
-use Rattle.column_trie_insert.proofs.Rows.{absent-row}
+use Rattle.column_trie_insert.proofs.Enters.{absent-row}
 
 -- the test decides membership
 pub in-known : {r : Row} {rows : List Row} → r ∈ rows → known rows r ≡ true
@@ -47,7 +48,7 @@ known-in (q ∷ qs) r e = go (known-in qs r) (same r q) refl e
     go ih true f e = hd (same→eq r q (true-T (same r q) f))
     go ih false f e = tl (ih e)
 
-pub not-known : {r : Row} {rows : List Row} → (r ∈ rows → ⊥) → known rows r ≡ false
+not-known : {r : Row} {rows : List Row} → (r ∈ rows → ⊥) → known rows r ≡ false
 not-known {r} {rows} n = go (known rows r) refl
   where
     go : (b : Bool) → known rows r ≡ b → known rows r ≡ false
@@ -56,6 +57,9 @@ not-known {r} {rows} n = go (known rows r) refl
 
 -- what an insert knows when it has looked for the tuple
 pub record Located (pool : List ℕ) (t : ColumnTrie) (tuple : Row) (p : Path) : Type 0 where
+  pub sound : undamaged pool t ≡ true
+  pub long : length tuple ≡ t .arity
+  pub whole : Whole t
   pub empty : t .«tuple_count» ≡ 0 → (p .depth ≡ 0) × (p .interval ≡ 0)
   pub path : (t .«tuple_count» ≡ 0 → ⊥) → PathOf (t .arity) (rowsIn pool t) tuple p
 
@@ -82,75 +86,81 @@ module _ (pool : List ℕ) (t : ColumnTrie) (tuple : Row) where
   pub damaged : undamaged pool t ≡ false → (r : Inserted) → (r .number ≡ 6) × (r .«is_new» ≡ false) × (r .table ≡ t) → Inserts pool pool t tuple r
   damaged e = let n = number-6 e in kept 6 n (shut 6 n (λ z. omega arith))
 
-  module _ (sound : undamaged pool t ≡ true) where
-    number-4 : (length tuple ≡ t .arity → ⊥) → insertNumber pool t tuple ≡ 4
-    unfolding insertNumber
-    number-4 n = simp (sound, ne-eqb (length tuple) (t .arity) n)
+  number-4 : undamaged pool t ≡ true → (length tuple ≡ t .arity → ⊥) → insertNumber pool t tuple ≡ 4
+  unfolding insertNumber
+  number-4 sound n = simp (sound, ne-eqb (length tuple) (t .arity) n)
 
-    pub another-length : (length tuple ≡ t .arity → ⊥) → (r : Inserted) → (r .number ≡ 4) × (r .«is_new» ≡ false) × (r .table ≡ t) → Inserts pool pool t tuple r
-    another-length n = let e = number-4 n in kept 4 e (shut 4 e (λ z. omega arith))
+  pub another-length : undamaged pool t ≡ true → (length tuple ≡ t .arity → ⊥) → (r : Inserted) → (r .number ≡ 4) × (r .«is_new» ≡ false) × (r .table ≡ t) → Inserts pool pool t tuple r
+  another-length sound n = let e = number-4 sound n in kept 4 e (shut 4 e (λ z. omega arith))
 
-    module _ (long : length tuple ≡ t .arity) where
-      rest : insertNumber pool t tuple ≡ pick (not (known (rowsIn pool t) tuple) && eqb (t .«tuple_count») (t .capacity)) 5 0
-      unfolding insertNumber
-      rest = simp (sound, eq-eqb (length tuple) (t .arity) long)
+module _ {pool : List ℕ} {t : ColumnTrie} {tuple : Row} {p : Path} (l : Located pool t tuple p) where
+  held : Holds pool t (rowsIn pool t)
+  held = holds (l .whole) (undamaged-told pool t (l .sound))
 
-      stays : tuple ∈ rowsIn pool t → takesIn pool t tuple ≡ false
+  rest : insertNumber pool t tuple ≡ pick (not (known (rowsIn pool t) tuple) && eqb (t .«tuple_count») (t .capacity)) 5 0
+  unfolding insertNumber
+  rest = simp (l .sound, eq-eqb (length tuple) (t .arity) (l .long))
+
+  -- a path to the last layer is a row's
+  whole-path : p .depth ≡ t .arity → tuple ∈ rowsIn pool t
+  whole-path e = go (ℕ-discrete (t .«tuple_count») 0)
+    where
+      go : Dec (t .«tuple_count» ≡ 0) → tuple ∈ rowsIn pool t
+      go (yes z) = absurd (omega (arith, l .empty z .0, undamaged-told pool t (l .sound) .arity .0))
+      go (no z) =
+          let q = l .path z in
+          stored-whole (t .arity) (rowsIn pool t) tuple (held .width) (l .long) (held .asc) .1 (subst (λ (n : ℕ). take n tuple ∈ prefixes n (rowsIn pool t)) e (q .stored))
+
+  stays : tuple ∈ rowsIn pool t → takesIn pool t tuple ≡ false
+  unfolding takesIn
+  stays m = go (eqb (insertNumber pool t tuple) 0) (known (rowsIn pool t) tuple) (in-known m)
+    where
+      go : (b k : Bool) → k ≡ true → (b && not k) ≡ false
+      go true k e = ap not e
+      go false k e = refl
+
+  pub there-already : p .depth ≡ t .arity → (r : Inserted) → (r .number ≡ 0) × (r .«is_new» ≡ false) × (r .table ≡ t) → Inserts pool pool t tuple r
+  there-already e =
+      let m = whole-path e in
+      kept pool t tuple 0 (rest ∙ ap (λ (b : Bool). pick (not b && eqb (t .«tuple_count») (t .capacity)) 5 0) (in-known m)) (stays m)
+
+  -- a path that ends before it isn't
+  module _ (n : p .depth ≡ t .arity → ⊥) where
+    leaves : (t .«tuple_count» ≡ 0 → ⊥) → PathOf (t .arity) (rowsIn pool t) tuple p × (p .depth < t .arity)
+    leaves z = (l .path z, lt-of-le-ne (l .path z .depth) n)
+
+    unknown : known (rowsIn pool t) tuple ≡ false
+    unknown = not-known (absent-row held (l .long) leaves)
+
+    number-new : insertNumber pool t tuple ≡ pick (eqb (t .«tuple_count») (t .capacity)) 5 0
+    number-new = rest ∙ ap (λ (b : Bool). pick (not b && eqb (t .«tuple_count») (t .capacity)) 5 0) unknown
+
+    pub full : t .«tuple_count» ≡ t .capacity → (r : Inserted) → (r .number ≡ 5) × (r .«is_new» ≡ false) × (r .table ≡ t) → Inserts pool pool t tuple r
+    full e = let q = number-new ∙ ap (λ (b : Bool). pick b 5 0) (eq-eqb (t .«tuple_count») (t .capacity) e) in kept pool t tuple 5 q (shut pool t tuple 5 q (λ z. omega arith))
+
+    module _ (e : t .«tuple_count» ≡ t .capacity → ⊥) where
+      number-0 : insertNumber pool t tuple ≡ 0
+      number-0 = number-new ∙ ap (λ (b : Bool). pick b 5 0) (ne-eqb (t .«tuple_count») (t .capacity) e)
+
+      takes : takesIn pool t tuple ≡ true
       unfolding takesIn
-      stays m = go (eqb (insertNumber pool t tuple) 0) (known (rowsIn pool t) tuple) (in-known m)
-        where
-          go : (b k : Bool) → k ≡ true → (b && not k) ≡ false
-          go true k e = ap not e
-          go false k e = refl
+      takes = ap (λ (b : Bool). b && not (known (rowsIn pool t) tuple)) (eq-eqb (insertNumber pool t tuple) 0 number-0) ∙ ap not unknown
 
-      pub there-already : tuple ∈ rowsIn pool t → (r : Inserted) → (r .number ≡ 0) × (r .«is_new» ≡ false) × (r .table ≡ t) → Inserts pool pool t tuple r
-      there-already m = kept 0 (rest ∙ ap (λ (b : Bool). pick (not b && eqb (t .«tuple_count») (t .capacity)) 5 0) (in-known m)) (stays m)
+      pub taken-in : (pool′ : List ℕ) (r : Inserted) → (r .number ≡ 0) × (r .«is_new» ≡ true) → RowAdded pool pool′ t tuple (r .table) → Inserts pool pool′ t tuple r
+      taken-in pool′ r h a =
+          record {
+            number = h .0 ∙ sym number-0;
+            is-new = h .1 ∙ sym takes;
+            table = a .header ∙ sym (ap (λ (b : Bool). pick b (tableOf (t .start) (t .arity) (t .capacity) (put tuple (rowsIn pool t))) t) takes);
+            words = a .words ∙ sym (ap (λ (b : Bool). pick b (store (t .start) (t .capacity) (layersOf (t .arity) (put tuple (rowsIn pool t))) pool) pool) takes);
+          }
 
-      pub full : (tuple ∈ rowsIn pool t → ⊥) → t .«tuple_count» ≡ t .capacity → (r : Inserted) → (r .number ≡ 5) × (r .«is_new» ≡ false) × (r .table ≡ t) → Inserts pool pool t tuple r
-      full n e =
-          let q = rest ∙ ap (λ (b : Bool). pick (not b && eqb (t .«tuple_count») (t .capacity)) 5 0) (not-known n) ∙ ap (λ (b : Bool). pick b 5 0) (eq-eqb (t .«tuple_count») (t .capacity) e) in
-          kept 5 q (shut 5 q (λ z. omega arith))
-
-      module _ (n : tuple ∈ rowsIn pool t → ⊥) (e : t .«tuple_count» ≡ t .capacity → ⊥) where
-        number-0 : insertNumber pool t tuple ≡ 0
-        number-0 = rest ∙ ap (λ (b : Bool). pick (not b && eqb (t .«tuple_count») (t .capacity)) 5 0) (not-known n) ∙ ap (λ (b : Bool). pick b 5 0) (ne-eqb (t .«tuple_count») (t .capacity) e)
-
-        takes : takesIn pool t tuple ≡ true
-        unfolding takesIn
-        takes = ap (λ (b : Bool). b && not (known (rowsIn pool t) tuple)) (eq-eqb (insertNumber pool t tuple) 0 number-0) ∙ ap not (not-known n)
-
-        pub taken-in : (pool′ : List ℕ) (r : Inserted) → (r .number ≡ 0) × (r .«is_new» ≡ true) → RowAdded pool pool′ t tuple (r .table) → Inserts pool pool′ t tuple r
-        taken-in pool′ r h a =
-            record {
-              number = h .0 ∙ sym number-0;
-              is-new = h .1 ∙ sym takes;
-              table = a .header ∙ sym (ap (λ (b : Bool). pick b (tableOf (t .start) (t .arity) (t .capacity) (put tuple (rowsIn pool t))) t) takes);
-              words = a .words ∙ sym (ap (λ (b : Bool). pick b (store (t .start) (t .capacity) (layersOf (t .arity) (put tuple (rowsIn pool t))) pool) pool) takes);
-            }
-
-      -- what the path's depth tells
-      module _ (o : Whole t) (p : Path) (l : Located pool t tuple p) where
-        held : Holds pool t (rowsIn pool t)
-        held = holds o (undamaged-told pool t sound)
-
-        pub whole-path : p .depth ≡ t .arity → tuple ∈ rowsIn pool t
-        whole-path e = go (ℕ-discrete (t .«tuple_count») 0)
-          where
-            go : Dec (t .«tuple_count» ≡ 0) → tuple ∈ rowsIn pool t
-            go (yes z) = absurd (omega (arith, l .empty z .0, undamaged-told pool t sound .arity .0))
-            go (no z) =
-                let q = l .path z in
-                stored-whole (t .arity) (rowsIn pool t) tuple (held .width) long (held .asc) .1 (subst (λ (n : ℕ). take n tuple ∈ prefixes n (rowsIn pool t)) e (q .stored))
-
-        pub part-path : (p .depth ≡ t .arity → ⊥) → tuple ∈ rowsIn pool t → ⊥
-        part-path n = absent-row held long (λ z. (l .path z, lt-of-le-ne (l .path z .depth) n))
-
-        pub addable : (p .depth ≡ t .arity → ⊥) → (t .«tuple_count» ≡ t .capacity → ⊥) → Addable pool t tuple p
-        addable n e =
-            record {
-              undamaged = sound;
-              long = long;
-              room = lt-of-le-ne (omega (arith, held .counted, held .room)) e;
-              empty = l .empty;
-              path = λ z. (l .path z, lt-of-le-ne (l .path z .depth) n);
-            }
+      pub addable : Addable pool t tuple p
+      addable =
+          record {
+            undamaged = l .sound;
+            long = l .long;
+            room = lt-of-le-ne (omega (arith, held .counted, held .room)) e;
+            empty = l .empty;
+            path = leaves;
+          }

@@ -1,6 +1,6 @@
 -- What an insert means: the contract determines everything, an accepted tuple leaves the table that a build over the old rows and the new one leaves,
 -- and so does any sequence of accepted tuples.
-use Prim.Native.Nat.{ℕ, _+_, _*_, _≤_, _<_}
+use Prim.Native.Nat.{ℕ, _+_, _≤_}
 use mathlib.Core.Path.{_≡_, refl, sym, ap, ap₂, subst, _∙_}
 use mathlib.Core.Bool.{Bool, true, false, not, _&&_}
 use mathlib.Core.Logic.{⊎-elim}
@@ -9,22 +9,21 @@ use native.Mathlib.Omega.{arith}
 use lib.Arith.{lt-of-le-ne}
 use lib.ListN.{length}
 use lib.Dec.{eqb}
-use borrow.Author.Tests.{eqb-true, eqb-false, eq-eqb, not-true}
+use borrow.Author.Tests.{eqb-true, eq-eqb}
 use Rattle.relation.specs.Order.{Row, pick}
 use Rattle.relation.specs.Lists.{_∈_, hd, tl, in-cons}
-use Rattle.relation.specs.Rows.{Asc, Members, put, asSet}
+use Rattle.relation.specs.Rows.{Members, put, asSet}
 use Rattle.relation.specs.Layers.{layersOf}
 use Rattle.relation.proofs.Tests.{not-both}
-use Rattle.relation.proofs.Sorting.{put-asc, put-known, put-self, put-old, in-put, asSet-cong}
+use Rattle.relation.proofs.Sorting.{put-asc, put-known, asSet-cong}
 use Rattle.relation.proofs.Insert.{insert-count, put-width}
 use Rattle.relation.proofs.Tables.{layers-count}
 use Rattle.column_trie.specs.Pool.{store}
-use Rattle.column_trie.specs.Table.{header, tableOf, layersIn, rowsIn, Undamaged, undamaged}
+use Rattle.column_trie.specs.Table.{tableOf, rowsIn, Undamaged, undamaged}
 use Rattle.column_trie.specs.declared.ColumnTrie.{ColumnTrie}
 use Rattle.column_trie.proofs.Layers.{Whole}
 use Rattle.column_trie.proofs.Damage.{undamaged-told}
 use Rattle.column_trie.proofs.Stored.{header-whole}
-use Rattle.column_trie.proofs.Pool.{store-length}
 use Rattle.column_trie.proofs.Tables.{Holds, holds, stored}
 use Rattle.column_trie_insert.specs.declared.Inserted.{Inserted}
 use Rattle.column_trie_insert.specs.Insert.{known, insertNumber, takesIn, Inserts}

@@ -1,7 +1,10 @@
 mod Shifts
+mod Raises
 mod Grows
 mod Places
 mod Walks
+mod Mixed
 mod Rows
+mod Enters
 pub mod Inserts
 pub mod Laws

@@ -1,113 +1,35 @@
--- A row's keys added layer by layer: above layer d the layers are those with the row, from d on those without it.
-use Prim.Native.Nat.{ℕ, zero, suc, _+_, _*_, _-_, _≤_, _<_, _^_}
+-- The loop that adds a row, layer by layer: each turn gives layer d its key, with an interval of its own where the parent is new (Mixed.antt says which
+-- layers stand in the pool on the way).
+use Prim.Native.Nat.{ℕ, suc, _+_, _-_, _≤_, _<_, _^_}
 use mathlib.Core.Path.{_≡_, refl, sym, ap, ap₂, subst, _∙_}
 use mathlib.Core.Bool.{Bool, true, false}
 use mathlib.Core.Logic.{_⊎_, inl, inr}
-use mathlib.Core.List.{List, [], _∷_, _++_, map}
+use mathlib.Core.List.{List, [], _∷_}
 use native.Mathlib.Omega.{arith}
-use native.Mathlib.Decide.{decLt, ℕ-discrete}
+use native.Mathlib.Decide.{decLt}
 use native.Mathlib.Numerals.{add-one}
-use lib.ListN.{length, take, drop, getD, set, length-set}
-use lib.Seq.{ext-getD, getD-set-same, getD-set-other, take-all}
-use lib.Dec.{ltb, eqb}
-use borrow.Author.Tests.{lt-ltb, le-ltb, eqb-true, eqb-false}
+use lib.ListN.{length, take, getD, set}
 use Rattle.relation.specs.Order.{Row, pick, before}
-use Rattle.relation.specs.Lists.{_∈_, not-in-nil}
-use Rattle.relation.specs.Rows.{Asc, Width, put}
+use Rattle.relation.specs.Lists.{_∈_}
+use Rattle.relation.specs.Rows.{put}
 use Rattle.relation.specs.Layers.{Layer, layer, noLayer, layersOf, prefixes}
 use Rattle.relation.proofs.Tests.{not-both}
-use Rattle.relation.proofs.Sorting.{put-asc}
 use Rattle.relation.proofs.Rank.{rank-at, rank-le}
 use Rattle.relation.proofs.Layers.{keysAt, intervalsAt, rankedAt, length-keys, length-intervals, prefixes-asc, prefixes-grown, grown-put}
-use Rattle.relation.proofs.Paths.{rankedFrom, layer-from, length-layers, length-prefixes}
+use Rattle.relation.proofs.Paths.{length-prefixes}
 use Rattle.relation.proofs.Children.{begin-is}
-use Rattle.relation.proofs.Insert.{Stored, number, stored-below, stored-whole, no-root, insert-known, insert-key, insert-first, insert-new, insert-count, below, put-width}
-use Rattle.relation.proofs.Tables.{ranked}
-use Rattle.column_trie.specs.Limits.{maxArity, maxCapacity}
+use Rattle.relation.proofs.Insert.{Stored, number, insert-key, insert-first, insert-new, insert-count, below}
 use Rattle.column_trie.specs.Pool.{store, spot}
-use Rattle.column_trie.specs.Table.{dataLen, intervalLen, header, tableOf, layerIn, rowsIn, headerSound}
+use Rattle.column_trie.specs.Table.{dataLen, intervalLen, header, tableOf, layerIn, headerSound}
 use Rattle.column_trie.specs.declared.ColumnTrie.{ColumnTrie}
 use Rattle.column_trie.proofs.Pool.{Room, store-length, store-replace}
-use Rattle.column_trie.proofs.Header.{InPool, told-header, LayerFits, layer-fits}
-use Rattle.column_trie.proofs.Layers.{Whole, layers-at}
-use Rattle.column_trie.proofs.Stored.{header-whole, header-keys, header-intervals, header-past, stored-layers, padded-set, in-pool}
-use Rattle.column_trie.proofs.Damage.{undamaged-told}
-use Rattle.column_trie.proofs.Tables.{Holds, holds}
+use Rattle.column_trie.proofs.Header.{InPool, told-header}
+use Rattle.column_trie.proofs.Layers.{layers-at}
+use Rattle.column_trie.proofs.Stored.{header-whole, header-keys, header-intervals, header-past, stored-layers, padded-set}
+use Rattle.column_trie.proofs.Tables.{Holds}
 use Rattle.column_trie.proofs.Words.{part-at}
-use Rattle.column_trie_insert.specs.Grow.{branched, sprouted, grown, relaid, resized, Added, Roomy, PathOf, Addable}
-use Rattle.column_trie_insert.specs.declared.Path.{Path}
-
--- layers by their depth
-tabulated : (ℕ → Layer) → ℕ → ℕ → List Layer
-tabulated f e zero = []
-tabulated f e (suc n) = f e ∷ tabulated f (suc e) n
-
-module _ (a : ℕ) (rows : List Row) (r : Row) where
-  -- with the row above depth d, without it from there on
-  mixAt : ℕ → ℕ → Layer
-  mixAt d k = pick (ltb k d) (rankedAt k (put r rows)) (rankedAt k rows)
-
-  pub mixed : ℕ → List Layer
-  mixed d = tabulated (mixAt d) 0 a
-
-  long : (f : ℕ → Layer) (e n : ℕ) → length (tabulated f e n) ≡ n
-  unfolding tabulated
-  long f e zero = refl
-  long f e (suc n) = ap suc (long f (suc e) n)
-
-  at : (f : ℕ → Layer) (e n i : ℕ) → i < n → layer (tabulated f e n) i ≡ f (e + i)
-  unfolding tabulated
-  at f e zero i h = absurd (omega arith)
-  at f e (suc n) zero h = ap f (let z : e ≡ e + 0 = omega arith in z)
-  at f e (suc n) (suc i) h = at f (suc e) n i (omega arith) ∙ ap f (let z : suc e + i ≡ e + suc i = omega arith in z)
-
-  pub mixed-long : (d : ℕ) → length (mixed d) ≡ a
-  unfolding mixed
-  mixed-long d = long (mixAt d) 0 a
-
-  mixed-at : (d k : ℕ) → k < a → layer (mixed d) k ≡ mixAt d k
-  unfolding mixed
-  mixed-at d k h = at (mixAt d) 0 a k h ∙ ap (mixAt d) (let z : 0 + k ≡ k = omega arith in z)
-
-  mixed-new : (d k : ℕ) → k < a → k < d → layer (mixed d) k ≡ rankedAt k (put r rows)
-  unfolding mixAt
-  mixed-new d k h l = mixed-at d k h ∙ ap (λ (b : Bool). pick b (rankedAt k (put r rows)) (rankedAt k rows)) (lt-ltb k d l)
-
-  pub mixed-old : (d k : ℕ) → k < a → d ≤ k → layer (mixed d) k ≡ rankedAt k rows
-  unfolding mixAt
-  mixed-old d k h l = mixed-at d k h ∙ ap (λ (b : Bool). pick b (rankedAt k (put r rows)) (rankedAt k rows)) (le-ltb k d l)
-
-  -- one layer further
-  pub mixed-step : (d : ℕ) → d < a → set (mixed d) d (rankedAt d (put r rows)) ≡ mixed (d + 1)
-  mixed-step d h =
-      ext-getD noLayer (set (mixed d) d (rankedAt d (put r rows))) (mixed (d + 1)) (length-set (mixed d) d _ ∙ mixed-long d ∙ sym (mixed-long (d + 1)))
-      (λ k b. go k (omega (arith, b, length-set (mixed d) d (rankedAt d (put r rows)), mixed-long d)) (decLt k d) (decLt d k))
-    where
-      go : (k : ℕ) → k < a → Dec (k < d) → Dec (d < k) → layer (set (mixed d) d (rankedAt d (put r rows))) k ≡ layer (mixed (d + 1)) k
-      go k b (yes l) q = getD-set-other (mixed d) d k _ noLayer (λ e. omega arith) ∙ mixed-new d k b l ∙ sym (mixed-new (d + 1) k b (omega arith))
-      go k b (no l) (yes m) = getD-set-other (mixed d) d k _ noLayer (λ e. omega arith) ∙ mixed-old d k b (omega arith) ∙ sym (mixed-old (d + 1) k b (omega arith))
-      go k b (no l) (no m) =
-          let e : k ≡ d = omega arith in
-          ap (λ (z : ℕ). layer (set (mixed d) d (rankedAt d (put r rows))) z) e ∙ getD-set-same (mixed d) d _ noLayer (omega (arith, mixed-long d)) ∙ sym (ap (λ (z : ℕ). layer (mixed (d + 1)) z) e ∙ mixed-new (d + 1) d h (omega arith))
-
-  module _ (w : Width a rows) (lr : length r ≡ a) where
-    same : (ls : List Layer) (qs : List Row) → length ls ≡ a → ((k : ℕ) → k < a → layer ls k ≡ rankedAt k qs) → ls ≡ rankedFrom 0 a qs
-    same ls qs e f =
-        ext-getD noLayer ls (rankedFrom 0 a qs) (e ∙ sym (length-layers 0 a qs))
-        (λ k b. let h : k < a = omega arith in f k h ∙ sym (layer-from 0 a qs k h ∙ ap (λ (z : ℕ). rankedAt z qs) (let z : 0 + k ≡ k = omega arith in z)))
-
-    -- at the first layer that changes, and behind the last
-    pub mixed-first : (d : ℕ) → ((k : ℕ) → k < d → Stored rows r (suc k)) → mixed d ≡ layersOf a rows
-    mixed-first d s = same (mixed d) rows (mixed-long d) (λ k h. go k h (decLt k d)) ∙ ranked w
-      where
-        go : (k : ℕ) → k < a → Dec (k < d) → layer (mixed d) k ≡ rankedAt k rows
-        go k h (yes l) =
-            let q = insert-known a rows r w lr k (s k l) in
-            mixed-new d k h l ∙ ap₂ {C = Layer} (λ x y. record { keys = x; intervals = y }) (q .0) (q .1)
-        go k h (no l) = mixed-old d k h (omega arith)
-
-    pub mixed-last : mixed a ≡ layersOf a (put r rows)
-    mixed-last = same (mixed a) (put r rows) (mixed-long a) (λ k h. mixed-new a k h h) ∙ ranked (put-width r w lr)
+use Rattle.column_trie_insert.specs.Grow.{branched, sprouted, grown, relaid, resized, Added, Roomy}
+use Rattle.column_trie_insert.proofs.Mixed.{mixed, mixed-long, mixed-new, mixed-old, mixed-step, mixed-last}
 
 -- a list of rows does not get shorter by a row
 put-longer : (r : Row) (qs : List Row) → length qs ≤ length (put r qs)
@@ -140,6 +62,13 @@ pub record Growing (pool₀ : List ℕ) (t : ColumnTrie) (rows : List Row) (r : 
   pub new : fresh ≡ true → Stored rows r d → ⊥
 
 module _ {pool₀ : List ℕ} {t : ColumnTrie} {rows : List Row} {r : Row} (y : Ready pool₀ t rows r) where
+  -- the layers on the way
+  abbrev mix : ℕ → List Layer
+  mix d = mixed (t .arity) rows r d
+
+  mix-long : (d : ℕ) → length (mix d) ≡ t .arity
+  mix-long d = mixed-long (t .arity) rows r d
+
   put-rows : length (put r rows) ≤ t .capacity
   put-rows = omega (arith, insert-count (t .arity) rows r (y .held .width) (y .long) (y .absent), y .room)
 
@@ -152,25 +81,25 @@ module _ {pool₀ : List ℕ} {t : ColumnTrie} {rows : List Row} {r : Row} (y : 
   layer-room qs h k =
       (omega (arith, length-keys k qs, length-prefixes (suc k) qs), omega (arith, length-intervals k qs, length-prefixes k qs))
 
-  pub mixed-room : (d : ℕ) → Room (t .capacity) (mixed (t .arity) rows r d)
+  mixed-room : (d : ℕ) → Room (t .capacity) (mix d)
   mixed-room d k h = go (decLt k d)
     where
       b : k < t .arity
-      b = omega (arith, mixed-long (t .arity) rows r d)
+      b = omega (arith, mix-long d)
 
-      by : (l : Layer) (qs : List Row) → layer (mixed (t .arity) rows r d) k ≡ rankedAt k qs → length qs ≤ t .capacity → (length (layer (mixed (t .arity) rows r d) k .keys) ≤ t .capacity) × (length (layer (mixed (t .arity) rows r d) k .intervals) ≤ t .capacity)
-      by l qs e q = subst (λ (z : Layer). (length (z .keys) ≤ t .capacity) × (length (z .intervals) ≤ t .capacity)) (sym e) (layer-room qs q k)
+      by : (qs : List Row) → layer (mix d) k ≡ rankedAt k qs → length qs ≤ t .capacity → (length (layer (mix d) k .keys) ≤ t .capacity) × (length (layer (mix d) k .intervals) ≤ t .capacity)
+      by qs e q = subst (λ (z : Layer). (length (z .keys) ≤ t .capacity) × (length (z .intervals) ≤ t .capacity)) (sym e) (layer-room qs q k)
 
-      go : Dec (k < d) → (length (layer (mixed (t .arity) rows r d) k .keys) ≤ t .capacity) × (length (layer (mixed (t .arity) rows r d) k .intervals) ≤ t .capacity)
-      go (yes l) = by noLayer (put r rows) (mixed-new (t .arity) rows r d k b l) put-rows
-      go (no l) = by noLayer rows (mixed-old (t .arity) rows r d k b (omega arith)) (omega (arith, y .room))
+      go : Dec (k < d) → (length (layer (mix d) k .keys) ≤ t .capacity) × (length (layer (mix d) k .intervals) ≤ t .capacity)
+      go (yes l) = by (put r rows) (mixed-new (t .arity) rows r d k b l) put-rows
+      go (no l) = by rows (mixed-old (t .arity) rows r d k b (omega arith)) (omega (arith, y .room))
 
   module _ {pool : List ℕ} {out : ColumnTrie} {d i at : ℕ} {fresh : Bool} (g : Growing pool₀ t rows r pool out d i at fresh) where
     abbrev H : ColumnTrie
-    H = header (t .start) (t .arity) (t .capacity) (mixed (t .arity) rows r d) (t .«tuple_count»)
+    H = header (t .start) (t .arity) (t .capacity) (mix d) (t .«tuple_count»)
 
     pub pool-long : length pool ≡ length pool₀
-    pool-long = ap length (g .words) ∙ store-length (t .start) (t .capacity) (mixed (t .arity) rows r d) pool₀
+    pool-long = ap length (g .words) ∙ store-length (t .start) (t .capacity) (mix d) pool₀
 
     out-pool : InPool (length pool) out
     out-pool = subst (λ (z : ColumnTrie). InPool (length pool) z) (sym (g .header)) (record {
@@ -184,12 +113,12 @@ module _ {pool₀ : List ℕ} {t : ColumnTrie} {rows : List Row} {r : Row} (y : 
       where
         go : (k : ℕ) → Dec (k < t .arity) → (dataLen H k ≤ t .capacity) × (intervalLen H k ≤ t .capacity)
         go k (yes b) =
-            let q = mixed-room d k (omega (arith, mixed-long (t .arity) rows r d)) in (
-              omega (arith, header-keys (t .start) (t .arity) (t .capacity) (mixed (t .arity) rows r d) (t .«tuple_count») (mixed-long (t .arity) rows r d) (y .inside .few) k b, q .0),
-              omega (arith, header-intervals (t .start) (t .arity) (t .capacity) (mixed (t .arity) rows r d) (t .«tuple_count») (mixed-long (t .arity) rows r d) (y .inside .few) k b, q .1),
+            let q = mixed-room d k (omega (arith, mix-long d)) in (
+              omega (arith, header-keys (t .start) (t .arity) (t .capacity) (mix d) (t .«tuple_count») (mix-long d) (y .inside .few) k b, q .0),
+              omega (arith, header-intervals (t .start) (t .arity) (t .capacity) (mix d) (t .«tuple_count») (mix-long d) (y .inside .few) k b, q .1),
             )
         go k (no b) =
-            let z = header-past (t .start) (t .arity) (t .capacity) (mixed (t .arity) rows r d) (t .«tuple_count») (mixed-long (t .arity) rows r d) (y .inside .few) k (omega arith) in
+            let z = header-past (t .start) (t .arity) (t .capacity) (mix d) (t .«tuple_count») (mix-long d) (y .inside .few) k (omega arith) in
             (omega (arith, z .0), omega (arith, z .1))
 
     pub out-sound : headerSound (length pool) out ≡ true
@@ -197,21 +126,21 @@ module _ {pool₀ : List ℕ} {t : ColumnTrie} {rows : List Row} {r : Row} (y : 
 
     module _ (h : d < t .arity) where
       -- the layer is still the old one
-      pub layer-old : layerIn pool out d ≡ rankedAt d rows
+      layer-old : layerIn pool out d ≡ rankedAt d rows
       layer-old =
           ap₂ (λ (p : List ℕ) (z : ColumnTrie). layerIn p z d) (g .words) (g .header)
-          ∙ sym (layers-at (store (t .start) (t .capacity) (mixed (t .arity) rows r d) pool₀) H (header-whole (t .start) (t .arity) (t .capacity) (mixed (t .arity) rows r d) (t .«tuple_count») (mixed-long (t .arity) rows r d) (y .inside .few)) (y .inside .few) d h)
-          ∙ ap (λ (ls : List Layer). layer ls d) (stored-layers (t .start) (t .arity) (t .capacity) (mixed (t .arity) rows r d) (t .«tuple_count») (mixed-long (t .arity) rows r d) (y .inside .few) pool₀ (mixed-room d) (y .inside .fits))
+          ∙ sym (layers-at (store (t .start) (t .capacity) (mix d) pool₀) H (header-whole (t .start) (t .arity) (t .capacity) (mix d) (t .«tuple_count») (mix-long d) (y .inside .few)) (y .inside .few) d h)
+          ∙ ap (λ (ls : List Layer). layer ls d) (stored-layers (t .start) (t .arity) (t .capacity) (mix d) (t .«tuple_count») (mix-long d) (y .inside .few) pool₀ (mixed-room d) (y .inside .fits))
           ∙ mixed-old (t .arity) rows r d d h (omega arith)
 
       lens : (dataLen out d ≡ length (keysAt d rows)) × (intervalLen out d ≡ length (intervalsAt d rows))
       lens = (
-        ap (λ (z : ColumnTrie). dataLen z d) (g .header) ∙ header-keys (t .start) (t .arity) (t .capacity) (mixed (t .arity) rows r d) (t .«tuple_count») (mixed-long (t .arity) rows r d) (y .inside .few) d h ∙ ap (λ (l : Layer). length (l .keys)) (mixed-old (t .arity) rows r d d h (omega arith)),
-        ap (λ (z : ColumnTrie). intervalLen z d) (g .header) ∙ header-intervals (t .start) (t .arity) (t .capacity) (mixed (t .arity) rows r d) (t .«tuple_count») (mixed-long (t .arity) rows r d) (y .inside .few) d h ∙ ap (λ (l : Layer). length (l .intervals)) (mixed-old (t .arity) rows r d d h (omega arith)),
+        ap (λ (z : ColumnTrie). dataLen z d) (g .header) ∙ header-keys (t .start) (t .arity) (t .capacity) (mix d) (t .«tuple_count») (mix-long d) (y .inside .few) d h ∙ ap (λ (l : Layer). length (l .keys)) (mixed-old (t .arity) rows r d d h (omega arith)),
+        ap (λ (z : ColumnTrie). intervalLen z d) (g .header) ∙ header-intervals (t .start) (t .arity) (t .capacity) (mix d) (t .«tuple_count») (mix-long d) (y .inside .few) d h ∙ ap (λ (l : Layer). length (l .intervals)) (mixed-old (t .arity) rows r d d h (omega arith)),
       )
 
       -- where a new parent's children start
-      pub begins-place : fresh ≡ true → getD (layerIn pool out d .intervals) i (dataLen out d) ≡ number rows r (suc d)
+      begins-place : fresh ≡ true → getD (layerIn pool out d .intervals) i (dataLen out d) ≡ number rows r (suc d)
       begins-place f =
           ap₂ (λ (l : Layer) (n : ℕ). getD (l .intervals) i n) layer-old (lens .0)
           ∙ ap (λ (n : ℕ). getD (intervalsAt d rows) n (length (keysAt d rows))) (g .place)
@@ -289,20 +218,20 @@ module _ {pool₀ : List ℕ} {t : ColumnTrie} {rows : List Row} {r : Row} (y : 
             omega (arith, length-intervals d rows, length-intervals d (put r rows), prefixes-grow d),
           )
 
-          replaced : relaid (store (t .start) (t .capacity) (mixed (t .arity) rows r d) pool₀) H d (rankedAt d (put r rows)) ≡ store (t .start) (t .capacity) (set (mixed (t .arity) rows r d) d (rankedAt d (put r rows))) pool₀
+          replaced : relaid (store (t .start) (t .capacity) (mix d) pool₀) H d (rankedAt d (put r rows)) ≡ store (t .start) (t .capacity) (set (mix d) d (rankedAt d (put r rows))) pool₀
           replaced =
               let o = mixed-old (t .arity) rows r d d h (omega arith) in
               let m = layer-room (put r rows) put-rows d in
-              store-replace (t .start) (t .capacity) (mixed (t .arity) rows r d) pool₀ d (rankedAt d (put r rows)) (omega (arith, mixed-long (t .arity) rows r d))
+              store-replace (t .start) (t .capacity) (mix d) pool₀ d (rankedAt d (put r rows)) (omega (arith, mix-long d))
               (omega (arith, ap (λ (l : Layer). length (l .keys)) o, longer .0)) (m .0) (omega (arith, ap (λ (l : Layer). length (l .intervals)) o, longer .1)) (m .1)
 
-          counted : resized H d (rankedAt d (put r rows)) ≡ header (t .start) (t .arity) (t .capacity) (set (mixed (t .arity) rows r d) d (rankedAt d (put r rows))) (t .«tuple_count»)
+          counted : resized H d (rankedAt d (put r rows)) ≡ header (t .start) (t .arity) (t .capacity) (set (mix d) d (rankedAt d (put r rows))) (t .«tuple_count»)
           counted =
-              let b : d < length (mixed (t .arity) rows r d) = omega (arith, mixed-long (t .arity) rows r d) in
+              let b : d < length (mix d) = omega (arith, mix-long d) in
               ap₂ {C = ColumnTrie}
               (λ x z. record { start = t .start; arity = t .arity; capacity = t .capacity; «data_len» = x; «interval_len» = z; «tuple_count» = t .«tuple_count» })
-              (sym (padded-set (λ l. length (l .keys)) (mixed (t .arity) rows r d) d (rankedAt d (put r rows)) b))
-              (sym (padded-set (λ l. length (l .intervals)) (mixed (t .arity) rows r d) d (rankedAt d (put r rows)) b))
+              (sym (padded-set (λ l. length (l .keys)) (mix d) d (rankedAt d (put r rows)) b))
+              (sym (padded-set (λ l. length (l .intervals)) (mix d) d (rankedAt d (put r rows)) b))
 
     -- all layers have their key
     pub grown-words : t .arity ≤ d → pool ≡ store (t .start) (t .capacity) (layersOf (t .arity) (put r rows)) pool₀
@@ -319,31 +248,6 @@ module _ {pool₀ : List ℕ} {t : ColumnTrie} {rows : List Row} {r : Row} (y : 
         ap (λ (z : ColumnTrie). record { start = z .start; arity = z .arity; capacity = z .capacity; «data_len» = z .«data_len»; «interval_len» = z .«interval_len»; «tuple_count» = t .«tuple_count» + 1 }) (g .header)
         ∙ ap₂ (λ (ls : List Layer) (m : ℕ). header (t .start) (t .arity) (t .capacity) ls m) (ap (mixed (t .arity) rows r) e ∙ mixed-last (t .arity) rows r (y .held .width) (y .long)) n
 
-  -- where it starts
-  starts : (d : ℕ) → ((k : ℕ) → k < d → Stored rows r (suc k)) → (pool₀ ≡ store (t .start) (t .capacity) (mixed (t .arity) rows r d) pool₀) × (t ≡ header (t .start) (t .arity) (t .capacity) (mixed (t .arity) rows r d) (t .«tuple_count»))
-  starts d s =
-      let e = mixed-first (t .arity) rows r (y .held .width) (y .long) d s in (
-        sym (ap (λ (ls : List Layer). store (t .start) (t .capacity) ls pool₀) e ∙ y .held .words),
-        y .held .table ∙ ap₂ (λ (ls : List Layer) (m : ℕ). header (t .start) (t .arity) (t .capacity) ls m) (sym e) (sym (y .held .counted)),
-      )
-
-  pub growing-start : {p : Path} → PathOf (t .arity) rows r p → p .depth < t .arity → Growing pool₀ t rows r pool₀ t (p .depth) (p .interval) (p .at) false
-  growing-start {p} q h =
-      let s = starts (p .depth) (λ k b. stored-below (t .arity) rows r (y .held .width) (y .long) (suc k) (p .depth) b (q .stored)) in
-      record { inside = omega arith; words = s .0; header = s .1; place = q .interval; old = λ f. (h, q .stored, q .leaves h, q .place h); new = λ f. not-both false f refl }
-
-  pub growing-empty : (at : ℕ) → rows ≡ [] → Growing pool₀ t rows r pool₀ t 0 0 at true
-  growing-empty at e =
-      let s = starts 0 (λ k b. absurd (omega arith)) in
-      record {
-        inside = omega arith;
-        words = s .0;
-        header = s .1;
-        place = omega (arith, rank-le (take 0 r) (prefixes 0 rows), length-prefixes 0 rows, ap length e);
-        old = λ f. not-both true refl f;
-        new = λ f m. no-root r 0 (subst (λ (qs : List Row). Stored qs r 0) e m);
-      }
-
 -- a place for the key, read or known
 pub placed :
     {pool₀ : List ℕ} {t : ColumnTrie} {rows : List Row} {r : Row} {pool : List ℕ} {out : ColumnTrie} {d i at : ℕ} {fresh : Bool} → Ready pool₀ t rows r → Growing pool₀ t rows r pool out d i at fresh → d < t .arity → (at′ : ℕ) →
@@ -356,47 +260,3 @@ placed y g h at′ (inr w) = (
   record { inside = g .inside; words = g .words; header = g .header; place = g .place; old = λ f. let o = g .old f in (o .0, o .1, o .2, w .1 ∙ o .3); new = g .new },
   w .1 ∙ g .old (w .0) .3,
 )
-
-no-rows : (rows : List Row) → length rows ≡ 0 → rows ≡ []
-no-rows [] e = refl
-no-rows (q ∷ qs) e = absurd (omega arith)
-
--- a path that leaves the stored rows leads to no row
-pub absent-row :
-    {pool : List ℕ} {t : ColumnTrie} {r : Row} {p : Path} → Holds pool t (rowsIn pool t) → length r ≡ t .arity → ((t .«tuple_count» ≡ 0 → ⊥) → PathOf (t .arity) (rowsIn pool t) r p × (p .depth < t .arity)) → r ∈ rowsIn pool t → ⊥
-absent-row {pool} {t} {r} {p} h l q m = go (ℕ-discrete (t .«tuple_count») 0)
-  where
-    go : Dec (t .«tuple_count» ≡ 0) → ⊥
-    go (yes e) = not-in-nil (subst (λ (qs : List Row). r ∈ qs) (no-rows (rowsIn pool t) (omega (arith, h .counted))) m)
-    go (no n) =
-        let z = q n in
-        z .0 .leaves (z .1) (stored-below (t .arity) (rowsIn pool t) r (h .width) l (suc (p .depth)) (t .arity) (z .1) (stored-whole (t .arity) (rowsIn pool t) r (h .width) l (h .asc) .0 m))
-
--- what the function requires says all that
-module _ {pool : List ℕ} {t : ColumnTrie} {r : Row} {p : Path} (o : Whole t) (c : Addable pool t r p) where
-  held : Holds pool t (rowsIn pool t)
-  held = holds o (undamaged-told pool t (c .undamaged))
-
-  pub ready : Ready pool t (rowsIn pool t) r
-  ready =
-      record {
-        inside = in-pool (undamaged-told pool t (c .undamaged));
-        held = held;
-        long = c .long;
-        room = omega (arith, held .counted, c .room);
-        absent = absent-row held (c .long) (c .path);
-      }
-
-  pub growing-first : (fresh : Bool) → fresh ≡ eqb (t .«tuple_count») 0 → Growing pool t (rowsIn pool t) r pool t (p .depth) (p .interval) (p .at) fresh
-  growing-first fresh e = go (eqb (t .«tuple_count») 0) refl
-    where
-      go : (b : Bool) → eqb (t .«tuple_count») 0 ≡ b → Growing pool t (rowsIn pool t) r pool t (p .depth) (p .interval) (p .at) fresh
-      go true f =
-          let n = eqb-true (t .«tuple_count») 0 f in
-          let z = c .empty n in
-          subst (λ (b : Bool). Growing pool t (rowsIn pool t) r pool t (p .depth) (p .interval) (p .at) b) (sym (e ∙ f))
-          (subst (λ (x : ℕ). Growing pool t (rowsIn pool t) r pool t x (p .interval) (p .at) true) (sym (z .0))
-          (subst (λ (x : ℕ). Growing pool t (rowsIn pool t) r pool t 0 x (p .at) true) (sym (z .1)) (growing-empty ready (p .at) (no-rows (rowsIn pool t) (omega (arith, held .counted))))))
-      go false f =
-          let q = c .path (eqb-false (t .«tuple_count») 0 f) in
-          subst (λ (b : Bool). Growing pool t (rowsIn pool t) r pool t (p .depth) (p .interval) (p .at) b) (sym (e ∙ f)) (growing-start ready (q .0) (q .1))

@@ -1,16 +1,16 @@
--- Down the layers of a table that holds a relation, while a tuple's keys are stored.
+-- Down the layers of a table that holds a relation, while a tuple's keys are stored: the place found in a group is the number of the tuple's prefix
+-- among the stored ones, and where none is found, the number that it would have.
 use Prim.Native.Nat.{ℕ, zero, suc, _+_, _-_, _≤_, _<_}
 use mathlib.Core.Path.{_≡_, refl, sym, ap, subst, _∙_}
-use mathlib.Core.Bool.{Bool, true, false}
+use mathlib.Core.Bool.{true, false}
 use mathlib.Core.List.{List, [], _∷_}
 use native.Mathlib.Omega.{arith}
 use native.Mathlib.Decide.{decLt}
-use native.Mathlib.Numerals.{add-one}
 use lib.ListN.{length, getD, List·getD-eq-default}
 use Rattle.relation.specs.Order.{Row}
-use Rattle.relation.specs.Lists.{_∈_, hd}
+use Rattle.relation.specs.Lists.{hd}
 use Rattle.relation.specs.Rows.{Width}
-use Rattle.relation.specs.Layers.{Layer, prefixes}
+use Rattle.relation.specs.Layers.{prefixes}
 use Rattle.relation.specs.Undamaged.{Ordered}
 use Rattle.relation.proofs.Rank.{rank-at}
 use Rattle.relation.proofs.Layers.{keysAt, intervalsAt, rankedAt, length-intervals, prefixes-asc}
@@ -18,13 +18,12 @@ use Rattle.relation.proofs.Undamaged.{sound-ordered}
 use Rattle.relation.proofs.Paths.{between-prefixes}
 use Rattle.relation.proofs.Children.{end-le}
 use Rattle.relation.proofs.Insert.{Stored, number, descend, branch, root}
+use Rattle.column_trie.proofs.Words.{getD-any}
 use Rattle.column_trie_insert.specs.declared.Place.{Place}
-use Rattle.column_trie_insert.specs.declared.Path.{Path}
 use Rattle.column_trie_insert.specs.Grow.{Grouped, PlaceOf, PathOf}
-use Rattle.column_trie_insert.proofs.Grows.{getD-any}
 
 -- the groups of a relation's layer
-pub grouped : (a : ℕ) (rows : List Row) (d i : ℕ) → Width a rows → d < a → i < length (prefixes d rows) → Grouped (rankedAt d rows) i
+grouped : (a : ℕ) (rows : List Row) (d i : ℕ) → Width a rows → d < a → i < length (prefixes d rows) → Grouped (rankedAt d rows) i
 grouped a rows d i w h k =
     record {
       there = there;
@@ -56,10 +55,10 @@ pub record Walking (a : ℕ) (rows : List Row) (r : Row) (d i : ℕ) : Type 0 wh
 
 pub walking-start : (a : ℕ) (rows : List Row) (r : Row) → 0 < length rows → Walking a rows r 0 0
 walking-start a [] r h = absurd (omega arith)
-walking-start a (q ∷ qs) r h = let z = root r (hd refl) in record { inside = omega arith; stored = z .0; place = sym (z .1) }
+walking-start a (q ∷ qs) r h = let z = root {rows = q ∷ qs} r (hd refl) in record { inside = omega arith; stored = z .0; place = sym (z .1) }
 
 module _ {a : ℕ} {rows : List Row} {r : Row} {d i : ℕ} (w : Width a rows) (lr : length r ≡ a) (v : Walking a rows r d i) (h : d < a) where
-  pub index-inside : i < length (prefixes d rows)
+  index-inside : i < length (prefixes d rows)
   index-inside = omega (arith, v .place, rank-at (prefixes-asc d rows) (v .stored) .0)
 
   pub walking-grouped : Grouped (rankedAt d rows) i

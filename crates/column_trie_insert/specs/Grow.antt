@@ -9,7 +9,7 @@ use Rattle.relation.specs.Rows.{put}
 use Rattle.relation.specs.Layers.{Layer, layersOf}
 use Rattle.relation.proofs.Insert.{Stored, number}
 use Rattle.column_trie.specs.Pool.{lay, store, spot}
-use Rattle.column_trie.specs.Table.{dataLen, intervalLen, layerIn, rowsIn, tableOf, headerSound, undamaged}
+use Rattle.column_trie.specs.Table.{dataLen, intervalLen, rowsIn, tableOf, headerSound, undamaged}
 use Rattle.column_trie.specs.declared.ColumnTrie.{ColumnTrie}
 use Rattle.column_trie_insert.specs.Shift.{SmallFrom}
 use Rattle.column_trie_insert.specs.declared.Place.{Place}

@@ -6,7 +6,7 @@
 ghost use mathlib.Core.Path.{_≡_};
 ghost use mathlib.Core.Bool.{true, false};
 ghost use mathlib.Core.List.{_∷_, _++_, map};
-ghost use Prim.Native.Nat.{ℕ, suc, _+_, _≤_, _<_, _^_};
+ghost use Prim.Native.Nat.{ℕ, suc, _+_, _-_, _≤_, _<_, _^_};
 ghost use lib.ListN.{length, take, drop, getD};
 ghost use Rattle.column_trie.specs.Pool.{lay};
 ghost use Rattle.column_trie.specs.Table.{dataLen, layerIn, rowsIn, headerSound, undamaged};
@@ -19,32 +19,28 @@ use column_trie::undamaged;
 use seek::SeekStrategy;
 use seek::partition_point;
 
+// The words move one up, the last one out, and `word` goes to the front. Over a slice of its own, the loop is compiled to a move of the whole
+// block.
+fn shift_in(words: &mut [u64], word: u64)
+    requires { ⌜ 0 < length (now words) ⌝ }
+    ensures { λ r. ⌜ now (words .exit) ≡ word ∷ take (length (now (words .entry)) - 1) (now (words .entry)) ⌝ }
+{
+    let mut i = words.len() - 1;
+    while 0 < i {
+        words[i] = words[i - 1];
+        i -= 1;
+    }
+    words[0] = word;
+}
+
 // Puts `word` at place `at` of the n words from `base` on: those from `at` on move one up.
 fn wedge(pool: &mut [u64], base: usize, at: usize, n: usize, word: u64)
     requires { ⌜ (at ≤ n) × (base + n < length (now pool)) ⌝ }
     ensures { λ r. ⌜ now (pool .exit) ≡ lay (now (pool .entry)) base (take at (take n (drop base (now (pool .entry)))) ++ word ∷ drop at (take n (drop base (now (pool .entry))))) ⌝ }
 {
-    let end = base + at;
-    let mut i = base + n;
-    while end < i {
-        pool[i] = pool[i - 1];
-        i -= 1;
-    }
-    pool[end] = word;
-}
-
-// The same, and each word that moves becomes one more.
-fn wedge_raised(pool: &mut [u64], base: usize, at: usize, n: usize, word: u64)
-    requires { ⌜ (at ≤ n) × (base + n < length (now pool)) × SmallFrom (base + at) (base + n) (now pool) ⌝ }
-    ensures { λ r. ⌜ now (pool .exit) ≡ lay (now (pool .entry)) base (take at (take n (drop base (now (pool .entry)))) ++ word ∷ map suc (drop at (take n (drop base (now (pool .entry)))))) ⌝ }
-{
-    let end = base + at;
-    let mut i = base + n;
-    while end < i {
-        pool[i] = pool[i - 1] + 1;
-        i -= 1;
-    }
-    pool[end] = word;
+    let from = base + at;
+    let end = base + n + 1;
+    shift_in(&mut pool[from..end], word);
 }
 
 // Each of the n words from `base` on becomes one more from place `from` on.
@@ -60,20 +56,16 @@ fn raise(pool: &mut [u64], base: usize, from: usize, n: usize)
     }
 }
 
-// Where a key stands in its group, or where it goes.
-pub struct Place {
-    pub at: usize,
-    pub there: bool,
+// As `wedge`, and each word that moves becomes one more.
+fn wedge_raised(pool: &mut [u64], base: usize, at: usize, n: usize, word: u64)
+    requires { ⌜ (at ≤ n) × (base + n < length (now pool)) × SmallFrom (base + at) (base + n) (now pool) ⌝ }
+    ensures { λ r. ⌜ now (pool .exit) ≡ lay (now (pool .entry)) base (take at (take n (drop base (now (pool .entry)))) ++ word ∷ map suc (drop at (take n (drop base (now (pool .entry)))))) ⌝ }
+{
+    wedge(pool, base, at, n, word);
+    raise(pool, base, at + 1, n + 1);
 }
 
-// How many leading keys of a tuple are stored, the place of the last of them in its layer, and the place where the next one goes.
-pub struct Path {
-    pub depth: usize,
-    pub interval: usize,
-    pub at: usize,
-}
-
-// The layer's lists with a key more, in the pool, and the header with their lengths.
+// Puts `key` at place `at` of layer d, under parent i, which has its interval already unless it is `fresh`. The header comes back with the lengths.
 fn add_layer(
     pool: &mut [u64],
     t: ColumnTrie,
@@ -116,7 +108,21 @@ fn begins(pool: &[u64], t: ColumnTrie, d: usize, i: usize) -> usize
     pool[from] as usize
 }
 
-// Where `key` stands in the group of interval i of layer d, or where it goes. How it is searched is no part of the contract.
+// Where a key stands in its group, or where it goes.
+struct Place {
+    at: usize,
+    there: bool,
+}
+
+// How many leading keys of a tuple are stored, the place of the last of them in its layer, and the place where the next one goes.
+struct Path {
+    depth: usize,
+    interval: usize,
+    at: usize,
+}
+
+// Where `key` stands in the group of interval i of layer d, or where it goes. How it is searched is no part of the contract: by halving, since a
+// group can be as long as the table.
 fn find_place(pool: &[u64], t: ColumnTrie, d: usize, i: usize, key: u64) -> Place
     requires { ⌜ (headerSound (length (now pool)) t ≡ true) × (d < t .arity) × Grouped (layerIn (now pool) t d) i ⌝ }
     ensures { λ r. ⌜ PlaceOf (layerIn (now (pool .entry)) t d) i key r ⌝ }
@@ -124,10 +130,10 @@ fn find_place(pool: &[u64], t: ColumnTrie, d: usize, i: usize, key: u64) -> Plac
     let from = begins(pool, t, d, i);
     let to = begins(pool, t, d, i + 1);
     let data_from = layer_at(t, d);
-    let a = data_from + from;
-    let e = data_from + to;
-    let run = &pool[a..e];
-    let offset = partition_point(SeekStrategy::Linear, run, key).offset;
+    let run_from = data_from + from;
+    let run_to = data_from + to;
+    let run = &pool[run_from..run_to];
+    let offset = partition_point(SeekStrategy::Binary, run, key).offset;
     if offset < run.len() {
         return Place {
             at: from + offset,

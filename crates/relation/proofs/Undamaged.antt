@@ -69,14 +69,14 @@ unfolding walk
         (rw (pick-false (eqb s at) true (ltb prev k) n) (lt→ltb prev k l))
         (rw (pick-false (eqb s at) qs (s ∷ qs) n) t)
 
-sound→ : (ints keys : List ℕ) → T (sound ints keys) → Sound ints keys
+pub sound→ : (ints keys : List ℕ) → T (sound ints keys) → Sound ints keys
 unfolding sound
 sound→ [] [] t = bare
 sound→ [] (k ∷ ks) t = absurd t
 sound→ (s ∷ ss) [] t = absurd t
 sound→ (s ∷ ss) (k ∷ ks) t = let w = both (eqb s 0) (walk 1 k ss ks) t in full (eqb→eq s 0 (w .0)) (walk→ 1 k ss ks (w .1))
 
-→sound : {ints keys : List ℕ} → Sound ints keys → T (sound ints keys)
+pub →sound : {ints keys : List ℕ} → Sound ints keys → T (sound ints keys)
 unfolding sound
 →sound bare = tt
 →sound (full {s} {k} {ss} {ks} e w) = both-and (eqb s 0) (walk 1 k ss ks) (subst (λ (z : ℕ). T (eqb s z)) e (eqb-refl s)) (→walk w)
@@ -268,7 +268,7 @@ from-groups ints keys some start f j h n = down (length ints - 1) (omega (arith,
 pub sound-ordered : {ints keys : List ℕ} → Sound ints keys → Ordered ints keys
 sound-ordered s = let m = sound-marked s in record { start = m .start; ascend = m .ascend; inside = m .inside; groups = in-groups m }
 
-ordered-sound : (ints keys : List ℕ) → Ordered ints keys → (length ints ≡ 0 → length keys ≡ 0) → Sound ints keys
+pub ordered-sound : (ints keys : List ℕ) → Ordered ints keys → (length ints ≡ 0 → length keys ≡ 0) → Sound ints keys
 ordered-sound ints keys o n =
     marked-sound ints keys
     (record { start = o .start; ascend = o .ascend; inside = o .inside; groups = from-groups ints keys (λ h. some (decLt 0 (length ints)) h) (o .start) (o .groups) })

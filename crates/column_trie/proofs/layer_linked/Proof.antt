@@ -1,7 +1,6 @@
 -- `column_trie::layer_linked` meets its contract: the header puts the layer's two lists into the pool, and as long as it says.
-use Prim.Native.Nat.{ℕ, _+_, _-_, _<_, _≤_, _^_}
-use mathlib.Core.Path.{_≡_, refl, sym, ap, ap₂, _∙_}
-use mathlib.Core.Bool.{Bool, _&&_}
+use Prim.Native.Nat.{ℕ, _+_, _-_}
+use mathlib.Core.Path.{_≡_, sym, _∙_}
 use mathlib.Core.List.{List}
 use native.Mathlib.Omega.{arith}
 use lib.ListN.{length, take, drop}
@@ -15,10 +14,6 @@ use Rattle.column_trie.proofs.Header.{LayerFits, layer-fits, header-tol
 use borrow.Author.Needs.{needs}
 use Rattle.column_trie.proofs.layer_linked.Statement.{statement}
 use Rattle.column_trie.proofs.layer_linked.Tie as tie
-use Rattle.column_trie.proofs.layer_linked.Reads as reads
-use Rattle.column_trie.proofs.layer_linked.Lts as lts
-use Rattle.column_trie.proofs.layer_at.Reads as layer-at-reads
-use Rattle.column_trie.proofs.layer_sound.Reads as layer-sound-reads
 
 -- where the layer lies, from what the function requires
 told : (s : tie.Start) → LayerFits (length (s .args .pool .now)) (s .args .t2) (s .args .d)

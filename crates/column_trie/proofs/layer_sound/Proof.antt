@@ -1,80 +1,93 @@
--- `column_trie::layer_sound` meets its contract: the loop is the test's walk (Walks.antt), turn by turn.
-use Prim.Native.Nat.{_-_}
-use mathlib.Core.Path.{sym, _∙_}
+-- `column_trie::layer_sound` meets its contract: the loop goes down the intervals (Counting.antt), and what it counted is held against all falls.
+use Prim.Native.Nat.{suc, _-_}
+use mathlib.Core.Path.{_≡_}
+use mathlib.Core.Logic.{⊎-elim}
 use native.Mathlib.Omega.{arith}
-use lib.ListN.{length}
 use borrow.Author.Needs.{needs}
-use borrow.Author.Tests.{not-true, not-false}
-use Rattle.column_trie.specs.Table.{startsGroup}
-use Rattle.column_trie.proofs.Walks.{Walking, bare, unstarted, started, opens, rises, falls, over}
+use Rattle.column_trie.proofs.Counting.{Starting, bare, unstarted, outside, starting, falling-start, starting-before, late-start, all-counted}
+use Rattle.column_trie.proofs.Counts.{fall, rise}
 use Rattle.column_trie.proofs.layer_sound.Statement.{statement}
 use Rattle.column_trie.proofs.layer_sound.Tie as tie
-use Rattle.column_trie.proofs.layer_sound.Reads as reads
-use Rattle.column_trie.proofs.layer_sound.Lts as lts
-use Rattle.column_trie.proofs.starts_group.Reads as starts-group-reads
 
 abbrev Inv-loop : tie.InvT-loop
-Inv-loop interval «data» i₀ j₀ i j = Walking interval «data» i j
+Inv-loop interval «data» i₀ at₀ starts₀ i at starts = Starting interval «data» i at starts
 
 abbrev μ-loop : tie.MeasureT-loop
-μ-loop interval «data» i₀ j₀ i j = length «data» - j
+μ-loop interval «data» i₀ at₀ starts₀ i at starts = i
 
 returns : tie.Need-returns Inv-loop μ-loop
 returns c = bare (c .before .before .before .args .interval .now) (c .before .before .before .args .«data» .now) (c .if1 .taken)
 
-starts-group-requires : tie.Need-starts-group-requires Inv-loop μ-loop
-starts-group-requires c κs = search needs
-
 returns-2 : tie.Need-returns-2 Inv-loop μ-loop
-returns-2 c = unstarted (c .before .before .before .before .before .args .interval .now) (c .before .before .before .before .before .args .«data» .now) (c .before .before .if1 .left) (sym (c .before .starts-group .ensures) ∙ not-true _ (c .if2 .taken))
+returns-2 c = unstarted (c .before .before .before .before .args .interval .now) (c .before .before .before .before .args .«data» .now) (c .before .if1 .left) (c .if2 .taken)
+
+sub-i : tie.Need-sub-i Inv-loop μ-loop
+sub-i c = omega arith
+
+mul-at : tie.Need-mul-at Inv-loop μ-loop
+mul-at c = omega arith
+
+shared-slice-read-at : tie.Need-shared-slice-read-at Inv-loop μ-loop
+shared-slice-read-at c = omega arith
+
+returns-3 : tie.Need-returns-3 Inv-loop μ-loop
+returns-3 c = outside (c .before .before .before .before .before .before .args .interval .now) (c .before .before .before .before .before .before .args .«data» .now) (c .before .before .if2 .left) (c .if3 .taken)
 
 loop-holds : tie.Need-loop-holds Inv-loop μ-loop
-loop-holds c = started (c .before .before .before .before .before .args .interval .now) (c .before .before .before .before .before .args .«data» .now) (c .before .before .if1 .left) (sym (c .before .starts-group .ensures) ∙ not-false _ (c .if2 .left))
+loop-holds c = starting (c .before .before .before .before .before .before .args .interval .now) (c .before .before .before .before .before .before .args .«data» .now) (c .before .before .if2 .left) (c .if3 .left)
 
-starts-group-requires-2 : tie.Need-starts-group-requires-2 Inv-loop μ-loop
-starts-group-requires-2 c κs = search needs
+sub-before : tie.Need-sub-before Inv-loop μ-loop
+sub-before c = omega arith
 
-add-i : tie.Need-add-i Inv-loop μ-loop
-add-i c = omega arith
+mul-before : tie.Need-mul-before Inv-loop μ-loop
+mul-before c = omega arith
 
-add-j : tie.Need-add-j Inv-loop μ-loop
-add-j c = omega arith
+shared-slice-read-before : tie.Need-shared-slice-read-before Inv-loop μ-loop
+shared-slice-read-before c = omega arith
+
+returns-4 : tie.Need-returns-4 Inv-loop μ-loop
+returns-4 c = falling-start (c .before .before .before .loop .inv) (c .before .before .loop-test .taken) (c .if4 .taken)
+
+mul-if5 : tie.Need-mul-if5 Inv-loop μ-loop
+mul-if5 c = omega arith
+
+shared-slice-read-if5 : tie.Need-shared-slice-read-if5 Inv-loop μ-loop
+shared-slice-read-if5 c = omega arith
+
+sub-if5 : tie.Need-sub-if5 Inv-loop μ-loop
+sub-if5 c = omega arith
+
+mul-if5-2 : tie.Need-mul-if5-2 Inv-loop μ-loop
+mul-if5-2 c = omega arith
+
+shared-slice-read-if5-2 : tie.Need-shared-slice-read-if5-2 Inv-loop μ-loop
+shared-slice-read-if5-2 c = omega arith
+
+add-starts : tie.Need-add-starts Inv-loop μ-loop
+add-starts c = omega arith
+
+sub-i-2 : tie.Need-sub-i-2 Inv-loop μ-loop
+sub-i-2 c = omega arith
 
 loop-less : tie.Need-loop-less Inv-loop μ-loop
 loop-less c = omega arith
 
 loop-again : tie.Need-loop-again Inv-loop μ-loop
-loop-again c = opens (c .before .before .before .loop .inv) (c .before .before .loop-test .taken) (sym (c .before .starts-group2 .ensures) ∙ c .if3 .taken)
+loop-again c =
+    let s = c .before .before .before .before .before .before in
+    let keys = s .before .before .before .before .before .before .before .args .«data» .now in
+    let next : s .loop .at ≡ suc (s .loop .at - 1) = omega (arith, c .before .before .before .if4 .left) in
+    starting-before (s .loop .inv) (c .before .before .before .before .before .loop-test .taken) (c .if5 .starts) (c .before .before .before .if4 .left)
+    (⊎-elim (λ w. omega (arith, fall keys next (w .0 .taken), w .1)) (λ w. omega (arith, rise keys next (w .0 .left), w .1)) (c .if5 .came))
 
-mul-if4 : tie.Need-mul-if4 Inv-loop μ-loop
-mul-if4 c = omega arith
+returns-5 : tie.Need-returns-5 Inv-loop μ-loop
+returns-5 c = late-start (c .before .before .loop .inv) (c .before .loop-test .left) (c .if6 .taken)
 
-shared-slice-read-if4 : tie.Need-shared-slice-read-if4 Inv-loop μ-loop
-shared-slice-read-if4 c = omega arith
+falls-requires : tie.Need-falls-requires Inv-loop μ-loop
+falls-requires c κs = search needs
 
-sub-if4 : tie.Need-sub-if4 Inv-loop μ-loop
-sub-if4 c = omega arith
-
-mul-if4-2 : tie.Need-mul-if4-2 Inv-loop μ-loop
-mul-if4-2 c = omega arith
-
-shared-slice-read-if4-2 : tie.Need-shared-slice-read-if4-2 Inv-loop μ-loop
-shared-slice-read-if4-2 c = omega arith
-
-returns-3 : tie.Need-returns-3 Inv-loop μ-loop
-returns-3 c = falls (c .before .before .before .before .before .before .loop .inv) (c .before .before .before .before .before .loop-test .taken) (sym (c .before .before .before .before .starts-group2 .ensures) ∙ c .before .before .before .if3 .left) (c .if4 .taken)
-
-add-j-2 : tie.Need-add-j-2 Inv-loop μ-loop
-add-j-2 c = omega arith
-
-loop-less-2 : tie.Need-loop-less-2 Inv-loop μ-loop
-loop-less-2 c = omega arith
-
-loop-again-2 : tie.Need-loop-again-2 Inv-loop μ-loop
-loop-again-2 c = rises (c .before .before .before .before .before .before .loop .inv) (c .before .before .before .before .before .loop-test .taken) (sym (c .before .before .before .before .starts-group2 .ensures) ∙ c .before .before .before .if3 .left) (c .if4 .left)
-
-returns-4 : tie.Need-returns-4 Inv-loop μ-loop
-returns-4 c = over (c .before .loop .inv) (c .loop-test .left)
+returns-6 : tie.Need-returns-6 Inv-loop μ-loop
+returns-6 c = all-counted (c .before .before .before .loop .inv) (c .before .before .loop-test .left) (c .before .if6 .left) (c .falls .result) (c .falls .ensures)
 
 pub layer-sound-spec : {M : Type 1} → statement M
 layer-sound-spec =
@@ -83,21 +96,25 @@ layer-sound-spec =
     Inv-loop
     μ-loop
     returns
-    starts-group-requires
     returns-2
+    sub-i
+    mul-at
+    shared-slice-read-at
+    returns-3
     loop-holds
-    starts-group-requires-2
-    add-i
-    add-j
+    sub-before
+    mul-before
+    shared-slice-read-before
+    returns-4
+    mul-if5
+    shared-slice-read-if5
+    sub-if5
+    mul-if5-2
+    shared-slice-read-if5-2
+    add-starts
+    sub-i-2
     loop-less
     loop-again
-    mul-if4
-    shared-slice-read-if4
-    sub-if4
-    mul-if4-2
-    shared-slice-read-if4-2
-    returns-3
-    add-j-2
-    loop-less-2
-    loop-again-2
-    returns-4)
+    returns-5
+    falls-requires
+    returns-6)

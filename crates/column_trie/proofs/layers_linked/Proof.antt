@@ -9,9 +9,6 @@ use Rattle.column_trie.proofs.Header.{InPool, header-told}
 use Rattle.column_trie.proofs.Layers.{Whole, Linking, linking-start, linking-next, linking-not, linking-done}
 use Rattle.column_trie.proofs.layers_linked.Statement.{statement}
 use Rattle.column_trie.proofs.layers_linked.Tie as tie
-use Rattle.column_trie.proofs.layers_linked.Reads as reads
-use Rattle.column_trie.proofs.layers_linked.Lts as lts
-use Rattle.column_trie.proofs.layer_linked.Reads as layer-linked-reads
 
 abbrev Inv-loop : tie.InvT-loop
 Inv-loop pool t above₀ d₀ above d = Linking pool t above d

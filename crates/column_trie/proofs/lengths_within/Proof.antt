@@ -12,8 +12,6 @@ use Rattle.column_trie.specs.Table.{withinAt, intervalLen}
 use Rattle.column_trie.proofs.Header.{within-told, within-not}
 use Rattle.column_trie.proofs.lengths_within.Statement.{statement}
 use Rattle.column_trie.proofs.lengths_within.Tie as tie
-use Rattle.column_trie.proofs.lengths_within.Reads as reads
-use Rattle.column_trie.proofs.lengths_within.Lts as lts
 
 abbrev Inv-loop : tie.InvT-loop
 Inv-loop t d₀ d = (d ≤ maxArity) × (every d (withinAt t) ≡ true)

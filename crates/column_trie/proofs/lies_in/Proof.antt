@@ -1,7 +1,6 @@
 -- `column_trie::lies_in` meets its contract: asked without the sum, the answer is that of the sum.
 use Prim.Native.Nat.{_+_, _*_, _-_}
 use native.Mathlib.Omega.{arith}
-use borrow.Author.Tests.{le-leb, lt-leb}
 use Rattle.column_trie.proofs.Header.{leb-same, arity-told, capacity-told, size-small}
 use Rattle.column_trie.proofs.lies_in.Statement.{statement}
 use Rattle.column_trie.proofs.lies_in.Tie as tie

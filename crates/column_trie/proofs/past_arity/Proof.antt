@@ -13,8 +13,6 @@ use Rattle.column_trie.specs.Table.{pastAt, intervalLen}
 use Rattle.column_trie.proofs.Header.{past-told, past-not}
 use Rattle.column_trie.proofs.past_arity.Statement.{statement}
 use Rattle.column_trie.proofs.past_arity.Tie as tie
-use Rattle.column_trie.proofs.past_arity.Reads as reads
-use Rattle.column_trie.proofs.past_arity.Lts as lts
 
 abbrev Inv-loop : tie.InvT-loop
 Inv-loop t d₀ d = (t .arity ≤ d) × (every d (pastAt t) ≡ true)

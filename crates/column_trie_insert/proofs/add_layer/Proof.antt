@@ -1,14 +1,9 @@
 -- `column_trie_insert::add_layer` meets its contract: a shift of the keys, then one of the intervals (Grows.antt).
-use Prim.Native.Nat.{ℕ, _+_, _<_, _^_}
-use mathlib.Core.Path.{_≡_, sym, ap, subst, _∙_}
-use mathlib.Core.List.{List}
 use native.Mathlib.Omega.{arith}
 use lib.ListN.{length}
 use borrow.Author.Needs.{needs}
-use Rattle.column_trie.specs.Table.{dataLen, intervalLen}
 use Rattle.column_trie.proofs.Header.{LayerFits, layer-fits, header-told}
-use Rattle.column_trie_insert.proofs.Grows.{first-long, small-left, added-new, added-old}
-use borrow.Author.Needs.{needs}
+use Rattle.column_trie_insert.proofs.Grows.{Keyed, keyed-long, small-left, added-new, added-old}
 use Rattle.column_trie_insert.proofs.add_layer.Statement.{statement}
 use Rattle.column_trie_insert.proofs.add_layer.Tie as tie
 
@@ -46,13 +41,18 @@ element-write-out c = omega (arith, told (c .before .before .before .before))
 wedge-requires : tie.Need-wedge-requires
 wedge-requires c κs = (c .before .before .before .before .before .pre .place, omega (arith, told (c .before .before .before .before .before), c .before .before .before .before .before .pre .key-room, c .before .before .before .layer-at .ensures))
 
+-- the layer once its key is in
+keyed : (c : tie.After-wedge) → Keyed (c .before .before .before .before .before .before .args .pool .now) (c .before .before .before .before .before .before .args .t2) (c .before .before .before .before .before .before .args .d) (c .before .before .before .before .before .before .args .at) (c .before .before .before .before .before .before .args .key) (c .before .before .before .before .layer-at .result) (c .wedge .last .0)
+keyed c =
+    let s = c .before .before .before .before .before .before in
+    record { layer = told s; room = s .pre .key-room; data-from-is = c .before .before .before .before .layer-at .ensures; words = c .wedge .ensures }
+
 wedge-raised-requires : tie.Need-wedge-raised-requires
 wedge-raised-requires c κs =
-    let s = c .before .before .before .before .before .before .before .before .before .before in
-    let a = s .args in
-    let l = first-long (a .pool .now) (a .t2) (a .d) (a .i) (a .at) (a .key) (told s) (s .pre .key-room) (c .before .before .before .before .before .before .before .before .layer-at .result) (c .before .before .before .before .before .before .before .before .layer-at .ensures) (c .before .before .before .before .wedge .last .0) (c .before .before .before .before .wedge .ensures) in
+    let w = c .before .before .before .before in
+    let s = w .before .before .before .before .before .before in
     let n = s .pre .new (c .before .if1 .taken) in
-    (n .0, omega (arith, told s, l, n .1, c .before .before .before .before .before .before .before .before .layer-at .ensures), λ j h k. small-left (a .pool .now) (a .t2) (a .d) (a .i) (a .at) (a .key) (told s) (s .pre .key-room) (c .before .before .before .before .before .before .before .before .layer-at .result) (c .before .before .before .before .before .before .before .before .layer-at .ensures) (c .before .before .before .before .wedge .last .0) (c .before .before .before .before .wedge .ensures) (s .pre .small) j (omega arith) k)
+    (n .0, omega (arith, keyed w, keyed-long (keyed w), n .1), λ j h k. small-left (keyed w) (s .pre .small) j (omega arith) k)
 
 add-out-2 : tie.Need-add-out-2
 add-out-2 c = omega (arith, told (c .before .before .before .before .before .before .before .before .before .before .before .before .before))
@@ -68,29 +68,29 @@ add-raise c = omega (arith, told (c .before .before .before .before .before .bef
 
 raise-requires : tie.Need-raise-requires
 raise-requires c κs =
-    let s = c .before .before .before .before .before .before .before .before .before .before in
-    let a = s .args in
-    let l = first-long (a .pool .now) (a .t2) (a .d) (a .i) (a .at) (a .key) (told s) (s .pre .key-room) (c .before .before .before .before .before .before .before .before .layer-at .result) (c .before .before .before .before .before .before .before .before .layer-at .ensures) (c .before .before .before .before .wedge .last .0) (c .before .before .before .before .wedge .ensures) in
+    let w = c .before .before .before .before in
+    let s = w .before .before .before .before .before .before in
     let n = s .pre .old (c .before .if1 .left) in
-    (omega arith, omega (arith, told s, l, c .before .before .before .before .before .before .before .before .layer-at .ensures), λ j h k. small-left (a .pool .now) (a .t2) (a .d) (a .i) (a .at) (a .key) (told s) (s .pre .key-room) (c .before .before .before .before .before .before .before .before .layer-at .result) (c .before .before .before .before .before .before .before .before .layer-at .ensures) (c .before .before .before .before .wedge .last .0) (c .before .before .before .before .wedge .ensures) (s .pre .small) j (omega arith) k)
+    (omega arith, omega (arith, keyed w, keyed-long (keyed w)), λ j h k. small-left (keyed w) (s .pre .small) j (omega arith) k)
 
 same-length : tie.Need-same-length
 same-length c = search needs
 
 returns : tie.Need-returns
-returns c = let s = c .before .before .before .before .before .before .before .before .before .before .before .before .before in
-    let f = told s in
-    let a = s .args in
-    added-new (a .pool .now) (a .t2) (a .d) (a .i) (a .at) (a .key) f (s .pre .key-room) (c .before .before .before .before .before .before .before .before .before .before .before .layer-at .result) (c .before .before .before .before .before .before .before .before .before .before .before .layer-at .ensures) (c .before .before .before .before .before .before .before .wedge .last .0) (c .before .before .before .before .before .before .before .wedge .ensures) (a .fresh) (c .before .before .wedge-raised .last .0) (c .before .before .before .before .if1 .taken) (s .pre .new (c .before .before .before .before .if1 .taken) .0) (c .before .before .wedge-raised .ensures)
+returns c =
+    let w = c .before .before .before .before .before .before .before in
+    let s = w .before .before .before .before .before .before in
+    let f = c .before .before .before .before .if1 .taken in
+    added-new (keyed w) (s .args .i) (s .args .fresh) (c .before .before .wedge-raised .last .0) f (s .pre .new f .0) (c .before .before .wedge-raised .ensures)
 
 same-length-2 : tie.Need-same-length-2
 same-length-2 c = search needs
 
 returns-2 : tie.Need-returns-2
-returns-2 c = let s = c .before .before .before .before .before .before .before .before .before .before .before .before .before in
-    let f = told s in
-    let a = s .args in
-    added-old (a .pool .now) (a .t2) (a .d) (a .i) (a .at) (a .key) f (s .pre .key-room) (c .before .before .before .before .before .before .before .before .before .before .before .layer-at .result) (c .before .before .before .before .before .before .before .before .before .before .before .layer-at .ensures) (c .before .before .before .before .before .before .before .wedge .last .0) (c .before .before .before .before .before .before .before .wedge .ensures) (a .fresh) (c .before .before .raise .last .0) (c .before .before .before .before .if1 .left) (c .before .before .raise .ensures)
+returns-2 c =
+    let w = c .before .before .before .before .before .before .before in
+    let s = w .before .before .before .before .before .before in
+    added-old (keyed w) (s .args .i) (s .args .fresh) (c .before .before .raise .last .0) (c .before .before .before .before .if1 .left) (c .before .before .raise .ensures)
 
 pub add-layer-spec : {M : Type 1} → statement M
 add-layer-spec =

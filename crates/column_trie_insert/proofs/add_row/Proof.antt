@@ -1,15 +1,15 @@
 -- `column_trie_insert::add_row` meets its contract: each turn gives one layer its key (Rows.antt).
-use Prim.Native.Nat.{ℕ, suc, _-_, _<_}
+use Prim.Native.Nat.{suc, _-_, _<_}
 use mathlib.Core.Path.{_≡_, refl, sym, subst, _∙_}
 use mathlib.Core.Logic.{_⊎_, inl, inr, ⊎-elim}
 use native.Mathlib.Omega.{arith}
-use lib.ListN.{length, getD}
 use borrow.Author.Needs.{needs}
 use Rattle.relation.proofs.Insert.{number}
-use Rattle.column_trie.specs.Table.{rowsIn, dataLen, layerIn}
+use Rattle.column_trie.specs.Table.{rowsIn}
 use Rattle.column_trie.specs.declared.ColumnTrie.{ColumnTrie}
 use Rattle.column_trie.proofs.Layers.{Whole}
-use Rattle.column_trie_insert.proofs.Rows.{Ready, Growing, ready, growing-first, placed, room-here, out-sound, pool-long, growing-step, grown-words, grown-header}
+use Rattle.column_trie_insert.proofs.Enters.{ready, growing-first}
+use Rattle.column_trie_insert.proofs.Rows.{Ready, Growing, placed, room-here, out-sound, pool-long, growing-step, grown-words, grown-header}
 use Rattle.column_trie_insert.proofs.add_row.Statement.{statement}
 use Rattle.column_trie_insert.proofs.add_row.Tie as tie
 

@@ -1,14 +1,12 @@
 -- `column_trie_insert::begins` meets its contract: the interval's word in the pool, or the length behind the last.
-use Prim.Native.Nat.{ℕ, _+_, _<_, _^_}
+use Prim.Native.Nat.{ℕ, _+_}
 use mathlib.Core.Path.{_≡_, sym, ap, _∙_}
 use native.Mathlib.Omega.{arith}
-use lib.ListN.{length, take, drop, getD, List·getD-eq-default}
-use borrow.Author.Needs.{needs}
+use lib.ListN.{length, getD, List·getD-eq-default}
 use Rattle.column_trie.specs.Pool.{spot}
 use Rattle.column_trie.specs.Table.{dataLen, intervalLen, layerIn}
 use Rattle.column_trie.proofs.Header.{LayerFits, layer-fits, header-told, length-part}
-use Rattle.column_trie.proofs.Words.{part-at}
-use Rattle.column_trie_insert.proofs.Grows.{getD-any}
+use Rattle.column_trie.proofs.Words.{part-at, getD-any}
 use Rattle.column_trie_insert.proofs.begins.Statement.{statement}
 use Rattle.column_trie_insert.proofs.begins.Tie as tie
 

@@ -1,9 +1,8 @@
 -- `column_trie_insert::find_path` meets its contract: each turn goes down one stored key (Walks.antt).
 use Prim.Native.Nat.{_-_, _<_}
 use mathlib.Core.Path.{_≡_, refl, sym, subst}
-use mathlib.Core.Bool.{true}
 use native.Mathlib.Omega.{arith}
-use lib.ListN.{length, getD}
+use lib.ListN.{getD}
 use borrow.Author.Needs.{needs}
 use borrow.Author.Tests.{not-true, not-false}
 use Rattle.relation.specs.Layers.{Layer}

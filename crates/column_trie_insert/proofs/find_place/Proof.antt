@@ -1,18 +1,14 @@
 -- `column_trie_insert::find_place` meets its contract: the seek's offset leads in the group's words (Places.antt).
-use Prim.Native.Nat.{ℕ, _+_, _<_, _≤_, _^_}
-use mathlib.Core.Path.{_≡_, sym, ap, subst, _∙_}
+use mathlib.Core.Path.{sym, subst}
 use native.Mathlib.Omega.{arith}
-use lib.ListN.{length, getD}
+use lib.ListN.{length}
 use borrow.Author.Needs.{needs}
 use Rattle.seek.specs.Offset.{Leading}
 use Rattle.seek.specs.declared.Sought.{Sought}
-use Rattle.seek.specs.declared.SeekStrategy.the-variants.{Linear}
+use Rattle.seek.specs.declared.SeekStrategy.the-variants.{Binary}
 use Rattle.seek.proofs.Laws.{leading}
-use Rattle.column_trie.specs.Pool.{spot}
-use Rattle.column_trie.specs.Table.{dataLen, layerIn}
 use Rattle.column_trie.proofs.Header.{LayerFits, layer-fits, header-told}
-use Rattle.column_trie_insert.proofs.Places.{index-small, GroupFits, group-fits, from-is, to-is, run, run-long, run-rises, place-found, place-end}
-use borrow.Author.Needs.{needs}
+use Rattle.column_trie_insert.proofs.Places.{Group, index-small, group-fits, run, run-long, run-rises, place-found, place-end}
 use Rattle.column_trie_insert.proofs.find_place.Statement.{statement}
 use Rattle.column_trie_insert.proofs.find_place.Tie as tie
 
@@ -21,16 +17,29 @@ told : (s : tie.Start) → LayerFits (length (s .args .pool .now)) (s .args .t) 
 told s = layer-fits (header-told (length (s .args .pool .now)) (s .args .t) (s .pre .0)) (s .pre .1)
 
 -- where the group lies, once its ends are read
-fits : (s : tie.Start) (da from to : ℕ) → da ≡ spot (s .args .t .start) (s .args .t .capacity) (s .args .d) → from ≡ getD (layerIn (s .args .pool .now) (s .args .t) (s .args .d) .intervals) (s .args .i) (dataLen (s .args .t) (s .args .d)) → to ≡ getD (layerIn (s .args .pool .now) (s .args .t) (s .args .d) .intervals) (s .args .i + 1) (dataLen (s .args .t) (s .args .d)) → GroupFits (s .args .pool .now) (s .args .t) (s .args .d) (s .args .i) (told s) (s .pre .2) da from to
-fits s da from to e f g =
-    let a = s .args in
-    group-fits (a .pool .now) (a .t) (a .d) (a .i) (told s) (s .pre .2) da from to e (f ∙ from-is (a .pool .now) (a .t) (a .d) (a .i) (told s) (s .pre .2)) (g ∙ to-is (a .pool .now) (a .t) (a .d) (a .i) (told s) (s .pre .2))
+group : (c : tie.After-layer-at) → Group (c .before .before .before .before .args .pool .now) (c .before .before .before .before .args .t) (c .before .before .before .before .args .d) (c .before .before .before .before .args .i) (c .layer-at .result) (c .before .before .begins .result) (c .before .begins2 .result)
+group c =
+    let s = c .before .before .before .before in
+    record {
+      layer = told s;
+      grouped = s .pre .2;
+      data-from-is = c .layer-at .ensures;
+      from-is = c .before .before .begins .ensures;
+      to-is = c .before .begins2 .ensures;
+    }
+
+-- what the seek found
+found : (c : tie.After-partition-point) → Leading (run (c .before .before .before .before .before .before .args .pool .now) (c .before .before .layer-at .result) (c .before .before .before .before .begins .result) (c .before .before .before .begins2 .result)) (c .before .before .before .before .before .before .args .key) (c .partition-point .result .offset)
+found c =
+    let key = c .before .before .before .before .before .before .args .key in
+    let words = run (c .before .before .before .before .before .before .args .pool .now) (c .before .before .layer-at .result) (c .before .before .before .before .begins .result) (c .before .before .before .begins2 .result) in
+    subst (λ (z : Sought). Leading words key (z .offset)) (sym (c .partition-point .ensures)) (leading Binary words key (run-rises (group (c .before .before))))
 
 begins-requires : tie.Need-begins-requires
 begins-requires c κs = search needs
 
 add-begins : tie.Need-add-begins
-add-begins c = omega (arith, index-small (c .before .before .args .pool .now) (c .before .before .args .t) (c .before .before .args .d) (c .before .before .args .i) (told (c .before .before)) (c .before .before .pre .2), told (c .before .before))
+add-begins c = let s = c .before .before in omega (arith, index-small (s .args .pool .now) (told s) (s .pre .2), told s)
 
 begins-requires-2 : tie.Need-begins-requires-2
 begins-requires-2 c κs = search needs
@@ -38,23 +47,23 @@ begins-requires-2 c κs = search needs
 layer-at-requires : tie.Need-layer-at-requires
 layer-at-requires c κs = let f = told (c .before .before .before) in (omega (arith, f, c .before .before .before .good), f .small, f .depth)
 
-add-a : tie.Need-add-a
-add-a c = omega (arith, fits (c .before .before .before .before) (c .layer-at .result) (c .before .before .begins .result) (c .before .begins2 .result) (c .layer-at .ensures) (c .before .before .begins .ensures) (c .before .begins2 .ensures), told (c .before .before .before .before))
+add-run-from : tie.Need-add-run-from
+add-run-from c = omega (arith, group-fits (group c))
 
-add-e : tie.Need-add-e
-add-e c = omega (arith, fits (c .before .before .before .before) (c .layer-at .result) (c .before .before .begins .result) (c .before .begins2 .result) (c .layer-at .ensures) (c .before .before .begins .ensures) (c .before .begins2 .ensures), told (c .before .before .before .before))
+add-run-to : tie.Need-add-run-to
+add-run-to c = omega (arith, group-fits (group c))
 
 mul-run : tie.Need-mul-run
-mul-run c = omega (arith, fits (c .before .before .before .before) (c .layer-at .result) (c .before .before .begins .result) (c .before .begins2 .result) (c .layer-at .ensures) (c .before .before .begins .ensures) (c .before .begins2 .ensures), told (c .before .before .before .before))
+mul-run c = omega (arith, group-fits (group c))
 
 sub-run : tie.Need-sub-run
-sub-run c = omega (arith, fits (c .before .before .before .before) (c .layer-at .result) (c .before .before .begins .result) (c .before .begins2 .result) (c .layer-at .ensures) (c .before .before .begins .ensures) (c .before .begins2 .ensures), told (c .before .before .before .before))
+sub-run c = omega (arith, group-fits (group c))
 
 part-run-start : tie.Need-part-run-start
-part-run-start c = omega (arith, fits (c .before .before .before .before) (c .layer-at .result) (c .before .before .begins .result) (c .before .begins2 .result) (c .layer-at .ensures) (c .before .before .begins .ensures) (c .before .begins2 .ensures), told (c .before .before .before .before))
+part-run-start c = omega (arith, group-fits (group c))
 
 part-run-end : tie.Need-part-run-end
-part-run-end c = omega (arith, fits (c .before .before .before .before) (c .layer-at .result) (c .before .before .begins .result) (c .before .begins2 .result) (c .layer-at .ensures) (c .before .before .begins .ensures) (c .before .begins2 .ensures), told (c .before .before .before .before))
+part-run-end c = omega (arith, group-fits (group c))
 
 partition-point-requires : tie.Need-partition-point-requires
 partition-point-requires c κs = search needs
@@ -63,47 +72,16 @@ add-t20 : tie.Need-add-t20
 add-t20 c = search needs
 
 mul-t21 : tie.Need-mul-t21
-mul-t21 c =
-    let s = c .before .before .before .before .before .before .before in
-    let a = s .args in
-    let e = c .before .before .before .layer-at .ensures in
-    let f = c .before .before .before .before .before .begins .ensures ∙ from-is (a .pool .now) (a .t) (a .d) (a .i) (told s) (s .pre .2) in
-    let g = c .before .before .before .before .begins2 .ensures ∙ to-is (a .pool .now) (a .t) (a .d) (a .i) (told s) (s .pre .2) in
-    let l = run-long (a .pool .now) (a .t) (a .d) (a .i) (told s) (s .pre .2) (c .before .before .before .layer-at .result) (c .before .before .before .before .before .begins .result) (c .before .before .before .before .begins2 .result) (a .key) 0 e f g in
-    omega (arith, l, c .if1 .taken, told s, fits s (c .before .before .before .layer-at .result) (c .before .before .before .before .before .begins .result) (c .before .before .before .before .begins2 .result) e (c .before .before .before .before .before .begins .ensures) (c .before .before .before .before .begins2 .ensures))
+mul-t21 c = let g = group (c .before .before .before) in omega (arith, run-long g, c .if1 .taken, group-fits g)
 
 shared-slice-read-t23 : tie.Need-shared-slice-read-t23
 shared-slice-read-t23 c = search needs
 
 returns : tie.Need-returns
-returns c =
-    let s = c .before .before .before .before .before .before .before .before in
-    let a = s .args in
-    let da = c .before .before .before .before .layer-at .result in
-    let from = c .before .before .before .before .before .before .begins .result in
-    let to = c .before .before .before .before .before .begins2 .result in
-    let o = c .before .before .partition-point .result .offset in
-    let e = c .before .before .before .before .layer-at .ensures in
-    let f = c .before .before .before .before .before .before .begins .ensures ∙ from-is (a .pool .now) (a .t) (a .d) (a .i) (told s) (s .pre .2) in
-    let g = c .before .before .before .before .before .begins2 .ensures ∙ to-is (a .pool .now) (a .t) (a .d) (a .i) (told s) (s .pre .2) in
-    let h : Leading (run (a .pool .now) (a .t) (a .d) (a .i) (told s) (s .pre .2) da from to (a .key) o e f g) (a .key) o =
-    subst (λ (z : Sought). Leading (run (a .pool .now) (a .t) (a .d) (a .i) (told s) (s .pre .2) da from to (a .key) o e f g) (a .key) (z .offset)) (sym (c .before .before .partition-point .ensures)) (leading Linear (run (a .pool .now) (a .t) (a .d) (a .i) (told s) (s .pre .2) da from to (a .key) o e f g) (a .key) (run-rises (a .pool .now) (a .t) (a .d) (a .i) (told s) (s .pre .2) da from to (a .key) o e f g)) in
-    place-found (a .pool .now) (a .t) (a .d) (a .i) (told s) (s .pre .2) da from to (a .key) o e f g h (c .before .if1 .taken)
+returns c = place-found (group (c .before .before .before .before)) (found (c .before .before)) (c .before .if1 .taken)
 
 returns-2 : tie.Need-returns-2
-returns-2 c =
-    let s = c .before .before .before .before .before .before .before in
-    let a = s .args in
-    let da = c .before .before .before .layer-at .result in
-    let from = c .before .before .before .before .before .begins .result in
-    let to = c .before .before .before .before .begins2 .result in
-    let o = c .before .partition-point .result .offset in
-    let e = c .before .before .before .layer-at .ensures in
-    let f = c .before .before .before .before .before .begins .ensures ∙ from-is (a .pool .now) (a .t) (a .d) (a .i) (told s) (s .pre .2) in
-    let g = c .before .before .before .before .begins2 .ensures ∙ to-is (a .pool .now) (a .t) (a .d) (a .i) (told s) (s .pre .2) in
-    let h : Leading (run (a .pool .now) (a .t) (a .d) (a .i) (told s) (s .pre .2) da from to (a .key) o e f g) (a .key) o =
-    subst (λ (z : Sought). Leading (run (a .pool .now) (a .t) (a .d) (a .i) (told s) (s .pre .2) da from to (a .key) o e f g) (a .key) (z .offset)) (sym (c .before .partition-point .ensures)) (leading Linear (run (a .pool .now) (a .t) (a .d) (a .i) (told s) (s .pre .2) da from to (a .key) o e f g) (a .key) (run-rises (a .pool .now) (a .t) (a .d) (a .i) (told s) (s .pre .2) da from to (a .key) o e f g)) in
-    place-end (a .pool .now) (a .t) (a .d) (a .i) (told s) (s .pre .2) da from to (a .key) o e f g h (c .if1 .left)
+returns-2 c = place-end (group (c .before .before .before)) (found (c .before)) (c .if1 .left)
 
 pub find-place-spec : {M : Type 1} → statement M
 find-place-spec =
@@ -113,8 +91,8 @@ find-place-spec =
     add-begins
     begins-requires-2
     layer-at-requires
-    add-a
-    add-e
+    add-run-from
+    add-run-to
     mul-run
     sub-run
     part-run-start

@@ -5,25 +5,39 @@ use mathlib.Core.Logic.{⊎-elim}
 use native.Mathlib.Omega.{arith}
 use borrow.Author.Needs.{needs}
 use lib.Arith.{lt-of-le-ne}
-use lib.ListN.{length}
 use Rattle.relation.proofs.Tests.{passed, failed}
-use Rattle.column_trie.specs.Table.{rowsIn}
+use Rattle.column_trie.specs.Table.{rowsIn, undamaged}
 use Rattle.column_trie.proofs.Layers.{Whole}
 use Rattle.column_trie_insert.specs.declared.Path.{Path}
 use Rattle.column_trie_insert.specs.Grow.{PathOf}
-use Rattle.column_trie_insert.proofs.Inserts.{Located, damaged, another-length, there-already, full, taken-in, whole-path, part-path, addable}
-use borrow.Author.Needs.{needs}
+use Rattle.column_trie_insert.proofs.Inserts.{Located, damaged, another-length, there-already, full, taken-in, addable}
 use Rattle.column_trie_insert.proofs.insert.Statement.{statement}
 use Rattle.column_trie_insert.proofs.insert.Tie as tie
 
-whole : (s : tie.Start) → Whole (s .args .table)
-whole s = record { data-long = search needs; interval-long = search needs }
+-- the table is undamaged
+sound : (c : tie.Else1) → undamaged (c .before .before .before .before .before .args .pool .now) (c .before .before .before .before .before .args .table) ≡ true
+sound c = passed (c .before .undamaged .ensures) (c .if1 .left)
 
 -- the path, once the arms meet
 located : (c : tie.Joined3) → Located (c .before .before .before .before .before .before .before .before .before .args .pool .now) (c .before .before .before .before .before .before .before .before .before .args .table) (c .before .before .before .before .before .before .before .before .before .args .tuple .now) (c .if3 .path)
-located c = ⊎-elim
-    (λ w. record { empty = λ e. absurd (w .0 .taken e); path = λ n. subst (λ (z : Path). PathOf (c .before .before .before .before .before .before .before .before .before .args .table .arity) (rowsIn (c .before .before .before .before .before .before .before .before .before .args .pool .now) (c .before .before .before .before .before .before .before .before .before .args .table)) (c .before .before .before .before .before .before .before .before .before .args .tuple .now) z) (sym (w .3)) (w .2 .ensures) })
-    (λ w. record { empty = λ e. (ap (λ (z : Path). z .depth) (w .1), ap (λ (z : Path). z .interval) (w .1)); path = λ n. absurd (n (w .0 .left)) })
+located c =
+    let a = c .before .before .before .before .before .before .before .before .before .args in
+    let o : Whole (a .table) = record { data-long = search needs; interval-long = search needs } in
+    ⊎-elim
+    (λ w. record {
+      sound = sound (c .before .before .before .before);
+      long = c .before .before .if2 .left;
+      whole = o;
+      empty = λ e. absurd (w .0 .taken e);
+      path = λ n. subst (λ (z : Path). PathOf (a .table .arity) (rowsIn (a .pool .now) (a .table)) (a .tuple .now) z) (sym (w .3)) (w .2 .ensures);
+    })
+    (λ w. record {
+      sound = sound (c .before .before .before .before);
+      long = c .before .before .if2 .left;
+      whole = o;
+      empty = λ e. (ap (λ (z : Path). z .depth) (w .1), ap (λ (z : Path). z .interval) (w .1));
+      path = λ n. absurd (n (w .0 .left));
+    })
     (c .if3 .came)
 
 undamaged-requires : tie.Need-undamaged-requires
@@ -37,8 +51,7 @@ same-length c = search needs
 
 returns : tie.Need-returns
 returns c =
-    let s = c .before .before .before .before .before .before in
-    let a = s .args in
+    let a = c .before .before .before .before .before .before .args in
     damaged (a .pool .now) (a .table) (a .tuple .now) (failed (c .before .before .undamaged .ensures) (c .before .if1 .taken)) (c .unchanged .result) (c .unchanged .ensures)
 
 unchanged-requires-2 : tie.Need-unchanged-requires-2
@@ -49,12 +62,11 @@ same-length-2 c = search needs
 
 returns-2 : tie.Need-returns-2
 returns-2 c =
-    let s = c .before .before .before .before .before .before .before .before in
-    let a = s .args in
-    another-length (a .pool .now) (a .table) (a .tuple .now) (passed (c .before .before .before .before .undamaged .ensures) (c .before .before .before .if1 .left)) (c .before .if2 .taken) (c .unchanged2 .result) (c .unchanged2 .ensures)
+    let a = c .before .before .before .before .before .before .before .before .args in
+    another-length (a .pool .now) (a .table) (a .tuple .now) (sound (c .before .before .before)) (c .before .if2 .taken) (c .unchanged2 .result) (c .unchanged2 .ensures)
 
 find-path-requires : tie.Need-find-path-requires
-find-path-requires c κs = (passed (c .before .before .before .before .before .before .undamaged .ensures) (c .before .before .before .before .before .if1 .left), c .before .before .before .if2 .left, lt-of-le-ne (omega arith) (λ z. c .before .if3 .taken (sym z)))
+find-path-requires c κs = (sound (c .before .before .before .before .before), c .before .before .before .if2 .left, lt-of-le-ne (omega arith) (λ z. c .before .if3 .taken (sym z)))
 
 unchanged-requires-3 : tie.Need-unchanged-requires-3
 unchanged-requires-3 c κs = search needs
@@ -63,10 +75,7 @@ same-length-3 : tie.Need-same-length-3
 same-length-3 c = search needs
 
 returns-3 : tie.Need-returns-3
-returns-3 c =
-    let s = c .before .before .before .before .before .before .before .before .before .before .before .before .before in
-    let a = s .args in
-    there-already (a .pool .now) (a .table) (a .tuple .now) (passed (c .before .before .before .before .before .before .before .before .before .undamaged .ensures) (c .before .before .before .before .before .before .before .before .if1 .left)) (c .before .before .before .before .before .before .if2 .left) (whole-path (a .pool .now) (a .table) (a .tuple .now) (passed (c .before .before .before .before .before .before .before .before .before .undamaged .ensures) (c .before .before .before .before .before .before .before .before .if1 .left)) (c .before .before .before .before .before .before .if2 .left) (whole s) (c .before .before .before .before .if3 .path) (located (c .before .before .before .before)) (c .before .if4 .taken)) (c .unchanged3 .result) (c .unchanged3 .ensures)
+returns-3 c = there-already (located (c .before .before .before .before)) (c .before .if4 .taken) (c .unchanged3 .result) (c .unchanged3 .ensures)
 
 unchanged-requires-4 : tie.Need-unchanged-requires-4
 unchanged-requires-4 c κs = search needs
@@ -75,25 +84,17 @@ same-length-4 : tie.Need-same-length-4
 same-length-4 c = search needs
 
 returns-4 : tie.Need-returns-4
-returns-4 c =
-    let s = c .before .before .before .before .before .before .before .before .before .before .before .before .before .before .before in
-    let a = s .args in
-    full (a .pool .now) (a .table) (a .tuple .now) (passed (c .before .before .before .before .before .before .before .before .before .before .before .undamaged .ensures) (c .before .before .before .before .before .before .before .before .before .before .if1 .left)) (c .before .before .before .before .before .before .before .before .if2 .left) (part-path (a .pool .now) (a .table) (a .tuple .now) (passed (c .before .before .before .before .before .before .before .before .before .before .before .undamaged .ensures) (c .before .before .before .before .before .before .before .before .before .before .if1 .left)) (c .before .before .before .before .before .before .before .before .if2 .left) (whole s) (c .before .before .before .before .before .before .if3 .path) (located (c .before .before .before .before .before .before)) (c .before .before .before .if4 .left)) (c .before .if5 .taken) (c .unchanged4 .result) (c .unchanged4 .ensures)
+returns-4 c = full (located (c .before .before .before .before .before .before)) (c .before .before .before .if4 .left) (c .before .if5 .taken) (c .unchanged4 .result) (c .unchanged4 .ensures)
 
 add-row-requires : tie.Need-add-row-requires
-add-row-requires c κs =
-    let s = c .before .before .before .before .before .before .before .before .before .before .before .before .before .before .before in
-    let a = s .args in
-    addable (a .pool .now) (a .table) (a .tuple .now) (passed (c .before .before .before .before .before .before .before .before .before .before .before .undamaged .ensures) (c .before .before .before .before .before .before .before .before .before .before .if1 .left)) (c .before .before .before .before .before .before .before .before .if2 .left) (whole s) (c .before .before .before .before .before .before .if3 .path) (located (c .before .before .before .before .before .before)) (c .before .before .before .if4 .left) (c .before .if5 .left)
+add-row-requires c κs = addable (located (c .before .before .before .before .before .before)) (c .before .before .before .if4 .left) (c .before .if5 .left)
 
 same-length-5 : tie.Need-same-length-5
 same-length-5 c = search needs
 
 returns-5 : tie.Need-returns-5
 returns-5 c =
-    let s = c .before .before .before .before .before .before .before .before .before .before .before .before .before .before .before .before .before .before in
-    let a = s .args in
-    taken-in (a .pool .now) (a .table) (a .tuple .now) (passed (c .before .before .before .before .before .before .before .before .before .before .before .before .before .before .undamaged .ensures) (c .before .before .before .before .before .before .before .before .before .before .before .before .before .if1 .left)) (c .before .before .before .before .before .before .before .before .before .before .before .if2 .left) (part-path (a .pool .now) (a .table) (a .tuple .now) (passed (c .before .before .before .before .before .before .before .before .before .before .before .before .before .before .undamaged .ensures) (c .before .before .before .before .before .before .before .before .before .before .before .before .before .if1 .left)) (c .before .before .before .before .before .before .before .before .before .before .before .if2 .left) (whole s) (c .before .before .before .before .before .before .before .before .before .if3 .path) (located (c .before .before .before .before .before .before .before .before .before)) (c .before .before .before .before .before .before .if4 .left)) (c .before .before .before .before .if5 .left) (c .before .before .add-row .last .0) _ (refl, refl) (c .before .before .add-row .ensures)
+    taken-in (located (c .before .before .before .before .before .before .before .before .before)) (c .before .before .before .before .before .before .if4 .left) (c .before .before .before .before .if5 .left) (c .before .before .add-row .last .0) _ (refl, refl) (c .before .before .add-row .ensures)
 
 pub insert-spec : {M : Type 1} → statement M
 insert-spec =

@@ -1,11 +1,9 @@
--- `column_trie_insert::raise` meets its contract: the words passed are one more (Shifts.antt).
+-- `column_trie_insert::raise` meets its contract: the words passed are one more (Raises.antt).
 use Prim.Native.Nat.{_+_, _-_}
-use mathlib.Core.Path.{sym, _∙_}
 use mathlib.Core.Logic.{inr}
 use native.Mathlib.Omega.{arith}
 use native.Mathlib.Numerals.{add-one}
-use lib.ListN.{length-set}
-use Rattle.column_trie_insert.proofs.Shifts.{Raising, raising-start, raising-step, raising-done}
+use Rattle.column_trie_insert.proofs.Raises.{Raising, raising-start, raising-step, raising-done}
 use Rattle.column_trie_insert.proofs.raise.Statement.{statement}
 use Rattle.column_trie_insert.proofs.raise.Tie as tie
 

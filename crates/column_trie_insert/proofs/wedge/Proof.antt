@@ -1,88 +1,50 @@
--- `column_trie_insert::wedge` meets its contract: a word moves up each turn (Shifts.antt), and the last store fills the gap.
-use Prim.Native.Nat.{ℕ, suc, _+_, _-_}
-use mathlib.Core.Path.{_≡_, refl, sym, ap, _∙_}
-use mathlib.Core.List.{List, _∷_, _++_, map-id}
-use native.Mathlib.Omega.{arith}
-use native.Mathlib.Numerals.{add-one}
-use lib.ListN.{length, take, drop, getD, length-set}
+-- `column_trie_insert::wedge` meets its contract: the words from the place on are shifted (Shifts.antt), and put back.
+use Rattle.column_trie_insert.proofs.Shifts.{wedged}
 use borrow.Author.Needs.{needs}
-use Rattle.column_trie.specs.Pool.{lay}
-use Rattle.column_trie_insert.proofs.Shifts.{Moving, moving-start, moving-step, moving-done}
 use Rattle.column_trie_insert.proofs.wedge.Statement.{statement}
 use Rattle.column_trie_insert.proofs.wedge.Tie as tie
 
-abbrev Inv-loop : tie.InvT-loop
-Inv-loop pool₀ base at n word end i₀ pool i = Moving (λ x. x) pool₀ end (base + n) pool i
+add-from : tie.Need-add-from
+add-from c = search needs
 
-abbrev μ-loop : tie.MeasureT-loop
-μ-loop pool₀ base at n word end i₀ pool i = i - end
+add-end : tie.Need-add-end
+add-end c = search needs
 
-add-end : tie.Need-add-end Inv-loop μ-loop
-add-end c = omega arith
+add-end-2 : tie.Need-add-end-2
+add-end-2 c = search needs
 
-add-i : tie.Need-add-i Inv-loop μ-loop
-add-i c = omega arith
+mul-shift-in : tie.Need-mul-shift-in
+mul-shift-in c = search needs
 
-loop-holds : tie.Need-loop-holds Inv-loop μ-loop
-loop-holds c = moving-start (λ x. x) (c .args .pool .now) (c .args .base + c .args .at) (c .args .base + c .args .n) (omega arith)
+sub-shift-in : tie.Need-sub-shift-in
+sub-shift-in c = search needs
 
-sub-pool : tie.Need-sub-pool Inv-loop μ-loop
-sub-pool c = omega arith
+part-shift-in-start : tie.Need-part-shift-in-start
+part-shift-in-start c = search needs
 
-mul-pool : tie.Need-mul-pool Inv-loop μ-loop
-mul-pool c = omega arith
+part-shift-in-end : tie.Need-part-shift-in-end
+part-shift-in-end c = search needs
 
-slice-read-pool : tie.Need-slice-read-pool Inv-loop μ-loop
-slice-read-pool c = omega arith
+shift-in-requires : tie.Need-shift-in-requires
+shift-in-requires c κs = search needs
 
-mul-pool-2 : tie.Need-mul-pool-2 Inv-loop μ-loop
-mul-pool-2 c = omega arith
+same-length : tie.Need-same-length
+same-length c = search needs
 
-slice-write-pool : tie.Need-slice-write-pool Inv-loop μ-loop
-slice-write-pool c = omega arith
-
-sub-i : tie.Need-sub-i Inv-loop μ-loop
-sub-i c = omega arith
-
-loop-less : tie.Need-loop-less Inv-loop μ-loop
-loop-less c = omega arith
-
-loop-again : tie.Need-loop-again Inv-loop μ-loop
-loop-again c = moving-step (c .before .before .loop .inv) (omega (arith, c .before .before .before .pre)) (c .before .loop-test .taken) _ refl
-
-mul-pool-3 : tie.Need-mul-pool-3 Inv-loop μ-loop
-mul-pool-3 c = omega arith
-
-slice-write-pool-2 : tie.Need-slice-write-pool-2 Inv-loop μ-loop
-slice-write-pool-2 c = omega arith
-
-same-length : tie.Need-same-length Inv-loop μ-loop
-same-length c = length-set (c .before .loop .pool) (c .before .before .args .base + c .before .before .args .at) (c .before .before .args .word) ∙ c .before .loop .inv .long
-
-returns : tie.Need-returns Inv-loop μ-loop
-returns c =
-    let a = c .before .before .args in
-    moving-done (a .base) (a .at) (a .n) (a .word) (c .before .loop .inv) (c .loop-test .left) (c .before .before .pre .0) (c .before .before .pre .1)
-    ∙ ap (λ (l : List ℕ). lay (a .pool .now) (a .base) (take (a .at) (take (a .n) (drop (a .base) (a .pool .now))) ++ a .word ∷ l)) (map-id (drop (a .at) (take (a .n) (drop (a .base) (a .pool .now)))))
+returns : tie.Need-returns
+returns c = let s = c .before .before .before .before .before in wedged (s .args .pool .now) (s .args .base) (s .args .at) (s .args .n) (s .args .word) (s .pre .0) (s .pre .1) (c .before .before .shift-in .last .0) (c .before .before .shift-in .ensures)
 
 pub wedge-spec : {M : Type 1} → statement M
 wedge-spec =
     tie.close
     (tie.spec
-    Inv-loop
-    μ-loop
+    add-from
     add-end
-    add-i
-    loop-holds
-    sub-pool
-    mul-pool
-    slice-read-pool
-    mul-pool-2
-    slice-write-pool
-    sub-i
-    loop-less
-    loop-again
-    mul-pool-3
-    slice-write-pool-2
+    add-end-2
+    mul-shift-in
+    sub-shift-in
+    part-shift-in-start
+    part-shift-in-end
+    shift-in-requires
     same-length
     returns)

@@ -1,92 +1,35 @@
--- `column_trie_insert::wedge_raised` meets its contract: a word, one more, moves up each turn (Shifts.antt), and the last store fills the gap.
-use Prim.Native.Nat.{ℕ, suc, _+_, _-_}
-use mathlib.Core.Path.{_≡_, refl, sym, ap, _∙_}
-use mathlib.Core.Logic.{inl}
-use mathlib.Core.List.{List, _∷_, _++_, map-id}
+-- `column_trie_insert::wedge_raised` meets its contract: what the wedge leaves can be raised, and raised it is what is asked (Raises.antt).
 use native.Mathlib.Omega.{arith}
-use native.Mathlib.Numerals.{add-one}
-use lib.ListN.{length, take, drop, getD, length-set}
+use Rattle.column_trie_insert.proofs.Raises.{still-long, still-small, wedged-raised}
 use borrow.Author.Needs.{needs}
-use Rattle.column_trie.specs.Pool.{lay}
-use Rattle.column_trie_insert.proofs.Shifts.{Moving, moving-start, moving-step, moving-done}
 use Rattle.column_trie_insert.proofs.wedge_raised.Statement.{statement}
 use Rattle.column_trie_insert.proofs.wedge_raised.Tie as tie
 
-abbrev Inv-loop : tie.InvT-loop
-Inv-loop pool₀ base at n word end i₀ pool i = Moving (suc) pool₀ end (base + n) pool i
+wedge-requires : tie.Need-wedge-requires
+wedge-requires c κs = search needs
 
-abbrev μ-loop : tie.MeasureT-loop
-μ-loop pool₀ base at n word end i₀ pool i = i - end
+add-raise : tie.Need-add-raise
+add-raise c = search needs
 
-add-end : tie.Need-add-end Inv-loop μ-loop
-add-end c = omega arith
+add-raise-2 : tie.Need-add-raise-2
+add-raise-2 c = search needs
 
-add-i : tie.Need-add-i Inv-loop μ-loop
-add-i c = omega arith
+raise-requires : tie.Need-raise-requires
+raise-requires c κs =
+    let s = c .before .before .before .before .before .before in
+    let a = s .args in
+    let first = c .before .before .before .wedge .ensures in
+    (omega arith, omega (arith, still-long (a .pool .now) (a .base) (a .at) (a .n) (a .word) (s .pre .0) (s .pre .1) first), still-small (a .pool .now) (a .base) (a .at) (a .n) (a .word) (s .pre .0) (s .pre .1) first (s .pre .2))
 
-loop-holds : tie.Need-loop-holds Inv-loop μ-loop
-loop-holds c = moving-start (suc) (c .args .pool .now) (c .args .base + c .args .at) (c .args .base + c .args .n) (omega arith)
+same-length : tie.Need-same-length
+same-length c = search needs
 
-sub-pool : tie.Need-sub-pool Inv-loop μ-loop
-sub-pool c = omega arith
-
-mul-pool : tie.Need-mul-pool Inv-loop μ-loop
-mul-pool c = omega arith
-
-slice-read-pool : tie.Need-slice-read-pool Inv-loop μ-loop
-slice-read-pool c = omega arith
-
-add-pool : tie.Need-add-pool Inv-loop μ-loop
-add-pool c = omega (arith, c .before .before .loop .inv .stays (c .before .before .loop .i - 1) (inl (omega arith)), c .before .before .before .pre .2 (c .before .before .loop .i - 1) (omega (arith, c .before .loop-test .taken)) (omega (arith, c .before .before .loop .inv)))
-
-mul-pool-2 : tie.Need-mul-pool-2 Inv-loop μ-loop
-mul-pool-2 c = omega arith
-
-slice-write-pool : tie.Need-slice-write-pool Inv-loop μ-loop
-slice-write-pool c = omega arith
-
-sub-i : tie.Need-sub-i Inv-loop μ-loop
-sub-i c = omega arith
-
-loop-less : tie.Need-loop-less Inv-loop μ-loop
-loop-less c = omega arith
-
-loop-again : tie.Need-loop-again Inv-loop μ-loop
-loop-again c = moving-step (c .before .before .loop .inv) (omega (arith, c .before .before .before .pre)) (c .before .loop-test .taken) _ (add-one _)
-
-mul-pool-3 : tie.Need-mul-pool-3 Inv-loop μ-loop
-mul-pool-3 c = omega arith
-
-slice-write-pool-2 : tie.Need-slice-write-pool-2 Inv-loop μ-loop
-slice-write-pool-2 c = omega arith
-
-same-length : tie.Need-same-length Inv-loop μ-loop
-same-length c = length-set (c .before .loop .pool) (c .before .before .args .base + c .before .before .args .at) (c .before .before .args .word) ∙ c .before .loop .inv .long
-
-returns : tie.Need-returns Inv-loop μ-loop
+returns : tie.Need-returns
 returns c =
-    let a = c .before .before .args in
-    moving-done (a .base) (a .at) (a .n) (a .word) (c .before .loop .inv) (c .loop-test .left) (c .before .before .pre .0) (c .before .before .pre .1)
+    let s = c .before .before .before .before .before .before .before .before .before in
+    let a = s .args in
+    wedged-raised (a .pool .now) (a .base) (a .at) (a .n) (a .word) (s .pre .0) (s .pre .1) (c .before .before .before .before .before .before .wedge .ensures) (c .before .before .raise .ensures)
 
 pub wedge-raised-spec : {M : Type 1} → statement M
 wedge-raised-spec =
-    tie.close
-    (tie.spec
-    Inv-loop
-    μ-loop
-    add-end
-    add-i
-    loop-holds
-    sub-pool
-    mul-pool
-    slice-read-pool
-    add-pool
-    mul-pool-2
-    slice-write-pool
-    sub-i
-    loop-less
-    loop-again
-    mul-pool-3
-    slice-write-pool-2
-    same-length
-    returns)
+    tie.close (tie.spec wedge-requires add-raise add-raise-2 raise-requires same-length returns)
