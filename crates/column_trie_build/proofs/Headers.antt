@@ -1,4 +1,4 @@
--- The header of layers: its lengths, and what one key or one interval more does to it.
+-- The lengths of layers, as a header has them: each entry, and what one key or one interval more does to them.
 use Prim.Native.Nat.{ℕ, zero, suc, _+_, _-_, _≤_, _<_}
 use mathlib.Core.Path.{_≡_, refl, sym, ap, _∙_}
 use mathlib.Core.List.{List, [], _∷_, _++_, map}
@@ -7,8 +7,8 @@ use lib.ListN.{length, getD, set, replicate, length-map, length-replicate, lengt
 use lib.Seq.{getD-append-add, set-append-left, map-set-same}
 use Rattle.relation.specs.Layers.{Layer, layer, noLayer}
 use Rattle.column_trie.specs.Limits.{maxArity}
-use Rattle.column_trie.specs.Table.{dataLen, intervalLen, padded, header}
-use Rattle.column_trie_build.specs.Push.{withKey, withInterval, keyed, opened}
+use Rattle.column_trie.specs.Table.{padded}
+use Rattle.column_trie_build.specs.Push.{keyed, opened, keyCounts, intervalCounts}
 
 map-set {ℓ κ} : {A : Type ℓ} {B : Type κ} (f : A → B) (l : List A) (i : ℕ) (x : A) → map f (set l i x) ≡ set (map f l) i (f x)
 map-set f [] i x = refl
@@ -54,23 +54,26 @@ keyCount l = length (l .keys)
 abbrev intervalCount : Layer → ℕ
 intervalCount l = length (l .intervals)
 
-module _ (s a c : ℕ) (ls : List Layer) (n d : ℕ) (h : d < length ls) where
-  pub data-at : dataLen (header s a c ls n) d ≡ length (layer ls d .keys)
-  data-at = padded-at keyCount refl ls d h
+module _ (ls : List Layer) (d : ℕ) (h : d < length ls) where
+  pub keys-at : getD (keyCounts ls) d 0 ≡ length (layer ls d .keys)
+  keys-at = padded-at keyCount refl ls d h
 
-  pub interval-at : intervalLen (header s a c ls n) d ≡ length (layer ls d .intervals)
-  interval-at = padded-at intervalCount refl ls d h
+  pub intervals-at : getD (intervalCounts ls) d 0 ≡ length (layer ls d .intervals)
+  intervals-at = padded-at intervalCount refl ls d h
 
-  pub header-keyed : (k : ℕ) → header s a c (set ls d (keyed k (layer ls d))) n ≡ withKey (header s a c ls n) d
-  header-keyed k =
-      let l = layer ls d in
-      let x : padded (map keyCount (set ls d (keyed k l))) ≡ set (padded (map keyCount ls)) d (dataLen (header s a c ls n) d + 1) = padded-set keyCount refl ls d h (keyed k l) ∙ ap (set (padded (map keyCount ls)) d) (length-append (l .keys) (k ∷ []) ∙ ap (λ (m : ℕ). m + 1) (sym data-at)) in
-      let y : padded (map intervalCount (set ls d (keyed k l))) ≡ padded (map intervalCount ls) = padded-same intervalCount refl ls d h (keyed k l) refl in
-      cc
+  -- what one key more, and one interval more, does to the lengths
+  pub keys-keyed : (k : ℕ) → keyCounts (set ls d (keyed k (layer ls d))) ≡ set (keyCounts ls) d (getD (keyCounts ls) d 0 + 1)
+  keys-keyed k =
+      padded-set keyCount refl ls d h (keyed k (layer ls d))
+      ∙ ap (set (keyCounts ls) d) (length-append (layer ls d .keys) (k ∷ []) ∙ ap (λ (m : ℕ). m + 1) (sym keys-at))
 
-  pub header-opened : header s a c (set ls d (opened (layer ls d))) n ≡ withInterval (header s a c ls n) d
-  header-opened =
-      let l = layer ls d in
-      let x : padded (map intervalCount (set ls d (opened l))) ≡ set (padded (map intervalCount ls)) d (intervalLen (header s a c ls n) d + 1) = padded-set intervalCount refl ls d h (opened l) ∙ ap (set (padded (map intervalCount ls)) d) (length-append (l .intervals) (length (l .keys) ∷ []) ∙ ap (λ (m : ℕ). m + 1) (sym interval-at)) in
-      let y : padded (map keyCount (set ls d (opened l))) ≡ padded (map keyCount ls) = padded-same keyCount refl ls d h (opened l) refl in
-      cc
+  pub intervals-keyed : (k : ℕ) → intervalCounts (set ls d (keyed k (layer ls d))) ≡ intervalCounts ls
+  intervals-keyed k = padded-same intervalCount refl ls d h (keyed k (layer ls d)) refl
+
+  pub intervals-opened : intervalCounts (set ls d (opened (layer ls d))) ≡ set (intervalCounts ls) d (getD (intervalCounts ls) d 0 + 1)
+  intervals-opened =
+      padded-set intervalCount refl ls d h (opened (layer ls d))
+      ∙ ap (set (intervalCounts ls) d) (length-append (layer ls d .intervals) (length (layer ls d .keys) ∷ []) ∙ ap (λ (m : ℕ). m + 1) (sym intervals-at))
+
+  pub keys-opened : keyCounts (set ls d (opened (layer ls d))) ≡ keyCounts ls
+  keys-opened = padded-same keyCount refl ls d h (opened (layer ls d)) refl

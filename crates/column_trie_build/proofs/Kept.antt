@@ -13,7 +13,7 @@ use Rattle.column_trie.proofs.Pool.{Room, spot-is, lay-out}
 use Rattle.column_trie_build.specs.Build.{rowsStored, Builds}
 use Rattle.column_trie_build.specs.declared.Built.{Built}
 use Rattle.column_trie_build.proofs.Numbers.{Accepted}
-use Rattle.column_trie_build.proofs.Headers.{data-at, interval-at}
+use Rattle.column_trie_build.proofs.Headers.{keys-at, intervals-at}
 use Rattle.column_trie_build.proofs.Leaves.{built-size, built-room, built-accepted, built-pool, built-table, spot-end}
 
 -- a word before a layer, behind its lists, or between them
@@ -66,10 +66,10 @@ build-keeps-every-other-word given lent start arity capacity b z =
       outside = λ k h. store-out start capacity ls lent k room (⊎-elim (λ (x : k < start). inl x) (λ (x : start + 2 * arity * capacity ≤ k). inr (omega (arith, ap (spot start capacity) size, spot-end start arity capacity))) h);
       keys = λ d j h x y.
           let i : d < length ls = omega (arith, size) in
-          store-behind capacity j start ls lent d i room y .0 (omega (arith, data-at start arity capacity ls (length (rowsStored arity given)) d i));
+          store-behind capacity j start ls lent d i room y .0 (omega (arith, keys-at ls d i));
       intervals = λ d j h x y.
           let i : d < length ls = omega (arith, size) in
-          store-behind capacity j start ls lent d i room y .1 (omega (arith, interval-at start arity capacity ls (length (rowsStored arity given)) d i));
+          store-behind capacity j start ls lent d i room y .1 (omega (arith, intervals-at ls d i));
     })
   where
     a : Accepted (length given) (length lent) start arity capacity

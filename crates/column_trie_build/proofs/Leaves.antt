@@ -25,7 +25,7 @@ use Rattle.column_trie_build.specs.Build.{buildNumber, rowsGiven, rowsSt
 use Rattle.column_trie_build.specs.declared.Built.{Built}
 use Rattle.column_trie_build.proofs.Numbers.{Accepted, accepted}
 use Rattle.column_trie_build.proofs.Given.{length-given, width-given}
-use Rattle.column_trie_build.proofs.Headers.{data-at, interval-at, padded-long, padded-past}
+use Rattle.column_trie_build.proofs.Headers.{keys-at, intervals-at, padded-long, padded-past}
 use Rattle.column_trie_build.proofs.Turns.{layers-size, layers-room}
 use Rattle.column_trie_build.proofs.Outcomes.{if-built}
 
@@ -54,8 +54,8 @@ module _ (s a c : ℕ) (ls : List Layer) (n : ℕ) (pool : List ℕ) (size : len
           let p = store s c ls pool in
           layers-at p (header s a c ls n) whole few d h
           ∙ ap₂ (λ (ks is : List ℕ). record { keys = ks; intervals = is })
-          (ap (λ (m : ℕ). take m (drop (spot s c d) p)) (data-at s a c ls n d b) ∙ store-keys s c ls pool d b room last-fits)
-          (ap (λ (m : ℕ). take m (drop (spot s c d + c) p)) (interval-at s a c ls n d b) ∙ store-intervals s c ls pool d b room last-fits)
+          (ap (λ (m : ℕ). take m (drop (spot s c d) p)) (keys-at ls d b) ∙ store-keys s c ls pool d b room last-fits)
+          (ap (λ (m : ℕ). take m (drop (spot s c d + c) p)) (intervals-at ls d b) ∙ store-intervals s c ls pool d b room last-fits)
 
   -- its lengths are 0 past the arity, and within the capacity
   past : (d : ℕ) → a ≤ d → (dataLen (header s a c ls n) d ≡ 0) × (intervalLen (header s a c ls n) d ≡ 0)
@@ -67,7 +67,7 @@ module _ (s a c : ℕ) (ls : List Layer) (n : ℕ) (pool : List ℕ) (size : len
       go : Dec (d < a) → (dataLen (header s a c ls n) d ≤ c) × (intervalLen (header s a c ls n) d ≤ c)
       go (yes h) =
           let b : d < length ls = omega arith in
-          (omega (arith, data-at s a c ls n d b, room d b .0), omega (arith, interval-at s a c ls n d b, room d b .1))
+          (omega (arith, keys-at ls d b, room d b .0), omega (arith, intervals-at ls d b, room d b .1))
       go (no h) = let z = past d (omega arith) in (omega arith, omega arith)
 
   pub stored-undamaged : 0 < a → 0 < c → c ≤ maxCapacity → layers.Undamaged a c ls n → Undamaged (store s c ls pool) (header s a c ls n)

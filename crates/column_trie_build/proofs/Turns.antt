@@ -50,8 +50,8 @@ module _ {a : ℕ} {rows : List Row} (w : Width a rows) where
     omega (arith, ap (λ (l : Layer). length (l .intervals)) (layer-of d h), length-intervals d rows, few d rows),
   )
 
-pub setting : {len : ℕ} {t : ColumnTrie} {rows : List Row} {i from opens : ℕ} → Pushing len t rows i from opens → Setting len t (layersOf (t .arity) (take i rows)) (layersOf (t .arity) (take (suc i) rows)) (getD rows i []) from opens
-setting {len} {t} {rows} {i} p =
+pub setting : {len : ℕ} {t : ColumnTrie} {ks is : List ℕ} {rows : List Row} {i from opens : ℕ} → Pushing len t ks is rows i from opens → Setting len t (layersOf (t .arity) (take i rows)) (layersOf (t .arity) (take (suc i) rows)) (getD rows i []) from opens
+setting {rows = rows} {i = i} p =
     let w = width-take i (p .width) in
     let n : length (take i rows) ≡ i = length-take-le i rows (omega (arith, p .next)) in
     record {

@@ -10,14 +10,13 @@ use column_trie::layer_at;
 use column_trie::lies_in;
 use sort::sort_rows;
 ghost use mathlib.Core.Path.{_≡_};
-ghost use Prim.Native.Nat.{_+_, _-_, _/_, _<_};
+ghost use Prim.Native.Nat.{_+_, _/_, _<_};
 ghost use lib.ListN.{length, getD};
 ghost use mathlib.Core.List.{[]};
 ghost use Rattle.relation.proofs.Order.{shared};
-ghost use Rattle.column_trie.specs.Pool.{spot};
-ghost use Rattle.column_trie.specs.Table.{dataLen, intervalLen};
+ghost use Rattle.column_trie.specs.Limits.{maxArity};
 ghost use Rattle.column_trie_build.specs.Build.{buildNumber, rowsGiven, Builds};
-ghost use Rattle.column_trie_build.specs.Push.{Spare, withKey, withInterval, Appends, Pushing, Pushes, Filling, Fills};
+ghost use Rattle.column_trie_build.specs.Push.{Appends, Pushing, Pushes, Filling, Fills};
 
 #[repr(C)]
 pub struct Built {
@@ -42,61 +41,53 @@ fn common_prefix_len(rows: &[u64], arity: usize, i: usize, j: usize) -> usize
     k
 }
 
-// Appends the key to the data of layer d.
-fn push_key(pool: &mut [u64], t: ColumnTrie, d: usize, key: u64) -> ColumnTrie
-    requires { ⌜ Spare (length (now pool)) t d (dataLen t d) ⌝ }
-    ensures { λ r. ⌜ Appends (now (pool .entry)) (spot (t .start) (t .capacity) d + dataLen t d) key (withKey t d) (now (pool .exit)) r ⌝ }
+// Appends the word to the list that lies at `at` of the pool and whose length is len[d].
+fn append(
+    pool: &mut [u64],
+    at: usize,
+    len: &mut [usize; ColumnTrie::MAX_ARITY],
+    d: usize,
+    word: u64,
+)
+    requires { ⌜ (d < maxArity) × (at + getD (now len) d 0 < length (now pool)) ⌝ }
+    ensures { λ r. ⌜ Appends (now (pool .entry)) at (now (len .entry)) d word (now (pool .exit)) (now (len .exit)) ⌝ }
 {
-    let n = t.data_len[d];
-    let at = layer_at(t, d) + n;
-    pool[at] = key;
-    let mut out = t;
-    out.data_len[d] = n + 1;
-    out
+    let n = len[d];
+    pool[at + n] = word;
+    len[d] = n + 1;
 }
 
-// Opens an interval of layer d at the end of its data: for a parent just appended to the layer above, or for the root.
-fn open_interval(pool: &mut [u64], t: ColumnTrie, d: usize) -> ColumnTrie
-    requires { ⌜ Spare (length (now pool)) t d (intervalLen t d) ⌝ }
-    ensures { λ r. ⌜ Appends (now (pool .entry)) (spot (t .start) (t .capacity) d + t .capacity + intervalLen t d) (dataLen t d) (withInterval t d) (now (pool .exit)) r ⌝ }
-{
-    let m = t.interval_len[d];
-    let at = layer_at(t, d) + t.capacity + m;
-    pool[at] = t.data_len[d] as u64;
-    let mut out = t;
-    out.interval_len[d] = m + 1;
-    out
-}
-
-// Appends the keys of row i from column `from` on, those from column `opens` on under a new interval.
+// Appends the keys of row i from column `from` on, those from column `opens` on under a new interval, which starts at the end of its layer's keys.
 fn push_row(
     pool: &mut [u64],
     t: ColumnTrie,
+    data_len: &mut [usize; ColumnTrie::MAX_ARITY],
+    interval_len: &mut [usize; ColumnTrie::MAX_ARITY],
     rows: &[u64],
     i: usize,
     from: usize,
     opens: usize,
-) -> ColumnTrie
-    requires { ⌜ Pushing (length (now pool)) t (rowsGiven (t .arity) (now rows)) i from opens ⌝ }
-    ensures { λ r. ⌜ Pushes (now (pool .entry)) t (rowsGiven (t .arity) (now (rows .entry))) i (now (pool .exit)) r ⌝ }
+)
+    requires { ⌜ Pushing (length (now pool)) t (now «data_len») (now «interval_len») (rowsGiven (t .arity) (now rows)) i from opens ⌝ }
+    ensures { λ r. ⌜ Pushes (now (pool .entry)) t (rowsGiven (t .arity) (now (rows .entry))) i (now (pool .exit)) (now («data_len» .exit)) (now («interval_len» .exit)) ⌝ }
 {
     let arity = t.arity;
     let x = i * arity;
-    let mut out = t;
     let mut d = from;
     while d < arity {
+        let at = layer_at(t, d);
         if opens <= d {
-            out = open_interval(pool, out, d);
+            let key = data_len[d] as u64;
+            append(pool, at + t.capacity, interval_len, d, key);
         }
-        out = push_key(pool, out, d, rows[x + d]);
+        append(pool, at, data_len, d, rows[x + d]);
         d += 1;
     }
-    out.tuple_count += 1;
-    out
 }
 
 // Fills the empty table t with the rows, which are sorted, in one pass: a row appends its keys from the first column on in which it differs from
-// the row before it, each but the first under a new interval; one that is equal to it appends nothing.
+// the row before it, each but the first under a new interval; one that is equal to it appends nothing. The lengths are kept beside the header
+// until the end: a header by value would be copied for each key.
 fn from_sorted(pool: &mut [u64], t: ColumnTrie, rows: &[u64]) -> ColumnTrie
     requires { ⌜ Filling (length (now pool)) t (rowsGiven (t .arity) (now rows)) ⌝ }
     ensures { λ r. ⌜ Fills (now (pool .entry)) t (rowsGiven (t .arity) (now (rows .entry))) (now (pool .exit)) r ⌝ }
@@ -106,17 +97,27 @@ fn from_sorted(pool: &mut [u64], t: ColumnTrie, rows: &[u64]) -> ColumnTrie
     if n == 0 {
         return t;
     }
-    let mut out = push_row(pool, t, rows, 0, 0, 0);
+    let mut data_len = t.data_len;
+    let mut interval_len = t.interval_len;
+    push_row(pool, t, &mut data_len, &mut interval_len, rows, 0, 0, 0);
     let mut i = 1;
     while i < n {
         let before = i - 1;
         let d = common_prefix_len(rows, arity, before, i);
         if d < arity {
-            out = push_row(pool, out, rows, i, d, d + 1);
+            push_row(pool, t, &mut data_len, &mut interval_len, rows, i, d, d + 1);
         }
         i += 1;
     }
-    out
+    let tuple_count = data_len[arity - 1];
+    ColumnTrie {
+        start: t.start,
+        arity,
+        capacity: t.capacity,
+        data_len,
+        interval_len,
+        tuple_count,
+    }
 }
 
 // The number of the first check that refuses, or 0.

@@ -1,46 +1,38 @@
 -- `column_trie_build::from_sorted` meets its contract. The loop's invariant: the table holds the first i rows. The measure is the rows left.
 use Prim.Native.Nat.{ℕ, _+_, _-_, _/_, _<_}
-use mathlib.Core.Path.{_≡_, sym, _∙_, subst, subst₂}
+use mathlib.Core.Path.{_≡_, sym, _∙_, subst}
 use mathlib.Core.Logic.{⊎-elim}
 use mathlib.Core.List.{List}
 use native.Mathlib.Omega.{arith}
-use lib.ListN.{length, take}
+use lib.ListN.{length}
 use Rattle.relation.specs.Rows.{Width}
-use Rattle.column_trie.specs.declared.ColumnTrie.{ColumnTrie}
 use Rattle.column_trie_build.specs.Build.{rowsGiven}
-use Rattle.column_trie_build.specs.Push.{holding, Pushing, Pushes}
+use Rattle.column_trie_build.specs.Push.{Pushing}
 use Rattle.column_trie_build.proofs.Given.{length-given, width-given}
 use Rattle.column_trie_build.proofs.Fill.{Filled, pushing-first, filled-first, pushing-next, filled-next, filled-equal, fills-none, fills-all}
 use Rattle.column_trie_build.proofs.from_sorted.Statement.{statement}
 use Rattle.column_trie_build.proofs.from_sorted.Tie as tie
 
 abbrev Inv-loop : tie.InvT-loop
-Inv-loop pool₀ rows arity n out₀ i₀ pool out i = Filled (out₀ .start) arity (out₀ .capacity) (rowsGiven arity rows) pool₀ pool out i
+Inv-loop pool₀ t rows arity n data-len₀ interval-len₀ i₀ pool data-len interval-len i = Filled t (rowsGiven (t .arity) rows) pool₀ pool data-len interval-len i
 
 abbrev μ-loop : tie.MeasureT-loop
-μ-loop pool₀ rows arity n out₀ i₀ pool out i = n - i
+μ-loop pool₀ t rows arity n data-len₀ interval-len₀ i₀ pool data-len interval-len i = n - i
 
 -- the rows have the table's width
 wide : (s : tie.Start Inv-loop μ-loop) → Width (s .args .t .arity) (rowsGiven (s .args .t .arity) (s .args .rows .now))
 wide s = width-given (s .args .t .arity) (s .args .rows .now)
 
--- where the loop begins the first row is pushed, and the header's place is that of the table
+-- where the loop begins the first row is pushed
 module _ (k : tie.After-slice-known2 Inv-loop μ-loop) where
   abbrev start : tie.Start Inv-loop μ-loop
-  start = k .before .before .before .before .before .before .before
+  start = k .before .before .before .before .before .before .before .before .before .before .before
 
   some : 0 < length (rowsGiven (start .args .t .arity) (start .args .rows .now))
-  some = omega (arith, length-given (start .args .t .arity) (start .args .rows .now), k .before .before .before .before .if1 .left)
+  some = omega (arith, length-given (start .args .t .arity) (start .args .rows .now), k .before .before .before .before .before .before .before .before .if1 .left)
 
   ahead : {i : ℕ} → i < length (start .args .rows .now) / start .args .t .arity → i < length (rowsGiven (start .args .t .arity) (start .args .rows .now))
   ahead h = omega (arith, length-given (start .args .t .arity) (start .args .rows .now))
-
-  module _ {pool₀ pool : List ℕ} {out : ColumnTrie} {i : ℕ} where
-    to : Filled (start .args .t .start) (start .args .t .arity) (start .args .t .capacity) (rowsGiven (start .args .t .arity) (start .args .rows .now)) pool₀ pool out i → Filled (k .before .before .push-row .result .start) (start .args .t .arity) (k .before .before .push-row .result .capacity) (rowsGiven (start .args .t .arity) (start .args .rows .now)) pool₀ pool out i
-    to g = subst (λ (u : ColumnTrie). Filled (u .start) (start .args .t .arity) (u .capacity) (rowsGiven (start .args .t .arity) (start .args .rows .now)) pool₀ pool out i) (sym (k .before .before .push-row .ensures .header)) g
-
-    of : Filled (k .before .before .push-row .result .start) (start .args .t .arity) (k .before .before .push-row .result .capacity) (rowsGiven (start .args .t .arity) (start .args .rows .now)) pool₀ pool out i → Filled (start .args .t .start) (start .args .t .arity) (start .args .t .capacity) (rowsGiven (start .args .t .arity) (start .args .rows .now)) pool₀ pool out i
-    of g = subst (λ (u : ColumnTrie). Filled (u .start) (start .args .t .arity) (u .capacity) (rowsGiven (start .args .t .arity) (start .args .rows .now)) pool₀ pool out i) (k .before .before .push-row .ensures .header) g
 
 div-n : tie.Need-div-n Inv-loop μ-loop
 div-n c = c .before .before .pre .some
@@ -49,10 +41,10 @@ returns : tie.Need-returns Inv-loop μ-loop
 returns c = let s = c .before .before .before in fills-none (s .pre) (wide s) (length-given (s .args .t .arity) (s .args .rows .now) ∙ c .if1 .taken)
 
 push-row-requires : tie.Need-push-row-requires Inv-loop μ-loop
-push-row-requires c κs = let s = c .before .before .before .before in pushing-first (s .pre) (wide s) (omega (arith, length-given (s .args .t .arity) (s .args .rows .now), c .before .if1 .left))
+push-row-requires c κs = let s = c .before .before .before .before .before .before .before .before in pushing-first (s .pre) (wide s) (omega (arith, length-given (s .args .t .arity) (s .args .rows .now), c .before .before .before .before .before .if1 .left))
 
 loop-holds : tie.Need-loop-holds Inv-loop μ-loop
-loop-holds c = let s = start c in to c (filled-first (s .pre) (wide s) (some c) (c .before .before .push-row .ensures))
+loop-holds c = let s = start c in filled-first (s .pre) (wide s) (some c) (c .before .before .push-row .ensures)
 
 sub-before : tie.Need-sub-before Inv-loop μ-loop
 sub-before c = c .before .loop .inv .low
@@ -65,17 +57,12 @@ add-push-row c = omega arith
 
 push-row-requires-2 : tie.Need-push-row-requires-2 Inv-loop μ-loop
 push-row-requires-2 c κs =
-    let l = c .before .before .before .before .loop in
-    let k = c .before .before .before .before .before in
+    let l = c .before .before .before .before .before .before .loop in
+    let k = c .before .before .before .before .before .before .before in
     let s = start k in
-    let g = of k (l .inv) in
-    let d = c .before .before .common-prefix-len in
-    let t = s .args .t in
-    let rows = rowsGiven (t .arity) (s .args .rows .now) in
-    let long : length (l .pool) ≡ length (s .args .pool .now) = l .inv .long ∙ k .before .before .push-row .kept .0 in
-    subst (λ (u : ColumnTrie). Pushing (length (l .pool)) u (rowsGiven (u .arity) (s .args .rows .now)) (l .i) (d .result) (d .result + 1)) (sym (g .header))
-    (subst (λ (n : ℕ). Pushing n (holding (t .start) (t .arity) (t .capacity) (take (l .i) rows)) rows (l .i) (d .result) (d .result + 1)) (sym long)
-    (pushing-next (s .pre) (wide s) (d .result) g (ahead k (c .before .before .before .loop-test .taken)) (d .ensures) (omega (arith, c .before .if2 .taken))))
+    let d = c .before .before .before .before .common-prefix-len in
+    subst (λ (n : ℕ). Pushing n (s .args .t) (l .data-len) (l .interval-len) (rowsGiven (s .args .t .arity) (s .args .rows .now)) (l .i) (d .result) (d .result + 1)) (sym (l .inv .long ∙ k .before .before .push-row .kept .0))
+    (pushing-next (s .pre) (wide s) (d .result) (l .inv) (ahead k (c .before .before .before .before .before .loop-test .taken)) (d .ensures) (omega (arith, c .before .before .before .if2 .taken)))
 
 add-i : tie.Need-add-i Inv-loop μ-loop
 add-i c = omega arith
@@ -88,26 +75,30 @@ loop-again c =
     let l = c .before .before .before .loop in
     let k = c .before .before .before .before in
     let s = start k in
-    let g = of k (l .inv) in
     let d = c .before .common-prefix-len in
-    let t = s .args .t in
-    let rows = rowsGiven (t .arity) (s .args .rows .now) in
     let h = ahead k (c .before .before .loop-test .taken) in
-    let there : List ℕ → ColumnTrie → Type 0 = λ pool out. Filled (t .start) (t .arity) (t .capacity) rows (k .before .before .push-row .last .0) pool out (l .i + 1) in
-    to k
-    (⊎-elim
-    (λ x. subst₂ there (sym (x .5)) (sym (x .6)) (filled-next (s .pre) (wide s) g h (x .2 .kept .0) (subst (λ (u : ColumnTrie). Pushes (l .pool) u (rowsGiven (u .arity) (s .args .rows .now)) (l .i) (x .2 .last .0) (x .2 .result)) (g .header) (x .2 .ensures))))
-    (λ x. subst₂ there (sym (x .1)) (sym (x .2)) (filled-equal (s .pre) (wide s) g h (omega (arith, d .ensures, x .0 .left))))
-    (c .if2 .came))
+    ⊎-elim
+    (λ x. rw (x .7, x .8, x .9) (filled-next (s .pre) (wide s) (l .inv) h (x .4 .kept .0) (x .4 .ensures)))
+    (λ x. rw (x .1, x .2, x .3) (filled-equal (s .pre) (wide s) (l .inv) h (omega (arith, d .ensures, x .0 .left))))
+    (c .if2 .came)
+
+sub-tuple-count : tie.Need-sub-tuple-count Inv-loop μ-loop
+sub-tuple-count c = c .before .before .before .before .before .before .before .before .before .before .before .before .before .pre .some
+
+mul-tuple-count : tie.Need-mul-tuple-count Inv-loop μ-loop
+mul-tuple-count c = omega (arith, c .before .before .before .before .before .before .before .before .before .before .before .before .before .pre .few)
+
+array-read-tuple-count : tie.Need-array-read-tuple-count Inv-loop μ-loop
+array-read-tuple-count c = omega (arith, c .before .before .before .before .before .before .before .before .before .before .before .before .before .pre .few, c .before .before .before .before .before .before .before .before .before .before .before .before .before .pre .some)
 
 same-length : tie.Need-same-length Inv-loop μ-loop
-same-length c = let k = c .before .before in c .before .loop .inv .long ∙ k .before .before .push-row .kept .0
+same-length c = c .before .loop .inv .long ∙ c .before .before .before .before .push-row .kept .0
 
 returns-2 : tie.Need-returns-2 Inv-loop μ-loop
 returns-2 c =
     let k = c .before .before in
     let s = start k in
-    fills-all (s .pre) (wide s) (k .before .before .push-row .ensures) (of k (c .before .loop .inv)) (omega (arith, length-given (s .args .t .arity) (s .args .rows .now), c .loop-test .left))
+    fills-all (s .pre) (wide s) (k .before .before .push-row .ensures) (c .before .loop .inv) (omega (arith, length-given (s .args .t .arity) (s .args .rows .now), c .loop-test .left))
 
 pub from-sorted-spec : {M : Type 1} → statement M
 from-sorted-spec =
@@ -126,5 +117,8 @@ from-sorted-spec =
     add-i
     loop-less
     loop-again
+    sub-tuple-count
+    mul-tuple-count
+    array-read-tuple-count
     same-length
     returns-2)
