@@ -38,6 +38,13 @@ held s = holds (whole s) (sound s)
 layer-words : (s : tie.Start Inv-loop μ-loop) (d : _) → d < s .args .t .arity → layerIn (s .args .pool .now) (s .args .t) d ≡ rankedAt d (rowsIn (s .args .pool .now) (s .args .t))
 layer-words s d h = layer-is (whole s) (in-pool (sound s)) (held s) d h
 
+-- what the search in a group found
+place : (c : tie.After-find-place Inv-loop μ-loop) → PlaceOf (rankedAt (c .before .before .before .before .loop .d) (rowsIn (c .before .before .before .before .before .before .before .args .pool .now) (c .before .before .before .before .before .before .before .args .t))) (c .before .before .before .before .loop .i) (getD (c .before .before .before .before .before .before .before .args .tuple .now) (c .before .before .before .before .loop .d) 0) (c .find-place .result)
+place c =
+    let s = c .before .before .before .before .before .before .before in
+    let d = c .before .before .before .before .loop .d in
+    subst (λ (l : Layer). PlaceOf l (c .before .before .before .before .loop .i) (getD (s .args .tuple .now) d 0) (c .find-place .result)) (layer-words s d (c .before .before .if1 .taken)) (c .find-place .ensures)
+
 loop-holds : tie.Need-loop-holds Inv-loop μ-loop
 loop-holds c = let s = c .before .before in walking-start (s .args .t .arity) (rowsIn (s .args .pool .now) (s .args .t)) (s .args .tuple .now) (omega (arith, held s .counted, s .pre .2))
 
@@ -60,10 +67,7 @@ find-place-requires c κs =
 returns : tie.Need-returns Inv-loop μ-loop
 returns c =
     let s = c .before .before .before .before .before .before .before .before .before in
-    let d = c .before .before .before .before .before .before .loop .d in
-    let h = c .before .before .before .before .if1 .taken in
-    walking-left (held s .width) (s .pre .1) (c .before .before .before .before .before .before .loop .inv) h refl
-    (subst (λ (l : Layer). PlaceOf l (c .before .before .before .before .before .before .loop .i) (getD (s .args .tuple .now) d 0) (c .before .before .find-place .result)) (layer-words s d h) (c .before .before .find-place .ensures)) (not-true _ (c .if2 .taken))
+    walking-left (held s .width) (s .pre .1) (c .before .before .before .before .before .before .loop .inv) (c .before .before .before .before .if1 .taken) refl (place (c .before .before)) (not-true _ (c .if2 .taken))
 
 add-d : tie.Need-add-d Inv-loop μ-loop
 add-d c = omega (arith, sound (c .before .before .before .before .before .before .before .before .before))
@@ -74,10 +78,7 @@ loop-less c = omega arith
 loop-again : tie.Need-loop-again Inv-loop μ-loop
 loop-again c =
     let s = c .before .before .before .before .before .before .before .before .before in
-    let d = c .before .before .before .before .before .before .loop .d in
-    let h = c .before .before .before .before .if1 .taken in
-    walking-found (held s .width) (s .pre .1) (c .before .before .before .before .before .before .loop .inv) h refl
-    (subst (λ (l : Layer). PlaceOf l (c .before .before .before .before .before .before .loop .i) (getD (s .args .tuple .now) d 0) (c .before .before .find-place .result)) (layer-words s d h) (c .before .before .find-place .ensures)) (not-false _ (c .if2 .left))
+    walking-found (held s .width) (s .pre .1) (c .before .before .before .before .before .before .loop .inv) (c .before .before .before .before .if1 .taken) refl (place (c .before .before)) (not-false _ (c .if2 .left))
 
 returns-2 : tie.Need-returns-2 Inv-loop μ-loop
 returns-2 c = walking-end (c .before .before .loop .inv) (c .if1 .left)
