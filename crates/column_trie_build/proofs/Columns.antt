@@ -16,7 +16,7 @@ use Rattle.column_trie.specs.declared.ColumnTrie.{ColumnTrie}
 use Rattle.column_trie.proofs.Header.{layer-inside}
 use Rattle.column_trie.proofs.Pool.{Room, store-key, store-interval}
 use Rattle.column_trie_build.specs.Push.{Appends, keyed, opened, Turn, keyCounts, intervalCounts}
-use Rattle.column_trie_build.proofs.Headers.{keys-at, intervals-at, keys-keyed, intervals-keyed, keys-opened, intervals-opened}
+use Rattle.column_trie_build.proofs.Lengths.{keys-at, intervals-at, keys-keyed, intervals-keyed, keys-opened, intervals-opened}
 
 -- ---- layers passed and layers ahead
 
@@ -24,7 +24,7 @@ abbrev pub mid : ℕ → List Layer → List Layer → List Layer
 mid d old new = take d new ++ drop d old
 
 module _ (a : ℕ) (old new : List Layer) (m : length old ≡ a) (n : length new ≡ a) where
-  pub mid-start : (d : ℕ) → d ≤ a → ((e : ℕ) → e < d → layer new e ≡ layer old e) → mid d old new ≡ old
+  mid-start : (d : ℕ) → d ≤ a → ((e : ℕ) → e < d → layer new e ≡ layer old e) → mid d old new ≡ old
   mid-start d h f =
       ap (λ (ls : List Layer). ls ++ drop d old)
       (ext-getD noLayer (take d new) (take d old) (front new n ∙ sym (front old m)) (λ e k. let b : e < d = omega (arith, front new n) in getD-take d new e noLayer b ∙ f e b ∙ sym (getD-take d old e noLayer b)))
@@ -33,17 +33,17 @@ module _ (a : ℕ) (old new : List Layer) (m : length old ≡ a) (n : length new
       front : (ls : List Layer) → length ls ≡ a → length (take d ls) ≡ d
       front ls e = length-take-le d ls (omega arith)
 
-  pub mid-end : mid a old new ≡ new
+  mid-end : mid a old new ≡ new
   mid-end = ap₂ (λ (xs ys : List Layer). xs ++ ys) (take-all a new (omega arith)) (drop-of-length-le old {i = a} (omega arith)) ∙ append-nil new
 
   module _ (d : ℕ) (h : d < a) where
     ahead : mid d old new ≡ take d new ++ (layer old d ∷ drop (suc d) old)
     ahead = ap (λ (ls : List Layer). take d new ++ ls) (drop-cons old d noLayer (omega arith))
 
-    pub mid-at : layer (mid d old new) d ≡ layer old d
+    mid-at : layer (mid d old new) d ≡ layer old d
     mid-at = ap (λ (ls : List Layer). layer ls d) ahead ∙ getD-at (take d new) (layer old d) (drop (suc d) old) noLayer d (length-take-le d new (omega arith))
 
-    pub mid-next : set (mid d old new) d (layer new d) ≡ mid (suc d) old new
+    mid-next : set (mid d old new) d (layer new d) ≡ mid (suc d) old new
     mid-next =
         ap (λ (ls : List Layer). set ls d (layer new d)) ahead
         ∙ set-at (take d new) (layer old d) (drop (suc d) old) (layer new d) d (length-take-le d new (omega arith))
@@ -52,7 +52,7 @@ module _ (a : ℕ) (old new : List Layer) (m : length old ≡ a) (n : length new
 
 -- ---- one key or interval more
 
-pub room-set : (c : ℕ) (ls : List Layer) (d : ℕ) (l : Layer) → Room c ls → length (l .keys) ≤ c → length (l .intervals) ≤ c → Room c (set ls d l)
+room-set : (c : ℕ) (ls : List Layer) (d : ℕ) (l : Layer) → Room c ls → length (l .keys) ≤ c → length (l .intervals) ≤ c → Room c (set ls d l)
 room-set c ls d l r k i e h = go (ℕ-discrete e d)
   where
     b : e < length ls
@@ -75,10 +75,10 @@ module _ {t : ColumnTrie} {pool₀ : List ℕ} {old : List Layer} {pool ks is : 
   inside : d < length ls
   inside = omega (arith, s .size)
 
-  pub keys-held : getD ks d 0 ≡ length (layer ls d .keys)
+  keys-held : getD ks d 0 ≡ length (layer ls d .keys)
   keys-held = ap (λ (ns : List ℕ). getD ns d 0) (s .keys) ∙ keys-at ls d inside
 
-  pub intervals-held : getD is d 0 ≡ length (layer ls d .intervals)
+  intervals-held : getD is d 0 ≡ length (layer ls d .intervals)
   intervals-held = ap (λ (ns : List ℕ). getD ns d 0) (s .intervals) ∙ intervals-at ls d inside
 
   held-key : (k : ℕ) {pool′ ks′ : List ℕ} → length (layer ls d .keys) < t .capacity → Appends pool (spot (t .start) (t .capacity) d) ks d k pool′ ks′ → Held t pool₀ old pool′ ks′ is (set ls d (keyed k (layer ls d)))

@@ -17,7 +17,7 @@ use Rattle.column_trie.specs.Pool.{lay, store}
 use Rattle.column_trie.specs.Table.{padded, emptyTable, tableOf}
 use Rattle.column_trie.specs.declared.ColumnTrie.{ColumnTrie}
 use Rattle.column_trie_build.specs.Push.{keyCounts, intervalCounts, Pushing, Pushes, Filling, Fills}
-use Rattle.column_trie_build.proofs.Headers.{keys-at}
+use Rattle.column_trie_build.proofs.Lengths.{keys-at}
 use Rattle.column_trie_build.proofs.Turns.{layers-size, turn-one, turn-next, turn-equal}
 
 -- ---- no rows

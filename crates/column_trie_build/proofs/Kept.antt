@@ -13,7 +13,7 @@ use Rattle.column_trie.proofs.Pool.{Room, spot-is, lay-out}
 use Rattle.column_trie_build.specs.Build.{rowsStored, Builds}
 use Rattle.column_trie_build.specs.declared.Built.{Built}
 use Rattle.column_trie_build.proofs.Numbers.{Accepted}
-use Rattle.column_trie_build.proofs.Headers.{keys-at, intervals-at}
+use Rattle.column_trie_build.proofs.Lengths.{keys-at, intervals-at}
 use Rattle.column_trie_build.proofs.Leaves.{built-size, built-room, built-accepted, built-pool, built-table, spot-end}
 
 -- a word before a layer, behind its lists, or between them

@@ -25,7 +25,7 @@ use Rattle.column_trie_build.specs.Build.{buildNumber, rowsGiven, rowsSt
 use Rattle.column_trie_build.specs.declared.Built.{Built}
 use Rattle.column_trie_build.proofs.Numbers.{Accepted, accepted}
 use Rattle.column_trie_build.proofs.Given.{length-given, width-given}
-use Rattle.column_trie_build.proofs.Headers.{keys-at, intervals-at, padded-long, padded-past}
+use Rattle.column_trie_build.proofs.Lengths.{keys-at, intervals-at, padded-long, padded-past}
 use Rattle.column_trie_build.proofs.Turns.{layers-size, layers-room}
 use Rattle.column_trie_build.proofs.Outcomes.{if-built}
 
@@ -43,7 +43,7 @@ module _ (s a c : ℕ) (ls : List Layer) (n : ℕ) (pool : List ℕ) (size : len
   last-fits : spot s c (length ls) ≤ length pool
   last-fits = omega (arith, ap (spot s c) size, spot-end s a c)
 
-  pub layers-stored : layersIn (store s c ls pool) (header s a c ls n) ≡ ls
+  layers-stored : layersIn (store s c ls pool) (header s a c ls n) ≡ ls
   layers-stored =
       ext-getD noLayer (layersIn (store s c ls pool) (header s a c ls n)) ls (layers-length (store s c ls pool) (header s a c ls n) whole few ∙ sym size)
       (λ d h. at d (omega (arith, layers-length (store s c ls pool) (header s a c ls n) whole few)))
@@ -70,7 +70,7 @@ module _ (s a c : ℕ) (ls : List Layer) (n : ℕ) (pool : List ℕ) (size : len
           (omega (arith, keys-at ls d b, room d b .0), omega (arith, intervals-at ls d b, room d b .1))
       go (no h) = let z = past d (omega arith) in (omega arith, omega arith)
 
-  pub stored-undamaged : 0 < a → 0 < c → c ≤ maxCapacity → layers.Undamaged a c ls n → Undamaged (store s c ls pool) (header s a c ls n)
+  stored-undamaged : 0 < a → 0 < c → c ≤ maxCapacity → layers.Undamaged a c ls n → Undamaged (store s c ls pool) (header s a c ls n)
   stored-undamaged some roomy small u = record {
     arity = (some, few);
     capacity = (roomy, small);

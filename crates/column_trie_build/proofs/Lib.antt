@@ -5,7 +5,7 @@ pub mod Numbers
 mod Columns
 mod Fill
 mod Given
-mod Headers
+mod Lengths
 mod Outcomes
 mod Shared
 mod Turns

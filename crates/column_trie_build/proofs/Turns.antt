@@ -25,7 +25,7 @@ in-rows (suc n) [] m = absurd (not-in-nil m)
 in-rows (suc n) (r ∷ rs) (hd e) = hd e
 in-rows (suc n) (r ∷ rs) (tl m) = tl (in-rows n rs m)
 
-pub width-take : {a : ℕ} {rows : List Row} (n : ℕ) → Width a rows → Width a (take n rows)
+width-take : {a : ℕ} {rows : List Row} (n : ℕ) → Width a rows → Width a (take n rows)
 width-take {rows = rows} n w q m = w q (in-rows n rows m)
 
 few : (e : ℕ) (rows : List Row) → length (prefixes e rows) ≤ length rows
@@ -34,7 +34,7 @@ few e rows = omega (arith, length-asSet (map (take e) rows), length-map rows (ta
 
 module _ {a : ℕ} {rows : List Row} (w : Width a rows) where
   -- a layer by ranks, which is the form that the steps of a build are proved in
-  pub layer-of : (d : ℕ) → d < a → layer (layersOf a rows) d ≡ rankedAt d rows
+  layer-of : (d : ℕ) → d < a → layer (layersOf a rows) d ≡ rankedAt d rows
   layer-of d h =
       ap (λ (ls : List Layer). layer ls d) (sym (ranked w))
       ∙ layer-from 0 a rows d h
@@ -68,7 +68,6 @@ setting {rows = rows} {i = i} p =
 pub turn-one : {a : ℕ} {rows : List Row} → 0 < a → Width a rows → 0 < length rows → Turn a (layersOf a (take 0 rows)) (layersOf a (take 1 rows)) (getD rows 0 []) 0 0
 turn-one {a} {rows} pos w h = record {
   inside = pos;
-  order = omega arith;
   known = λ d b. absurd (omega arith);
   only = λ d b e. absurd (omega arith);
   under = λ d b e. layer-of (width-take 1 w) d e ∙ one d ∙ ap (λ (l : Layer). keyed (getD (getD rows 0 []) d 0) (opened l)) (sym (layer-of (width-take 0 w) d e ∙ none d));
@@ -101,7 +100,6 @@ module _ {a : ℕ} {rows : List Row} (w : Width a rows) (s : Sorted rows) (i : �
   pub turn-next : shared (getD rows i []) (getD rows (suc i) []) < a → Turn a (layersOf a (take (suc i) rows)) (layersOf a (take (suc (suc i)) rows)) (getD rows (suc i) []) (shared (getD rows i []) (getD rows (suc i) [])) (shared (getD rows i []) (getD rows (suc i) []) + 1)
   turn-next c = record {
     inside = c;
-    order = omega arith;
     known = λ d k. same-layer d k (omega arith);
     only = λ d k l b. layer-of new d b ∙ first d k l b ∙ ap (keyed (getD (getD rows (suc i) []) d 0)) (sym (layer-of old d b));
     under = λ d k b. layer-of new d b ∙ later d k b ∙ ap (λ (l : Layer). keyed (getD (getD rows (suc i) []) d 0) (opened l)) (sym (layer-of old d b));

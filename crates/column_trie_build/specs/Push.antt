@@ -26,7 +26,6 @@ opened l = record { keys = l .keys; intervals = l .intervals ++ (length (l .keys
 -- what one more row does to layers of arity a: below column `from` nothing, then a key for each column, from column `opens` on under a new interval
 pub record Turn (a : ℕ) (old new : List Layer) (row : Row) (from opens : ℕ) : Type 0 where
   pub inside : from < a
-  pub order : from ≤ opens
   pub known : (d : ℕ) → d < from → layer new d ≡ layer old d
   pub only : (d : ℕ) → from ≤ d → d < opens → d < a → layer new d ≡ keyed (getD row d 0) (layer old d)
   pub under : (d : ℕ) → opens ≤ d → d < a → layer new d ≡ keyed (getD row d 0) (opened (layer old d))

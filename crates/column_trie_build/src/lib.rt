@@ -57,7 +57,8 @@ fn append(
     len[d] = n + 1;
 }
 
-// Appends the keys of row i from column `from` on, those from column `opens` on under a new interval, which starts at the end of its layer's keys.
+// Appends the keys of row i from column `from` on, those from column `opens` on under a new interval, which begins at the end of its layer's keys.
+// The table lies where t says, and its lengths are those lent.
 fn push_row(
     pool: &mut [u64],
     t: ColumnTrie,
@@ -77,8 +78,8 @@ fn push_row(
     while d < arity {
         let at = layer_at(t, d);
         if opens <= d {
-            let key = data_len[d] as u64;
-            append(pool, at + t.capacity, interval_len, d, key);
+            let begin = data_len[d] as u64;
+            append(pool, at + t.capacity, interval_len, d, begin);
         }
         append(pool, at, data_len, d, rows[x + d]);
         d += 1;
@@ -109,6 +110,7 @@ fn from_sorted(pool: &mut [u64], t: ColumnTrie, rows: &[u64]) -> ColumnTrie
         }
         i += 1;
     }
+    // a stored row has a key of its own in the last layer
     let tuple_count = data_len[arity - 1];
     ColumnTrie {
         start: t.start,

@@ -1,8 +1,7 @@
 -- `column_trie_build::from_sorted` meets its contract. The loop's invariant: the table holds the first i rows. The measure is the rows left.
 use Prim.Native.Nat.{ℕ, _+_, _-_, _/_, _<_}
-use mathlib.Core.Path.{_≡_, sym, _∙_, subst}
+use mathlib.Core.Path.{sym, _∙_, subst}
 use mathlib.Core.Logic.{⊎-elim}
-use mathlib.Core.List.{List}
 use native.Mathlib.Omega.{arith}
 use lib.ListN.{length}
 use Rattle.relation.specs.Rows.{Width}

@@ -53,11 +53,11 @@ layer-at-requires c κs =
     let s = c .before .before .before .before in
     (omega (arith, s .pre .fits, s .good), s .pre .small, omega (arith, s .pre .few, c .loop-test .taken))
 
-mul-key : tie.Need-mul-key Inv-loop μ-loop
-mul-key c = omega (arith, c .before .before .before .before .before .before .pre .few, c .before .before .loop-test .taken)
+mul-begin : tie.Need-mul-begin Inv-loop μ-loop
+mul-begin c = omega (arith, c .before .before .before .before .before .before .pre .few, c .before .before .loop-test .taken)
 
-element-copy-out-key : tie.Need-element-copy-out-key Inv-loop μ-loop
-element-copy-out-key c = omega (arith, c .before .before .before .before .before .before .pre .few, c .before .before .loop-test .taken)
+element-copy-out-begin : tie.Need-element-copy-out-begin Inv-loop μ-loop
+element-copy-out-begin c = omega (arith, c .before .before .before .before .before .before .pre .few, c .before .before .loop-test .taken)
 
 add-append : tie.Need-add-append Inv-loop μ-loop
 add-append c =
@@ -123,8 +123,8 @@ push-row-spec =
     mul-x
     loop-holds
     layer-at-requires
-    mul-key
-    element-copy-out-key
+    mul-begin
+    element-copy-out-begin
     add-append
     append-requires
     add-append-2

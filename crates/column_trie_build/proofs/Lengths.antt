@@ -17,19 +17,19 @@ map-set {B = B} f (y ∷ ys) (suc i) x = ap {B = List B} (λ l. f y ∷ l) (map-
 
 -- an entry of a header's array, and one that is stored
 module _ (f : Layer → ℕ) (none : f noLayer ≡ 0) (ls : List Layer) (d : ℕ) (h : d < length ls) where
-  pub padded-at : getD (padded (map f ls)) d 0 ≡ f (layer ls d)
+  padded-at : getD (padded (map f ls)) d 0 ≡ f (layer ls d)
   padded-at =
       List·getD-append (map f ls) (replicate (maxArity - length (map f ls)) 0) 0 d (omega (arith, length-map ls f))
       ∙ ap (getD (map f ls) d) (sym none)
       ∙ List·getD-map f ls d noLayer
 
-  pub padded-set : (l : Layer) → padded (map f (set ls d l)) ≡ set (padded (map f ls)) d (f l)
+  padded-set : (l : Layer) → padded (map f (set ls d l)) ≡ set (padded (map f ls)) d (f l)
   padded-set l =
       ap padded (map-set f ls d l)
       ∙ ap (λ (n : ℕ). set (map f ls) d (f l) ++ replicate (maxArity - n) 0) (length-set (map f ls) d (f l))
       ∙ sym (set-append-left (map f ls) (replicate (maxArity - length (map f ls)) 0) d (f l) (omega (arith, length-map ls f)))
 
-  pub padded-same : (l : Layer) → f l ≡ f (layer ls d) → padded (map f (set ls d l)) ≡ padded (map f ls)
+  padded-same : (l : Layer) → f l ≡ f (layer ls d) → padded (map f (set ls d l)) ≡ padded (map f ls)
   padded-same l e = ap padded (map-set-same f ls d l noLayer e)
 
 -- a header's array has an entry for each depth, 0 past the last layer
