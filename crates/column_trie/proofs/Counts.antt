@@ -12,7 +12,7 @@ use lib.Dec.{leb, eqb}
 use borrow.Author.Tests.{le-leb, lt-leb, leb-false, eqb-true, eqb-false}
 use Rattle.relation.specs.Order.{pick}
 use Rattle.relation.specs.Undamaged.{Ordered, sound}
-use Rattle.relation.proofs.Undamaged.{sound→, →sound, sound-ordered, ordered-sound}
+use Rattle.relation.proofs.Walks.{sound→, →sound, sound-ordered, ordered-sound}
 use Rattle.relation.proofs.Tests.{T-true, true-T}
 use Rattle.column_trie.specs.Falls.{fallAt, fallsIn}
 use Rattle.column_trie.proofs.Words.{getD-any}

@@ -8,7 +8,7 @@ use lib.ListN.{length, take, getD, replicate, length-replicate, replicate-append
 use lib.Seq.{take-all}
 use Rattle.relation.specs.Order.{Row}
 use Rattle.relation.specs.Rows.{asSet, Sorted, Width, distinct}
-use Rattle.relation.specs.Layers.{Layer, layer, noLayer, prefixes, groupsAt, joined, starts, layerAt, layersFrom, layersOf}
+use Rattle.relation.specs.Layers.{Layer, noLayer, prefixes, groupsAt, joined, starts, layerAt, layersFrom, layersOf}
 use Rattle.relation.proofs.Order.{shared}
 use Rattle.relation.proofs.Sorting.{distinct-members, distinct-asc}
 use Rattle.relation.proofs.Tables.{layers-members, layers-undamaged}
@@ -37,11 +37,6 @@ no-lengths f e n h =
     zeros : (m : ℕ) → map f (replicate m noLayer) ≡ replicate m 0
     zeros zero = refl
     zeros (suc m) = ap₂ {C = List ℕ} (λ x xs. x ∷ xs) e (zeros m)
-
-no-layer : (n d : ℕ) → layer (replicate n noLayer) d ≡ noLayer
-no-layer zero d = refl
-no-layer (suc n) zero = refl
-no-layer (suc n) (suc d) = no-layer n d
 
 store-none : (at c n : ℕ) (pool : List ℕ) → store at c (replicate n noLayer) pool ≡ pool
 unfolding store lay

@@ -1,5 +1,5 @@
 -- What one more row of a sorted list does to the layers: the first row, a later one, and one that is equal to the row before it.
-use Prim.Native.Nat.{ℕ, zero, suc, _+_, _-_, _≤_, _<_}
+use Prim.Native.Nat.{ℕ, zero, suc, _+_, _≤_, _<_}
 use mathlib.Core.Path.{_≡_, sym, ap, _∙_}
 use mathlib.Core.List.{List, [], _∷_, map}
 use native.Mathlib.Omega.{arith}
@@ -12,7 +12,8 @@ use Rattle.relation.specs.Layers.{Layer, layer, noLayer, prefixes, layersOf}
 use Rattle.relation.proofs.Order.{shared}
 use Rattle.relation.proofs.Sorting.{length-asSet}
 use Rattle.relation.proofs.Layers.{rankedAt, length-keys, length-intervals, build-one, build-none}
-use Rattle.relation.proofs.Paths.{layer-from, length-layers}
+use Rattle.relation.proofs.Paths.{layer-from}
+use Rattle.relation.proofs.Relations.{length-layers}
 use Rattle.relation.proofs.Words.{turn-known, turn-keys, turn-first, turn-new}
 use Rattle.relation.proofs.Tables.{ranked}
 use Rattle.column_trie.specs.declared.ColumnTrie.{ColumnTrie}

@@ -1,8 +1,8 @@
 // Builds a table in the pool from rows of words: the port of building from tuples of kermit-ds/src/ds/column_trie/implementation.rs of the Rust.
 //
 // The public call is `build`. Its answer, the rows that it sorts and every word of the pool are those that specs/Build.antt gives, for any
-// arguments: nothing is asked of them. An accepted build leaves an undamaged table of the set of the rows (proofs/Leaves.antt). The Rust inserts
-// row after row; here the rows are sorted once and laid in one pass.
+// arguments: nothing is asked of them. An accepted build leaves an undamaged table of the set of the rows (proofs/Leaves.antt). As in the Rust's bulk
+// build the sorted rows are laid in one pass; the Rust sorts a copy of them, here they are sorted where they lie.
 use column_trie::ColumnTrie;
 use column_trie::arity_ok;
 use column_trie::capacity_ok;

@@ -1,6 +1,6 @@
 -- Into the loop that adds a row: what is required says that the table has room and lacks the row, and that the loop starts where the row leaves the
 -- stored ones, or at the top of a table without rows.
-use Prim.Native.Nat.{ℕ, suc, _-_, _<_}
+use Prim.Native.Nat.{ℕ, suc, _<_}
 use mathlib.Core.Path.{_≡_, refl, sym, ap, ap₂, subst, _∙_}
 use mathlib.Core.Bool.{Bool, true, false}
 use mathlib.Core.List.{List, [], _∷_}
@@ -14,7 +14,7 @@ use Rattle.relation.specs.Lists.{_∈_, not-in-nil}
 use Rattle.relation.specs.Layers.{Layer, prefixes}
 use Rattle.relation.proofs.Tests.{not-both}
 use Rattle.relation.proofs.Rank.{rank-le}
-use Rattle.relation.proofs.Paths.{length-prefixes}
+use Rattle.relation.proofs.Relations.{length-prefixes}
 use Rattle.relation.proofs.Insert.{Stored, stored-below, stored-whole, no-root}
 use Rattle.column_trie.specs.Pool.{store}
 use Rattle.column_trie.specs.Table.{header, rowsIn}

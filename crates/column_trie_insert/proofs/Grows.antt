@@ -1,6 +1,6 @@
 -- A layer that gains a key, by two shifts of words: the first changes the keys alone, so the second finds the intervals as they were, and the two
 -- together are the layer with its key, laid anew.
-use Prim.Native.Nat.{ℕ, suc, _+_, _-_, _≤_, _<_, _^_}
+use Prim.Native.Nat.{ℕ, suc, _+_, _≤_, _<_, _^_}
 use mathlib.Core.Path.{_≡_, sym, ap, ap₂, subst, _∙_}
 use mathlib.Core.Bool.{Bool, true, false}
 use mathlib.Core.Logic.{inr}

@@ -1,6 +1,6 @@
 -- What an insert means: the contract determines everything, an accepted tuple leaves the table that a build over the old rows and the new one leaves,
 -- and so does any sequence of accepted tuples.
-use Prim.Native.Nat.{ℕ, _+_, _≤_}
+use Prim.Native.Nat.{ℕ, _≤_}
 use mathlib.Core.Path.{_≡_, refl, sym, ap, ap₂, subst, _∙_}
 use mathlib.Core.Bool.{Bool, true, false, not, _&&_}
 use mathlib.Core.Logic.{⊎-elim}

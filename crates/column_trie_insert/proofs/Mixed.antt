@@ -1,6 +1,6 @@
 -- The layers of a table half-way through an insert: above depth d those of the rows with the new one, from d on those without it. One layer further
 -- each turn; at the first layer that changes they are all the old ones, behind the last all the new ones.
-use Prim.Native.Nat.{ℕ, zero, suc, _+_, _-_, _≤_, _<_}
+use Prim.Native.Nat.{ℕ, zero, suc, _+_, _≤_, _<_}
 use mathlib.Core.Path.{_≡_, refl, sym, ap, ap₂, _∙_}
 use mathlib.Core.Bool.{Bool}
 use mathlib.Core.List.{List, [], _∷_}
@@ -14,7 +14,8 @@ use Rattle.relation.specs.Order.{Row, pick}
 use Rattle.relation.specs.Rows.{Width, put}
 use Rattle.relation.specs.Layers.{Layer, layer, noLayer, layersOf}
 use Rattle.relation.proofs.Layers.{rankedAt}
-use Rattle.relation.proofs.Paths.{rankedFrom, layer-from, length-layers}
+use Rattle.relation.proofs.Paths.{rankedFrom, layer-from}
+use Rattle.relation.proofs.Relations.{length-layers}
 use Rattle.relation.proofs.Insert.{Stored, insert-known, put-width}
 use Rattle.relation.proofs.Tables.{ranked}
 

@@ -44,7 +44,7 @@ pub record Raising (pool₀ : List ℕ) (lo hi : ℕ) (pool : List ℕ) (i : ℕ
   pub low : lo ≤ i
   pub high : i ≤ hi
   pub long : length pool ≡ length pool₀
-  pub raised : (j : ℕ) → lo ≤ j → j < i → getD pool j 0 ≡ suc (getD pool₀ j 0)
+  raised : (j : ℕ) → lo ≤ j → j < i → getD pool j 0 ≡ suc (getD pool₀ j 0)
   pub stays : (j : ℕ) → (j < lo) ⊎ (i ≤ j) → getD pool j 0 ≡ getD pool₀ j 0
 
 pub raising-start : (pool : List ℕ) (lo hi : ℕ) → lo ≤ hi → Raising pool lo hi pool lo

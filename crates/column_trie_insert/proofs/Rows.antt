@@ -12,11 +12,11 @@ use lib.ListN.{length, take, getD, set}
 use Rattle.relation.specs.Order.{Row, pick, before}
 use Rattle.relation.specs.Lists.{_∈_}
 use Rattle.relation.specs.Rows.{put}
-use Rattle.relation.specs.Layers.{Layer, layer, noLayer, layersOf, prefixes}
+use Rattle.relation.specs.Layers.{Layer, layer, layersOf, prefixes}
 use Rattle.relation.proofs.Tests.{not-both}
 use Rattle.relation.proofs.Rank.{rank-at, rank-le}
 use Rattle.relation.proofs.Layers.{keysAt, intervalsAt, rankedAt, length-keys, length-intervals, prefixes-asc, prefixes-grown, grown-put}
-use Rattle.relation.proofs.Paths.{length-prefixes}
+use Rattle.relation.proofs.Relations.{length-prefixes}
 use Rattle.relation.proofs.Children.{begin-is}
 use Rattle.relation.proofs.Insert.{Stored, number, insert-key, insert-first, insert-new, insert-count, below}
 use Rattle.column_trie.specs.Pool.{store, spot}

@@ -14,8 +14,8 @@ use Rattle.relation.specs.Layers.{prefixes}
 use Rattle.relation.specs.Undamaged.{Ordered}
 use Rattle.relation.proofs.Rank.{rank-at}
 use Rattle.relation.proofs.Layers.{keysAt, intervalsAt, rankedAt, length-intervals, prefixes-asc}
-use Rattle.relation.proofs.Undamaged.{sound-ordered}
-use Rattle.relation.proofs.Paths.{between-prefixes}
+use Rattle.relation.proofs.Walks.{sound-ordered}
+use Rattle.relation.proofs.Relations.{between-prefixes}
 use Rattle.relation.proofs.Children.{end-le}
 use Rattle.relation.proofs.Insert.{Stored, number, descend, branch, root}
 use Rattle.column_trie.proofs.Words.{getD-any}

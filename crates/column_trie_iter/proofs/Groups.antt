@@ -1,8 +1,8 @@
 -- The group of an interval, as the code finds it in the pool.
-use Prim.Native.Nat.{ℕ, zero, suc, _+_, _-_, _≤_, _<_}
-use mathlib.Core.Path.{_≡_, refl, sym, ap, _∙_}
+use Prim.Native.Nat.{ℕ, suc, _+_, _-_, _≤_, _<_}
+use mathlib.Core.Path.{_≡_, sym, ap, _∙_}
 use mathlib.Core.Bool.{true}
-use mathlib.Core.List.{List, [], _∷_}
+use mathlib.Core.List.{List}
 use native.Mathlib.Omega.{arith}
 use native.Mathlib.Numerals.{add-one}
 use lib.ListN.{length, getD, take, drop}
@@ -14,12 +14,6 @@ use Rattle.column_trie.specs.declared.ColumnTrie.{ColumnTrie}
 use Rattle.column_trie.proofs.Header.{LayerFits, length-part}
 use Rattle.column_trie_iter.specs.Cursor.{groupFrom, groupTo, lies}
 use Rattle.column_trie_iter.specs.Inside.{outside, groupOf}
-
--- inside a list what stands for the elements past its end does not matter
-pub getD-any : (l : List ℕ) (i x y : ℕ) → i < length l → getD l i x ≡ getD l i y
-getD-any [] i x y h = absurd (omega arith)
-getD-any (k ∷ l) zero x y h = refl
-getD-any (k ∷ l) (suc i) x y h = getD-any l i x y (omega arith)
 
 module _ (l : Layer) (i : ℕ) where
   pub unlisted : length (l .intervals) ≤ i → outside ≡ groupOf l i

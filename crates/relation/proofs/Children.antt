@@ -16,7 +16,8 @@ use Rattle.relation.proofs.Order.{pick-true, pick-false, test, irrefl, 
 use Rattle.relation.proofs.Sorting.{same→eq, same-refl}
 use Rattle.relation.proofs.Rank.{rank, rank-lt, rank-not, rank-le, rank-at, startsIn, length-starts}
 use Rattle.relation.proofs.Layers.{keysAt, intervalsAt, prefixes-asc, prefixes-width, length-keys, parent-in}
-use Rattle.relation.proofs.Paths.{word-snoc, word-snoc-inv, snoc-mono, snoc-form}
+use Rattle.relation.proofs.Paths.{word-snoc, word-snoc-inv, snoc-mono}
+use Rattle.relation.proofs.Relations.{snoc-form}
 
 pub in-getD : (qs : List Row) (j : ℕ) → j < length qs → getD qs j [] ∈ qs
 in-getD [] j h = absurd (omega arith)

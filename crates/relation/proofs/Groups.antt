@@ -11,8 +11,8 @@ use Rattle.relation.specs.Layers.{prefixes, starts, keysUnder, joined, g
 use Rattle.relation.specs.Rows.{Width}
 use Rattle.relation.specs.Undamaged.{Ordered}
 use Rattle.relation.proofs.Layers.{keysAt, intervalsAt, length-intervals}
-use Rattle.relation.proofs.Undamaged.{sound-ordered, sound-empty}
-use Rattle.relation.proofs.Paths.{between-prefixes}
+use Rattle.relation.proofs.Walks.{sound-ordered, sound-empty}
+use Rattle.relation.proofs.Relations.{between-prefixes}
 use Rattle.relation.proofs.Children.{end-le, group-keys}
 
 -- the groups between the starts

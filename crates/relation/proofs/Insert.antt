@@ -14,7 +14,8 @@ use Rattle.relation.proofs.Order.{irrefl}
 use Rattle.relation.proofs.Sorting.{in-put}
 use Rattle.relation.proofs.Rank.{rank, ins, bump, rank-not, rank-le, rank-end, put-ins, rank-at, ins-bump, length-ins}
 use Rattle.relation.proofs.Layers.{keysAt, intervalsAt, prefix-of, prefix-in, prefixes-asc, prefixes-width, prefixes-full, layer-cong, length-keys, length-intervals, parent-in, grown-put, known-shorter, snoc-take, step-known, step-keys, step-first, step-new, new-place, rankedAt}
-use Rattle.relation.proofs.Paths.{roots, rankedFrom}
+use Rattle.relation.proofs.Paths.{rankedFrom}
+use Rattle.relation.proofs.Relations.{roots}
 use Rattle.relation.proofs.Children.{found-place, new-at, key-at, begin-is, end-is, end-le}
 
 -- layers depend on the members alone: a build may take the rows as given, sorted, or distinct

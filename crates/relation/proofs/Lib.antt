@@ -5,8 +5,10 @@ pub mod Runs
 pub mod Sorting
 pub mod Rank
 pub mod Layers
+pub mod Walks
 pub mod Undamaged
 pub mod Paths
+pub mod Relations
 pub mod Children
 pub mod Groups
 pub mod Insert

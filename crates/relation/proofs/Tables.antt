@@ -12,7 +12,8 @@ use Rattle.relation.specs.Layers.{Layer, joined, starts, groupsAt, layer
 use Rattle.relation.specs.Undamaged.{Undamaged}
 use Rattle.relation.specs.Paths.{rowsOf}
 use Rattle.relation.proofs.Layers.{keysAt, intervalsAt, rankedAt}
-use Rattle.relation.proofs.Paths.{rankedFrom, undamaged-held, undamaged-count, relation-rows, relation-undamaged}
+use Rattle.relation.proofs.Paths.{rankedFrom, undamaged-held, undamaged-count}
+use Rattle.relation.proofs.Relations.{relation-rows, relation-undamaged}
 use Rattle.relation.proofs.Groups.{layer-groups}
 use Rattle.relation.proofs.Insert.{layers-cong}
 

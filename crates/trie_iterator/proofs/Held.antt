@@ -20,9 +20,10 @@ use Rattle.relation.specs.Undamaged as layers
 use Rattle.relation.specs.Undamaged.{Ordered}
 use Rattle.relation.proofs.Tests.{and-left, and-true}
 use Rattle.relation.proofs.Layers.{keysAt, intervalsAt, rankedAt, length-intervals, length-keys, prefixes-asc, prefixes-width, parent-in}
-use Rattle.relation.proofs.Undamaged.{sound-ordered}
+use Rattle.relation.proofs.Walks.{sound-ordered}
 use Rattle.relation.proofs.Children.{group-row, key-at, begin-is, end-is, end-le, group-keys}
-use Rattle.relation.proofs.Paths.{layer-from, between-prefixes}
+use Rattle.relation.proofs.Paths.{layer-from}
+use Rattle.relation.proofs.Relations.{between-prefixes}
 use Rattle.relation.proofs.Tables.{ranked, ranked-at, every-undamaged-table-is-what-a-build-of-its-own-rows-leaves}
 use Rattle.column_trie.specs.Limits.{maxArity}
 use Rattle.column_trie.specs.Pool.{reads}
@@ -31,7 +32,7 @@ use Rattle.column_trie.specs.declared.ColumnTrie.{ColumnTrie}
 use Rattle.column_trie.proofs.Layers.{reads-at}
 use Rattle.column_trie.proofs.Damage.{told-undamaged}
 use Rattle.column_trie_iter.specs.Cursor.{groupFrom, groupTo, keysOf, lies, countUpTo}
-use Rattle.column_trie_iter.proofs.Groups.{getD-any}
+use Rattle.column_trie.proofs.Words.{getD-any}
 use Rattle.seek.specs.Offset.{NonFalling}
 use Rattle.seek.proofs.Laws.{leading-one, binary-leading}
 use Rattle.trie_iterator.specs.Cursor.{Layered}

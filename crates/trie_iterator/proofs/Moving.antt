@@ -16,7 +16,7 @@ use Rattle.relation.proofs.Tests.{and-left, and-right, not-both}
 use Rattle.relation.proofs.Rank.{rank, rank-at}
 use Rattle.relation.proofs.Children.{rank-of, in-getD}
 use Rattle.relation.proofs.Layers.{prefixes-asc, prefixes-width, prefix-in}
-use Rattle.relation.proofs.Paths.{length-prefixes, roots}
+use Rattle.relation.proofs.Relations.{length-prefixes, roots}
 use Rattle.column_trie.specs.Table.{layerIn}
 use Rattle.column_trie.proofs.Header.{header-told}
 use Rattle.column_trie.specs.declared.ColumnTrie.{ColumnTrie}

@@ -2,7 +2,7 @@
 use mathlib.Core.Path.{sym}
 use lib.ListN.{List·getD-eq-default}
 use borrow.Author.Needs.{needs}
-use Rattle.column_trie_iter.proofs.Groups.{getD-any}
+use Rattle.column_trie.proofs.Words.{getD-any}
 use Rattle.column_trie_iter.proofs.start_or.Statement.{statement}
 use Rattle.column_trie_iter.proofs.start_or.Tie as tie
 
