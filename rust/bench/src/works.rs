@@ -3,6 +3,8 @@ use crate::data::{self, Words};
 use crate::times::{timed, Work};
 use ducatbriar::calls::{self, Atom, Query, SeekStrategy, Tables};
 use oracle::{BinarySeek, ColumnTrie, ExecutedQuery, GallopingSeek, JoinAlgo, LeapfrogTriejoin, LinearSeek, Relation, Tuples};
+use std::hint::black_box;
+use std::time::Duration;
 
 const CAPACITY: usize = 4096;
 
@@ -50,38 +52,60 @@ fn build(shape: &'static str, count: usize) -> Work {
     }
 }
 
-/// 64 new rows into a table that lacks just these.
-fn insert(shape: &'static str, count: usize) -> Work {
+/// A table, and 64 new rows that it lacks.
+struct Growing {
+    new: Vec<[u64; 2]>,
+    old: Vec<[u64; 2]>,
+    pool: Vec<u64>,
+    table: calls::ColumnTrie,
+}
+
+fn growing(shape: &str, count: usize) -> Growing {
     let rows = data::rows(shape, count, 0);
-    let (new, old) = rows.split_at(64);
-    let (new, old) = (new.to_vec(), old.to_vec());
-    let theirs: Vec<[usize; 2]> = new.iter().map(|row| row.map(|key| key as usize)).collect();
+    let (new, old) = (rows[..64].to_vec(), rows[64..].to_vec());
     let (pool, tables) = tables(&[old.clone()]);
+    Growing { new, old, pool, table: tables.tables[0] }
+}
+
+/// kermit's side of the inserts.
+fn their_inserts(new: &[[u64; 2]], old: Vec<[u64; 2]>) -> Box<dyn FnMut() -> Duration> {
+    let new: Vec<[usize; 2]> = new.iter().map(|row| row.map(|key| key as usize)).collect();
+    Box::new(move || {
+        timed(
+            || trie::<GallopingSeek>(&old),
+            |mut trie| {
+                new.iter().for_each(|row| trie.insert(row));
+                trie
+            },
+        )
+    })
+}
+
+fn insert(shape: &'static str, count: usize) -> Work {
+    let Growing { new, old, pool, table } = growing(shape, count);
     Work {
         name: "insert, 64 rows",
         data: shape,
         strategy: "",
-        kermit: Box::new(move || {
-            timed(
-                || trie::<GallopingSeek>(&old),
-                |mut trie| {
-                    theirs.iter().for_each(|row| trie.insert(row));
-                    trie
-                },
-            )
-        }),
+        kermit: their_inserts(&new, old),
         ours: Box::new(move || {
             timed(
-                || (pool.clone(), tables.tables[0]),
-                |(mut pool, mut table)| {
-                    for row in &new {
-                        let inserted = calls::insert(&mut pool, table, row);
-                        table = inserted.table;
-                    }
-                    table
-                },
+                || (pool.clone(), table),
+                |(mut pool, table)| new.iter().fold(table, |table, row| calls::insert(&mut pool, table, row).table),
             )
         }),
+    }
+}
+
+/// Our side is what each insert does first, and kermit's does not: to look whether the table is damaged.
+fn check(shape: &'static str, count: usize) -> Work {
+    let Growing { new, old, pool, table } = growing(shape, count);
+    Work {
+        name: "the check alone, 64 times",
+        data: shape,
+        strategy: "",
+        kermit: their_inserts(&new, old),
+        ours: Box::new(move || timed(|| (), |()| (0..64).all(|_| calls::undamaged(black_box(&pool), table)))),
     }
 }
 
@@ -184,6 +208,7 @@ fn triangle<S: oracle::SeekStrategy>(name: &'static str, strategy: SeekStrategy,
 pub fn all(rows: usize) -> Vec<Work> {
     let mut all: Vec<Work> = data::SHAPES.map(|shape| build(shape, rows)).into();
     all.extend(data::SHAPES.map(|shape| insert(shape, rows)));
+    all.extend(data::SHAPES.map(|shape| check(shape, rows)));
     for (data, step) in [("every key", 1), ("one of 8", 8), ("one of 64", 64)] {
         all.push(seek::<LinearSeek>("linear", SeekStrategy::Linear, data, step, rows));
         all.push(seek::<BinarySeek>("binary", SeekStrategy::Binary, data, step, rows));
