@@ -3,6 +3,9 @@
 //
 // The runs lie in one pool. Atom a stands at pool[at[a]], and its run ends before end[a]. The ring's first k entries are the atoms that take part;
 // p is a place of the ring. From p round, the keys on which the atoms stand do not fall: the atom at p has the least, the one before it the greatest.
+//
+// Each of `leapfrog_init`, `_search`, `_next` and `_seek` leaves the atoms on the first key not passed that all have, or says that there is none
+// (specs/Leapfrog.antt, `Left`).
 ghost use mathlib.Core.Path.{_≡_};
 ghost use mathlib.Core.List.{[], _∷_, _++_};
 ghost use Prim.Native.Nat.{_+_, _<_, _≤_};
