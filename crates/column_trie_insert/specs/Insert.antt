@@ -33,9 +33,16 @@ unfoldable pub takesIn : List ℕ → ColumnTrie → Row → Bool
 unfolding insertNumber
 takesIn pool t tuple = eqb (insertNumber pool t tuple) 0 && not (known (rowsIn pool t) tuple)
 
--- A new tuple: the layers of the rows with it, stored over the pool, and their header. Anything else, refused or there already, changes nothing
+-- A new tuple: the header of the rows with it, and their layers stored over the pool. Anything else, refused or there already, changes nothing
+abbrev pub tableLeft : List ℕ → ColumnTrie → Row → ColumnTrie
+tableLeft pool t tuple = pick (takesIn pool t tuple) (tableOf (t .start) (t .arity) (t .capacity) (put tuple (rowsIn pool t))) t
+
+abbrev pub poolLeft : List ℕ → ColumnTrie → Row → List ℕ
+poolLeft pool t tuple = pick (takesIn pool t tuple) (store (t .start) (t .capacity) (layersOf (t .arity) (put tuple (rowsIn pool t))) pool) pool
+
+-- what an insert answers and leaves
 pub record Inserts (pool pool′ : List ℕ) (t : ColumnTrie) (tuple : Row) (r : Inserted) : Type 0 where
   pub number : r .number ≡ insertNumber pool t tuple
   pub is-new : r .«is_new» ≡ takesIn pool t tuple
-  pub table : r .table ≡ pick (takesIn pool t tuple) (tableOf (t .start) (t .arity) (t .capacity) (put tuple (rowsIn pool t))) t
-  pub words : pool′ ≡ pick (takesIn pool t tuple) (store (t .start) (t .capacity) (layersOf (t .arity) (put tuple (rowsIn pool t))) pool) pool
+  pub table : r .table ≡ tableLeft pool t tuple
+  pub words : pool′ ≡ poolLeft pool t tuple

@@ -3,18 +3,15 @@ use Prim.Native.Nat.{ℕ}
 use mathlib.Core.Bool.{Bool, false}
 use mathlib.Core.List.{List, [], _∷_}
 use lib.IntN.{ℤ, negsuc}
-use Rattle.relation.specs.Order.{Row, pick}
-use Rattle.relation.specs.Layers.{layersOf}
-use Rattle.relation.specs.Rows.{put}
+use Rattle.relation.specs.Order.{Row}
 use Rattle.seek.specs.Seek.{seekOf}
 use Rattle.seek.specs.declared.SeekStrategy.{SeekStrategy}
 use Rattle.seek.specs.declared.SeekStrategy.the-variants.{Linear, Binary, Galloping}
 use Rattle.grade.specs.Word.{wordOf}
-use Rattle.column_trie.specs.Pool.{store}
-use Rattle.column_trie.specs.Table.{rowsIn, tableOf}
 use Rattle.column_trie.specs.declared.ColumnTrie.{ColumnTrie}
 use Rattle.column_trie_build.specs.Build.{builtAnswer, poolLeft}
 use Rattle.column_trie_insert.specs.Insert.{insertNumber, takesIn}
+use Rattle.column_trie_insert.specs.Insert as inserts
 use Rattle.column_trie_iter.specs.Cursor.{cursor, keyOf, openOf, upOf, remaining}
 use Rattle.column_trie_iter.specs.declared.ColumnTrieIter.{ColumnTrieIter}
 use Rattle.leapfrog_triejoin.specs.Outcome.{outcome}
@@ -53,10 +50,7 @@ pub data Comes : Type 0 where
 abbrev pub comes : Asked → Comes
 comes (Build rows pool start arity capacity) =
     Table (builtAnswer rows pool start arity capacity .number) (builtAnswer rows pool start arity capacity .table) (poolLeft rows pool start arity capacity)
-comes (Insert pool t tuple) =
-    New (insertNumber pool t tuple) (takesIn pool t tuple)
-    (pick (takesIn pool t tuple) (tableOf (t .start) (t .arity) (t .capacity) (put tuple (rowsIn pool t))) t)
-    (pick (takesIn pool t tuple) (store (t .start) (t .capacity) (layersOf (t .arity) (put tuple (rowsIn pool t))) pool) pool)
+comes (Insert pool t tuple) = New (insertNumber pool t tuple) (takesIn pool t tuple) (inserts.tableLeft pool t tuple) (inserts.poolLeft pool t tuple)
 comes (Open pool t it) = Run (openOf pool t it .number) (openOf pool t it .iter) (remaining pool t (openOf pool t it .iter))
 comes (Up pool t it) = Key (upOf pool t it .number) (upOf pool t it .iter) (keyOf pool t (upOf pool t it .iter) .key)
 comes (Seek s run target) = Sought (seekOf s run target .offset) (seekOf s run target .probes)
