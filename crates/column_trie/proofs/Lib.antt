@@ -2,6 +2,7 @@ mod Counting
 mod Counts
 pub mod Damage
 pub mod Header
+pub mod Kept
 pub mod Layers
 pub mod Pool
 pub mod Stored

@@ -55,7 +55,7 @@ padded-own ns a e h z =
     go d k (no b) = z d (omega arith) (omega arith) ∙ sym (padded-past (take a ns) d (omega (arith, l)))
 
 -- where the table ends
-spot-end : (start a c : ℕ) → spot start c a ≡ start + 2 * a * c
+pub spot-end : (start a c : ℕ) → spot start c a ≡ start + 2 * a * c
 spot-end start a c =
     let e : c + c ≡ 2 * c = omega arith in
     spot-is start c a ∙ ap (λ (n : ℕ). start + n) (ap (λ (n : ℕ). a * n) e ∙ sym (mul-assoc a 2 c) ∙ ap (λ (n : ℕ). n * c) (mul-comm a 2))

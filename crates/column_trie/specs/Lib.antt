@@ -1,4 +1,5 @@
 pub mod Falls
+pub mod Kept
 pub mod Limits
 pub mod Pool
 pub mod Table

@@ -1,10 +1,9 @@
 -- "Build leaves the layers of the set of rows": the table of an accepted build is undamaged, and its rows are those given, ascending, each once.
-use Prim.Native.Nat.{ℕ, zero, suc, _+_, _*_, _≤_, _<_}
+use Prim.Native.Nat.{ℕ, _+_, _*_, _≤_, _<_}
 use mathlib.Core.Path.{_≡_, sym, ap, ap₂, _∙_, subst, subst₂}
 use mathlib.Core.List.{List}
 use native.Mathlib.Omega.{arith}
 use native.Mathlib.Decide.{decLt}
-use native.Mathlib.Nat.{zero-mul, suc-mul}
 use lib.ListN.{length, take, drop}
 use lib.Seq.{ext-getD}
 use Rattle.relation.specs.Order.{Row}
@@ -18,9 +17,9 @@ use Rattle.column_trie.specs.Limits.{maxArity, maxCapacity}
 use Rattle.column_trie.specs.Pool.{spot, store}
 use Rattle.column_trie.specs.Table.{header, tableOf, emptyTable, dataLen, intervalLen, layersIn, rowsIn, Undamaged}
 use Rattle.column_trie.specs.declared.ColumnTrie.{ColumnTrie}
-use Rattle.column_trie.proofs.Header.{layer-inside}
-use Rattle.column_trie.proofs.Pool.{Room, spot-is, store-length, store-keys, store-intervals}
+use Rattle.column_trie.proofs.Pool.{Room, store-length, store-keys, store-intervals}
 use Rattle.column_trie.proofs.Layers.{Whole, layers-length, layers-at}
+use Rattle.column_trie.proofs.Stored.{spot-end}
 use Rattle.column_trie_build.specs.Build.{buildNumber, rowsGiven, rowsStored, Builds}
 use Rattle.column_trie_build.specs.declared.Built.{Built}
 use Rattle.column_trie_build.proofs.Numbers.{Accepted, accepted}
@@ -28,11 +27,6 @@ use Rattle.column_trie_build.proofs.Given.{length-given, width-given}
 use Rattle.column_trie_build.proofs.Lengths.{keys-at, intervals-at, padded-long, padded-past}
 use Rattle.column_trie_build.proofs.Turns.{layers-size, layers-room}
 use Rattle.column_trie_build.proofs.Outcomes.{if-built}
-
--- the table's words end where a further layer would start
-pub spot-end : (s a c : ℕ) → spot s c a ≤ s + 2 * a * c
-spot-end s zero c = omega (arith, spot-is s c 0, zero-mul (c + c))
-spot-end s (suc a) c = omega (arith, spot-is s c (suc a), spot-is s c a, suc-mul a (c + c), layer-inside s (suc a) c a (omega arith))
 
 -- ---- layers stored in a pool, with their header, are a table's layers
 

@@ -22,7 +22,7 @@ module _ {A : Type 0} (n : ℕ) (built refused : A) where
   pub if-built : n ≡ 0 → unlessRefused n built refused ≡ built
   if-built e = ap (λ (b : Bool). pick b built refused) (eq-eqb n 0 e)
 
-  if-refused : (n ≡ 0 → ⊥) → unlessRefused n built refused ≡ refused
+  pub if-refused : (n ≡ 0 → ⊥) → unlessRefused n built refused ≡ refused
   if-refused h = ap (λ (b : Bool). pick b built refused) (ne-eqb n 0 h)
 
 module _ (given lent : List ℕ) (start arity capacity : ℕ) {n : ℕ} {t : ColumnTrie} (e : n ≡ buildNumber (length given) (length lent) start arity capacity) where
