@@ -32,7 +32,7 @@ module _ (a : ℕ) (ws : List ℕ) where
 
 -- ---- sorted, and laid flat again
 
-length-flat : {a : ℕ} (rows : List Row) → Width a rows → length (flat rows) ≡ length rows * a
+pub length-flat : {a : ℕ} (rows : List Row) → Width a rows → length (flat rows) ≡ length rows * a
 unfolding flat
 length-flat {a} [] w = sym (zero-mul a)
 length-flat {a} (r ∷ rs) w = length-append r (flat rs) ∙ omega (arith, length-flat rs (λ q m. w q (tl m)), w r (hd refl), suc-mul (length rs) a)
@@ -41,7 +41,7 @@ width-sort : {a : ℕ} (rows : List Row) → Width a rows → Width a (sort rows
 width-sort rows w q m = w q (perm-in m (λ r. sym (sort-perm rows r)))
 
 -- words that are rows laid flat are those rows
-given-flat : {a : ℕ} (rows : List Row) → 0 < a → Width a rows → rowsGiven a (flat rows) ≡ rows
+pub given-flat : {a : ℕ} (rows : List Row) → 0 < a → Width a rows → rowsGiven a (flat rows) ≡ rows
 given-flat {a} rows h w =
     ap (λ (n : ℕ). cut n a (flat rows)) (ap (λ (n : ℕ). n / a) (length-flat rows w) ∙ mul-div-cancel (length rows) h)
     ∙ ap (cut (length rows) a) (sym (append-nil (flat rows)))

@@ -2,6 +2,7 @@ pub mod Determined
 pub mod Kept
 pub mod Leaves
 pub mod Numbers
+pub mod Own
 mod Columns
 mod Fill
 mod Given
