@@ -1,4 +1,5 @@
 pub mod Determined
+pub mod Exactly
 pub mod Kept
 pub mod Leaves
 pub mod Numbers

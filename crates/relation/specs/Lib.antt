@@ -1,3 +1,4 @@
+pub mod Exactly
 pub mod Tests
 pub mod Lists
 pub mod Order
