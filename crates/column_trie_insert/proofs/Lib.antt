@@ -7,4 +7,5 @@ mod Mixed
 mod Rows
 mod Enters
 pub mod Inserts
+pub mod Kept
 pub mod Laws
