@@ -48,7 +48,7 @@ known-in (q ∷ qs) r e = go (known-in qs r) (same r q) refl e
     go ih true f e = hd (same→eq r q (true-T (same r q) f))
     go ih false f e = tl (ih e)
 
-not-known : {r : Row} {rows : List Row} → (r ∈ rows → ⊥) → known rows r ≡ false
+pub not-known : {r : Row} {rows : List Row} → (r ∈ rows → ⊥) → known rows r ≡ false
 not-known {r} {rows} n = go (known rows r) refl
   where
     go : (b : Bool) → known rows r ≡ b → known rows r ≡ false
@@ -79,14 +79,14 @@ module _ (pool : List ℕ) (t : ColumnTrie) (tuple : Row) where
   unfolding takesIn
   shut n e h = ap (λ (b : Bool). b && not (known (rowsIn pool t) tuple)) (ne-eqb (insertNumber pool t tuple) 0 (λ z. h (sym e ∙ z)))
 
-  number-6 : undamaged pool t ≡ false → insertNumber pool t tuple ≡ 6
+  pub number-6 : undamaged pool t ≡ false → insertNumber pool t tuple ≡ 6
   unfolding insertNumber
   number-6 e = simp e
 
   pub damaged : undamaged pool t ≡ false → (r : Inserted) → (r .number ≡ 6) × (r .«is_new» ≡ false) × (r .table ≡ t) → Inserts pool pool t tuple r
   damaged e = let n = number-6 e in kept 6 n (shut 6 n (λ z. omega arith))
 
-  number-4 : undamaged pool t ≡ true → (length tuple ≡ t .arity → ⊥) → insertNumber pool t tuple ≡ 4
+  pub number-4 : undamaged pool t ≡ true → (length tuple ≡ t .arity → ⊥) → insertNumber pool t tuple ≡ 4
   unfolding insertNumber
   number-4 sound n = simp (sound, ne-eqb (length tuple) (t .arity) n)
 

@@ -6,6 +6,7 @@ mod Walks
 mod Mixed
 mod Rows
 mod Enters
+pub mod Exactly
 pub mod Inserts
 pub mod Kept
 pub mod Laws
