@@ -1,3 +1,4 @@
 mod Texts
+pub mod Exactly
 pub mod Lists
 pub mod Worked

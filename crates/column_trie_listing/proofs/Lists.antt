@@ -31,7 +31,7 @@ module _ (pool : List ℕ) (t : ColumnTrie) (bytes : List ℕ) where
         written = sym (ap (λ (b : Bool). pick b (text (layersIn pool t) ++ drop (length (text (layersIn pool t))) bytes) bytes) f);
       }
 
-  number-6 : undamaged pool t ≡ false → listNumber pool t (length bytes) ≡ 6
+  pub number-6 : undamaged pool t ≡ false → listNumber pool t (length bytes) ≡ 6
   unfolding listNumber
   number-6 e = simp e
 
@@ -39,14 +39,14 @@ module _ (pool : List ℕ) (t : ColumnTrie) (bytes : List ℕ) where
   damaged e = refused 6 (number-6 e) refl
 
   module _ (sound : undamaged pool t ≡ true) where
-    number-14 : length bytes < length (text (layersIn pool t)) → listNumber pool t (length bytes) ≡ 14
+    pub number-14 : length bytes < length (text (layersIn pool t)) → listNumber pool t (length bytes) ≡ 14
     unfolding listNumber
     number-14 h = simp (sound, lt-leb (length (text (layersIn pool t))) (length bytes) h)
 
     pub too-long : length bytes < length (text (layersIn pool t)) → Lists pool t bytes bytes (record { number = 14; len = 0 })
     too-long h = refused 14 (number-14 h) refl
 
-    number-0 : length (text (layersIn pool t)) ≤ length bytes → listNumber pool t (length bytes) ≡ 0
+    pub number-0 : length (text (layersIn pool t)) ≤ length bytes → listNumber pool t (length bytes) ≡ 0
     unfolding listNumber
     number-0 h = simp (sound, le-leb (length (text (layersIn pool t))) (length bytes) h)
 
