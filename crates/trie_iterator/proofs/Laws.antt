@@ -2,22 +2,25 @@
 -- same, and the cursor stands where the iterator does. Each call by itself, and what follows for up and seek, stand beside it.
 use Prim.Native.Nat.{ℕ, _+_}
 use mathlib.Core.Path.{_≡_, refl, sym, ap, ap₂, _∙_, subst}
-use mathlib.Core.Bool.{true}
+use mathlib.Core.Bool.{Bool, true, false}
 use mathlib.Core.List.{List, [], _∷_}
 use native.Mathlib.Omega.{arith}
 use lib.ListN.{length}
-use lib.Dec.{ltb}
-use Rattle.relation.specs.Order.{Row}
+use lib.Dec.{ltb, eqb}
+use Rattle.relation.specs.Order.{Row, pick}
+use Rattle.relation.specs.Lists.{_∈_, hd, tl}
+use Rattle.relation.specs.Layers.{keysUnder}
+use Rattle.relation.proofs.Tests.{not-both}
 use Rattle.column_trie.specs.Table.{Undamaged, rowsIn}
 use Rattle.column_trie.specs.declared.ColumnTrie.{ColumnTrie}
-use Rattle.column_trie_iter.specs.Cursor.{fresh, past, soughtOf, seekIn, upOf}
+use Rattle.column_trie_iter.specs.Cursor.{fresh, past, soughtOf, seekIn, openOf, upOf}
 use Rattle.column_trie_iter.specs.declared.ColumnTrieIter.{ColumnTrieIter}
 use Rattle.column_trie_iter.proofs.Seeks.{some-drop}
 use Rattle.seek.specs.Seek.{seekOf}
 use Rattle.seek.specs.Offset.{Leading}
 use Rattle.seek.specs.declared.SeekStrategy.{SeekStrategy}
 use Rattle.seek.proofs.Laws.{leading-one}
-use Rattle.trie_iterator.specs.TrieIterator.{State, root, level, left, Call, Key, Next, AtEnd, Open, Up, Seek, Answer, answer, after, answers, follow}
+use Rattle.trie_iterator.specs.TrieIterator.{State, root, level, left, path, opens, Call, Key, Next, AtEnd, Open, Up, Seek, amongSiblings, Answer, says, refused, answer, after, answers, follow}
 use Rattle.trie_iterator.specs.Cursor.{heard, moved, heardAll, movedAll, Layered, Stands, at-root, at-level, Follows, Stopped}
 use Rattle.trie_iterator.proofs.Held.{undamaged-layered}
 use Rattle.trie_iterator.proofs.Standing.{seek-is}
@@ -81,6 +84,45 @@ module _ {pool : List ℕ} {t : ColumnTrie} {rows : List Row} (H : Layered pool 
       let e : p .passed ≡ q .passed = leading-one (left s) target (p .passed) (q .passed) (p .leads) (q .leads) in
       (p .found ∙ ap (λ (n : ℕ). ltb n (length (left s))) e ∙ sym (q .found), p .iter ∙ ap (past it) e ∙ sym (q .iter))
 
--- on an undamaged table, from the root, by any sequence of calls
+  -- calls among the siblings leave the cursor below the same place
+  along : {s : State} {ks : List ℕ} {it : ColumnTrieIter} → Stands (t .arity) rows (level ks s) it → (ds : List Call) → ((c : Call) → c ∈ ds → amongSiblings c ≡ true) → (js : List ℕ) × Stands (t .arity) rows (level js s) (movedAll pool t it ds)
+  unfolding movedAll
+  along {ks = ks} w [] f = (ks, w)
+  along w (Key ∷ ds) f = along (same-place w Key) ds (λ c m. f c (tl m))
+  along w (Next ∷ ds) f = along (same-place w Next) ds (λ c m. f c (tl m))
+  along w (AtEnd ∷ ds) f = along (same-place w AtEnd) ds (λ c m. f c (tl m))
+  along w (Open ∷ ds) f = not-both false (f Open (hd refl)) refl
+  along w (Up ∷ ds) f = not-both false (f Up (hd refl)) refl
+  along w (Seek x target ∷ ds) f = along (same-place w (Seek x target)) ds (λ c m. f c (tl m))
+
+  -- an open that said yes went down
+  opened-stands : {s : State} {it : ColumnTrieIter} → Stands (t .arity) rows s it → openOf pool t it .opened ≡ true → Stands (t .arity) rows (level (keysUnder (path s) rows) s) (openOf pool t it .iter)
+  opened-stands {s} {it} w y =
+      subst (λ (b : Bool). Stands (t .arity) rows (pick b (level (keysUnder (path s) rows) s) s) (openOf pool t it .iter)) (opens-so (eqb (openOf pool t it .number) 0) (open-answers H w))
+      (open-stands H w)
+    where
+      opens-so : (b : Bool) → pick b (says (openOf pool t it .opened)) (refused (openOf pool t it .number)) ≡ says (opens (t .arity) rows s) → opens (t .arity) rows s ≡ true
+      opens-so true e = cc
+      opens-so false e = let z : _≡_ {A = ℕ} 0 1 = cc in absurd (omega arith)
+
+-- ---- on an undamaged table, from the root, by any sequence of calls
+
 pub a-cursor-moves-as-the-trie-iterator : {pool : List ℕ} {t : ColumnTrie} → Undamaged pool t → (cs : List Call) → Follows pool t (rowsIn pool t) root fresh cs
 a-cursor-moves-as-the-trie-iterator u cs = follows (undamaged-layered u) (at-root refl) cs
+
+module _ {pool : List ℕ} {t : ColumnTrie} (u : Undamaged pool t) (cs : List Call) where
+  -- the cursor that they leave
+  abbrev cursor : ColumnTrieIter
+  cursor = movedAll pool t fresh cs
+
+  pub a-seek-after-any-calls-stops-at-the-first-key-not-below : (x : SeekStrategy) (target : ℕ) → Stopped (left (follow (t .arity) (rowsIn pool t) root cs)) target cursor (soughtOf pool t cursor x target)
+  a-seek-after-any-calls-stops-at-the-first-key-not-below = a-seek-stops-at-the-first-key-not-below (undamaged-layered u) (a-cursor-moves-as-the-trie-iterator u cs .stands)
+
+  -- an open that says yes, any calls among the siblings there, and up: the very cursor that was opened, so its key
+  pub up-after-any-calls-returns-to-the-cursor-that-open-left :
+      openOf pool t cursor .opened ≡ true → (ds : List Call) → ((c : Call) → c ∈ ds → amongSiblings c ≡ true) →
+      upOf pool t (movedAll pool t (openOf pool t cursor .iter) ds) ≡ record { number = 0; risen = true; iter = cursor }
+  up-after-any-calls-returns-to-the-cursor-that-open-left y ds f =
+      let H = undamaged-layered u in
+      let w = a-cursor-moves-as-the-trie-iterator u cs .stands in
+      up-returns-to-the-key-that-open-left H w (along H (opened-stands H w y) ds f .1)

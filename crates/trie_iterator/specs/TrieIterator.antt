@@ -85,6 +85,15 @@ pub data Call : Type 0 where
   Key Next AtEnd Open Up : Call
   Seek : SeekStrategy → ℕ → Call
 
+-- a call that stays among the siblings: it neither opens nor rises
+abbrev pub amongSiblings : Call → Bool
+amongSiblings Key = true
+amongSiblings Next = true
+amongSiblings AtEnd = true
+amongSiblings Open = false
+amongSiblings Up = false
+amongSiblings (Seek x target) = true
+
 -- a key or none, a yes or a no; `refused` is a cursor's, with its number
 pub data Answer : Type 0 where
   shows : ℕ → Answer
