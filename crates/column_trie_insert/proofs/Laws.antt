@@ -107,7 +107,7 @@ module _ {pool pool′ : List ℕ} {t : ColumnTrie} {tuple : Row} {r : Inserted}
   zero-number : insertNumber pool t tuple ≡ 0
   zero-number = sym (s .number) ∙ z
 
-  undamaged-before : Undamaged pool t
+  pub undamaged-before : Undamaged pool t
   undamaged-before = undamaged-told pool t (accepted pool t tuple zero-number .sound)
 
   -- one that is there changes nothing, and its row among the others is no other set

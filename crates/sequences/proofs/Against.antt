@@ -1,0 +1,56 @@
+-- "Leaves the layers of a build over the old rows and the new one": an insert against a build, each by its contract.
+use Prim.Native.Nat.{ℕ}
+use mathlib.Core.Path.{_≡_, sym, ap, subst, _∙_}
+use mathlib.Core.Logic.{⊎-elim}
+use mathlib.Core.List.{List, _∷_}
+use Rattle.relation.specs.Order.{Row}
+use Rattle.relation.specs.Lists.{_∈_, hd, tl, in-cons}
+use Rattle.relation.specs.Rows.{Members, put}
+use Rattle.relation.specs.Layers.{layersOf}
+use Rattle.relation.proofs.Sorting.{distinct-sort, asSet-is, put-asc, in-put, put-self, put-old}
+use Rattle.column_trie.specs.Pool.{store}
+use Rattle.column_trie.specs.Table.{tableOf, layersIn, rowsIn}
+use Rattle.column_trie.specs.declared.ColumnTrie.{ColumnTrie}
+use Rattle.column_trie.proofs.Layers.{Whole}
+use Rattle.column_trie.proofs.Tables.{holds}
+use Rattle.column_trie_build.specs.Build.{rowsGiven, rowsStored, Builds}
+use Rattle.column_trie_build.specs.declared.Built.{Built}
+use Rattle.column_trie_build.proofs.Leaves.{built-pool, built-table, build-leaves-the-layers-of-the-set-of-rows}
+use Rattle.column_trie_insert.specs.Insert.{Inserts}
+use Rattle.column_trie_insert.specs.declared.Inserted.{Inserted}
+use Rattle.column_trie_insert.proofs.Laws.{Table, insert-leaves-the-layers-of-the-set-of-the-old-rows-and-the-new-one, insert-stores-the-layers-over-the-pool, undamaged-before}
+
+-- Two tables, one that an insert into t left and one that was built: the same layers; in the same place also the same header; and over the same pool
+-- every word is the same.
+pub record Alike (pool : List ℕ) (t : ColumnTrie) (lent : List ℕ) (start capacity : ℕ) (pool′ : List ℕ) (left : ColumnTrie) (lent′ : List ℕ) (built : ColumnTrie) : Type 0 where
+  pub layers : layersIn pool′ left ≡ layersIn lent′ built
+  pub header : t .start ≡ start → t .capacity ≡ capacity → left ≡ built
+  pub words : t .start ≡ start → t .capacity ≡ capacity → pool ≡ lent → pool′ ≡ lent′
+
+-- the old rows and the new one, as a list and as a set
+put-members : (r : Row) (rows : List Row) → Members (r ∷ rows) (put r rows)
+put-members r rows q = (
+  λ m. ⊎-elim (λ (e : q ≡ r). subst (λ (x : Row). x ∈ put r rows) (sym e) (put-self r rows)) (λ (n : q ∈ rows). put-old r rows n) (in-cons m),
+  λ m. ⊎-elim (λ (e : q ≡ r). hd e) (λ (n : q ∈ rows). tl n) (in-put r rows m),
+)
+
+pub an-insert-leaves-what-a-build-over-the-old-rows-and-the-new-one-leaves :
+    {pool pool′ : List ℕ} {t : ColumnTrie} {tuple : Row} {i : Inserted} (given lent : List ℕ) (start capacity : ℕ) {given′ lent′ : List ℕ} {b : Built} → Whole t → Inserts pool pool′ t tuple i → i .number ≡ 0 →
+    Builds given lent start (t .arity) capacity given′ lent′ b → b .number ≡ 0 → Members (rowsGiven (t .arity) given) (tuple ∷ rowsIn pool t) → Alike pool t lent start capacity pool′ (i .table) lent′ (b .table)
+an-insert-leaves-what-a-build-over-the-old-rows-and-the-new-one-leaves {pool} {pool′} {t} {tuple} {i} given lent start capacity {given′} {lent′} {b} o s y d z m =
+    record {
+      layers = left .layers-are ∙ ap (layersOf (t .arity)) same ∙ sym (build-leaves-the-layers-of-the-set-of-rows given lent start (t .arity) capacity d z .layers);
+      header = λ e f.
+          left .header-is ∙ (λ j. tableOf (e j) (t .arity) (f j) (same j)) ∙ sym (built-table given lent start (t .arity) capacity d z);
+      words = λ e f g.
+          insert-stores-the-layers-over-the-pool o s y ∙ (λ j. store (e j) (f j) (layersOf (t .arity) (same j)) (g j)) ∙ sym (built-pool given lent start (t .arity) capacity d z);
+    }
+  where
+    left : Table (t .start) (t .arity) (t .capacity) (put tuple (rowsIn pool t)) pool′ (i .table)
+    left = insert-leaves-the-layers-of-the-set-of-the-old-rows-and-the-new-one o s y
+
+    same : put tuple (rowsIn pool t) ≡ rowsStored (t .arity) given
+    same =
+        sym
+        (distinct-sort (rowsGiven (t .arity) given)
+        ∙ asSet-is (put-asc tuple (holds o (undamaged-before o s y) .asc)) (λ q. (λ n. put-members tuple (rowsIn pool t) q .0 (m q .0 n), λ n. m q .1 (put-members tuple (rowsIn pool t) q .1 n))))

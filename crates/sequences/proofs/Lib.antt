@@ -1,0 +1,3 @@
+pub mod Against
+pub mod Then
+pub mod Cursors
