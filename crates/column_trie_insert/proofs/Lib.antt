@@ -10,3 +10,4 @@ pub mod Exactly
 pub mod Inserts
 pub mod Kept
 pub mod Laws
+pub mod Untouched
