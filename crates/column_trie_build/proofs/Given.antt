@@ -37,7 +37,7 @@ unfolding flat
 length-flat {a} [] w = sym (zero-mul a)
 length-flat {a} (r ∷ rs) w = length-append r (flat rs) ∙ omega (arith, length-flat rs (λ q m. w q (tl m)), w r (hd refl), suc-mul (length rs) a)
 
-width-sort : {a : ℕ} (rows : List Row) → Width a rows → Width a (sort rows)
+pub width-sort : {a : ℕ} (rows : List Row) → Width a rows → Width a (sort rows)
 width-sort rows w q m = w q (perm-in m (λ r. sym (sort-perm rows r)))
 
 -- words that are rows laid flat are those rows

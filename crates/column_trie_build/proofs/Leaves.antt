@@ -131,7 +131,7 @@ module _ (given lent : List ℕ) (start arity capacity : ℕ) (a : Accepted (len
 
 -- what a contract with number 0 says of table and pool
 module _ (given lent : List ℕ) (start arity capacity : ℕ) {given′ lent′ : List ℕ} {r : Built} (b : Builds given lent start arity capacity given′ lent′ r) (z : r .number ≡ 0) where
-  zero-number : buildNumber (length given) (length lent) start arity capacity ≡ 0
+  pub zero-number : buildNumber (length given) (length lent) start arity capacity ≡ 0
   zero-number = sym (ap (λ (x : Built). x .number) (b .answer)) ∙ z
 
   pub built-accepted : Accepted (length given) (length lent) start arity capacity

@@ -4,6 +4,7 @@ pub mod Kept
 pub mod Leaves
 pub mod Numbers
 pub mod Own
+pub mod Sorted
 pub mod Untouched
 mod Columns
 mod Fill
