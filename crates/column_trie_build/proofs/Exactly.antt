@@ -31,17 +31,17 @@ abbrev pub InLimits : ℕ → ℕ → Type 0
 InLimits arity capacity = From1To maxArity arity × From1To maxCapacity capacity
 
 -- and the 2ac words lie in a pool of len words
-abbrev pub InPool : ℕ → ℕ → ℕ → ℕ → Type 0
-InPool len start arity capacity = InLimits arity capacity × (start + 2 * arity * capacity ≤ len)
+abbrev pub InLimitsAndPool : ℕ → ℕ → ℕ → ℕ → Type 0
+InLimitsAndPool len start arity capacity = InLimits arity capacity × (start + 2 * arity * capacity ≤ len)
 
 -- the number n of a build: each exactly when its own check is the first to fail, and 0 exactly when none fails
 pub record Numbers (given lent : List ℕ) (start arity capacity n : ℕ) : Type 0 where
   pub arity-off : Exactly (n ≡ 1) (Off maxArity arity)
   pub capacity-off : Exactly (n ≡ 2) (From1To maxArity arity × Off maxCapacity capacity)
   pub not-in-pool : Exactly (n ≡ 3) (InLimits arity capacity × (length lent < start + 2 * arity * capacity))
-  pub not-whole-rows : Exactly (n ≡ 4) (InPool (length lent) start arity capacity × (length given % arity ≡ 0 → ⊥))
-  pub too-many-rows : Exactly (n ≡ 5) (InPool (length lent) start arity capacity × (length given % arity ≡ 0) × (capacity < length (rowsGiven arity given)))
-  pub accepted : Exactly (n ≡ 0) (InPool (length lent) start arity capacity × (length given % arity ≡ 0) × (length (rowsGiven arity given) ≤ capacity))
+  pub not-whole-rows : Exactly (n ≡ 4) (InLimitsAndPool (length lent) start arity capacity × (length given % arity ≡ 0 → ⊥))
+  pub too-many-rows : Exactly (n ≡ 5) (InLimitsAndPool (length lent) start arity capacity × (length given % arity ≡ 0) × (capacity < length (rowsGiven arity given)))
+  pub accepted : Exactly (n ≡ 0) (InLimitsAndPool (length lent) start arity capacity × (length given % arity ≡ 0) × (length (rowsGiven arity given) ≤ capacity))
 
 -- ---- the tests of the first two checks
 
@@ -81,7 +81,7 @@ module _ (given lent : List ℕ) (start arity capacity : ℕ) where
       sym (number-3 (length given) (length lent) start arity capacity (on maxArity arity (h .0 .0)) (on maxCapacity capacity (h .0 .1))
       (lt-leb (start + 2 * arity * capacity) (length lent) (h .1)))
 
-  module _ (p : InPool (length lent) start arity capacity) where
+  module _ (p : InLimitsAndPool (length lent) start arity capacity) where
     lies : liesIn (length lent) start arity capacity ≡ true
     lies = le-leb (start + 2 * arity * capacity) (length lent) (p .1)
 
@@ -101,12 +101,12 @@ module _ (given lent : List ℕ) (start arity capacity : ℕ) where
   -- ---- and back: one of them holds, with its number
 
   abbrev Facts : ℕ → Type 0
-  Facts zero = InPool (length lent) start arity capacity × (length given % arity ≡ 0) × (length (rowsGiven arity given) ≤ capacity)
+  Facts zero = InLimitsAndPool (length lent) start arity capacity × (length given % arity ≡ 0) × (length (rowsGiven arity given) ≤ capacity)
   Facts (suc zero) = Off maxArity arity
   Facts (suc (suc zero)) = From1To maxArity arity × Off maxCapacity capacity
   Facts (suc (suc (suc zero))) = InLimits arity capacity × (length lent < start + 2 * arity * capacity)
-  Facts (suc (suc (suc (suc zero)))) = InPool (length lent) start arity capacity × (length given % arity ≡ 0 → ⊥)
-  Facts (suc (suc (suc (suc (suc zero))))) = InPool (length lent) start arity capacity × (length given % arity ≡ 0) × (capacity < length (rowsGiven arity given))
+  Facts (suc (suc (suc (suc zero)))) = InLimitsAndPool (length lent) start arity capacity × (length given % arity ≡ 0 → ⊥)
+  Facts (suc (suc (suc (suc (suc zero))))) = InLimitsAndPool (length lent) start arity capacity × (length given % arity ≡ 0) × (capacity < length (rowsGiven arity given))
   Facts (suc (suc (suc (suc (suc (suc n)))))) = ⊥
 
   so : {n : ℕ} → number ≡ n → Facts n → Facts number
@@ -115,11 +115,11 @@ module _ (given lent : List ℕ) (start arity capacity : ℕ) where
   checked : Facts number
   checked = by-arity (either maxArity arity)
     where
-      by-rows : InPool (length lent) start arity capacity → length given % arity ≡ 0 → Dec (capacity < length (rowsGiven arity given)) → Facts number
+      by-rows : InLimitsAndPool (length lent) start arity capacity → length given % arity ≡ 0 → Dec (capacity < length (rowsGiven arity given)) → Facts number
       by-rows p w (yes h) = so (five p w h) (p, w, h)
       by-rows p w (no h) = let k : length (rowsGiven arity given) ≤ capacity = omega arith in so (none p w k) (p, w, k)
 
-      by-words : InPool (length lent) start arity capacity → Dec (length given % arity ≡ 0) → Facts number
+      by-words : InLimitsAndPool (length lent) start arity capacity → Dec (length given % arity ≡ 0) → Facts number
       by-words p (yes w) = by-rows p w (decLt capacity (length (rowsGiven arity given)))
       by-words p (no w) = so (four p w) (p, w)
 

@@ -22,16 +22,16 @@ use Rattle.column_trie_insert.specs.declared.Inserted.{Inserted}
 use Rattle.column_trie_insert.specs.Insert.{known, insertNumber, takesIn, Inserts}
 use Rattle.column_trie_insert.proofs.Inserts.{in-known, known-in, not-known, number-6, number-4}
 
--- the tuple is a row's length, of a table that is undamaged
-abbrev pub Fitting : List ℕ → ColumnTrie → Row → Type 0
-Fitting pool t tuple = Undamaged pool t × (length tuple ≡ t .arity)
+-- the table is undamaged, and the tuple as long as its rows
+abbrev pub SizedFor : List ℕ → ColumnTrie → Row → Type 0
+SizedFor pool t tuple = Undamaged pool t × (length tuple ≡ t .arity)
 
 -- the number n of an insert, and whether it says new
 pub record Numbers (pool : List ℕ) (t : ColumnTrie) (tuple : Row) (n : ℕ) (new : Bool) : Type 0 where
   pub damaged : Exactly (n ≡ 6) (Undamaged pool t → ⊥)
   pub another-length : Exactly (n ≡ 4) (Undamaged pool t × (length tuple ≡ t .arity → ⊥))
-  pub full : Exactly (n ≡ 5) (Fitting pool t tuple × (tuple ∈ rowsIn pool t → ⊥) × (t .«tuple_count» ≡ t .capacity))
-  pub accepted : Exactly (n ≡ 0) (Fitting pool t tuple × ((tuple ∈ rowsIn pool t) ⊎ (t .«tuple_count» < t .capacity)))
+  pub full : Exactly (n ≡ 5) (SizedFor pool t tuple × (tuple ∈ rowsIn pool t → ⊥) × (t .«tuple_count» ≡ t .capacity))
+  pub accepted : Exactly (n ≡ 0) (SizedFor pool t tuple × ((tuple ∈ rowsIn pool t) ⊎ (t .«tuple_count» < t .capacity)))
   pub is-new : Exactly (new ≡ true) ((n ≡ 0) × (tuple ∈ rowsIn pool t → ⊥))
 
 module _ (pool : List ℕ) (t : ColumnTrie) (tuple : Row) where
@@ -50,7 +50,7 @@ module _ (pool : List ℕ) (t : ColumnTrie) (tuple : Row) where
   four : Undamaged pool t × (length tuple ≡ t .arity → ⊥) → number ≡ 4
   four h = number-4 pool t tuple (told-undamaged pool t (h .0)) (h .1)
 
-  module _ (f : Fitting pool t tuple) where
+  module _ (f : SizedFor pool t tuple) where
     rest : number ≡ pick (not (known (rowsIn pool t) tuple) && eqb (t .«tuple_count») (t .capacity)) 5 0
     unfolding insertNumber
     rest = simp (told-undamaged pool t (f .0), eq-eqb (length tuple) (t .arity) (f .1))
@@ -75,12 +75,12 @@ module _ (pool : List ℕ) (t : ColumnTrie) (tuple : Row) where
   -- ---- and back: one of them holds, with its number
 
   abbrev Facts : ℕ → Type 0
-  Facts zero = Fitting pool t tuple × ((tuple ∈ rowsIn pool t) ⊎ (t .«tuple_count» < t .capacity))
+  Facts zero = SizedFor pool t tuple × ((tuple ∈ rowsIn pool t) ⊎ (t .«tuple_count» < t .capacity))
   Facts (suc zero) = ⊥
   Facts (suc (suc zero)) = ⊥
   Facts (suc (suc (suc zero))) = ⊥
   Facts (suc (suc (suc (suc zero)))) = Undamaged pool t × (length tuple ≡ t .arity → ⊥)
-  Facts (suc (suc (suc (suc (suc zero))))) = Fitting pool t tuple × (tuple ∈ rowsIn pool t → ⊥) × (t .«tuple_count» ≡ t .capacity)
+  Facts (suc (suc (suc (suc (suc zero))))) = SizedFor pool t tuple × (tuple ∈ rowsIn pool t → ⊥) × (t .«tuple_count» ≡ t .capacity)
   Facts (suc (suc (suc (suc (suc (suc zero)))))) = Undamaged pool t → ⊥
   Facts (suc (suc (suc (suc (suc (suc (suc n))))))) = ⊥
 
@@ -98,11 +98,11 @@ module _ (pool : List ℕ) (t : ColumnTrie) (tuple : Row) where
   checked : Facts number
   checked = by-damage (undamaged pool t) refl
     where
-      by-count : Fitting pool t tuple → (tuple ∈ rowsIn pool t → ⊥) → Dec (t .«tuple_count» ≡ t .capacity) → Facts number
+      by-count : SizedFor pool t tuple → (tuple ∈ rowsIn pool t → ⊥) → Dec (t .«tuple_count» ≡ t .capacity) → Facts number
       by-count f n (yes e) = so (five f n e) (f, n, e)
       by-count f n (no e) = let k = inr (below f e) in so (none f k) (f, k)
 
-      by-member : Fitting pool t tuple → Dec (tuple ∈ rowsIn pool t) → Facts number
+      by-member : SizedFor pool t tuple → Dec (tuple ∈ rowsIn pool t) → Facts number
       by-member f (yes m) = so (none f (inl m)) (f, inl m)
       by-member f (no n) = by-count f n (ℕ-discrete (t .«tuple_count») (t .capacity))
 
