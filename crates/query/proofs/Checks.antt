@@ -140,7 +140,7 @@ listed-true n order arity vars e =
     (eqb-true (length vars) arity (t .0), both (every (λ (x : ℕ). ltb x n) vars) (follows order vars) (t .1) .1)
 
 -- what follows the order is the order with some variables left out, and the other way round
-follows-sublist : (order vars : List ℕ) → follows order vars ≡ true → Sublistᴰ vars order
+pub follows-sublist : (order vars : List ℕ) → follows order vars ≡ true → Sublistᴰ vars order
 unfolding follows
 follows-sublist order [] e = Sublistᴰ·nil-sublist order
 follows-sublist [] (x ∷ xs) e = absurd (false≢true e)
@@ -150,7 +150,7 @@ follows-sublist (v ∷ vs) (x ∷ xs) e = go (follows-sublist vs xs) (follows-su
     go f g true q e = Sublistᴰ·cons-cons (eqb-true x v q) (f e)
     go f g false q e = Sublistᴰ·cons (g e)
 
-sublist-follows : (order vars : List ℕ) → Sublistᴰ vars order → follows order vars ≡ true
+pub sublist-follows : (order vars : List ℕ) → Sublistᴰ vars order → follows order vars ≡ true
 unfolding follows
 sublist-follows order [] s = refl
 sublist-follows [] (x ∷ xs) s = absurd (cons-ne-nil x xs (Sublistᴰ·eq-nil s))
@@ -165,10 +165,10 @@ sublist-follows (v ∷ vs) (x ∷ xs) s = go (sublist-follows vs xs) (sublist-fo
 -- ---- 11
 
 -- each variable below n is in some list
-abbrev Covered : ℕ → List (List ℕ) → Type 0
+abbrev pub Covered : ℕ → List (List ℕ) → Type 0
 Covered n lists = (x : ℕ) → x < n → (l : List ℕ) × (l ∈ lists) × (x ∈ l)
 
-covers-true : (n : ℕ) (lists : List (List ℕ)) → covers n lists ≡ true → Covered n lists
+pub covers-true : (n : ℕ) (lists : List (List ℕ)) → covers n lists ≡ true → Covered n lists
 unfolding covers
 covers-true zero lists e x h = absurd (omega arith)
 covers-true (suc n) lists e x h = go (covers-true n lists (t .1)) (ℕ-discrete x n)
@@ -180,7 +180,7 @@ covers-true (suc n) lists e x h = go (covers-true n lists (t .1)) (ℕ-discrete 
     go ih (yes d) = let u = some-in (λ (l : List ℕ). has l n) lists (t .0) in (u .0, u .1, Memᴰ·cast d (has-in (u .0) n (u .2)))
     go ih (no d) = ih x (omega arith)
 
-true-covers : (n : ℕ) (lists : List (List ℕ)) → Covered n lists → covers n lists ≡ true
+pub true-covers : (n : ℕ) (lists : List (List ℕ)) → Covered n lists → covers n lists ≡ true
 unfolding covers
 true-covers zero lists f = refl
 true-covers (suc n) lists f =

@@ -1,4 +1,5 @@
 pub mod Tests
+pub mod Sequence
 pub mod Lists
 pub mod Order
 pub mod Runs
