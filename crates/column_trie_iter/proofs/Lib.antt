@@ -1,4 +1,4 @@
--- Own and Worked have laws of their own. The other modules are steps of the functions' proofs; the crate trie_iterator cites those that are `pub`.
+-- Own, Exactly and Worked have laws of their own. The other modules are steps of the functions' proofs; the crate trie_iterator cites those that are `pub`.
 mod Answers
 pub mod Groups
 mod Opens
@@ -7,4 +7,5 @@ pub mod Places
 pub mod Rests
 pub mod Rises
 pub mod Seeks
+pub mod Exactly
 pub mod Worked

@@ -32,7 +32,7 @@ pub record Lying (l : Layer) (i : ℕ) (g : Group) : Type 0 where
   pub inside : g .to ≤ length (l .keys)
   pub long : length (keysOf l i) ≡ g .to - g .from
 
-lies-told : (l : Layer) (i : ℕ) → lies l i ≡ true → (i < length (l .intervals)) × (groupFrom l i ≤ groupTo l i) × (groupTo l i ≤ length (l .keys))
+pub lies-told : (l : Layer) (i : ℕ) → lies l i ≡ true → (i < length (l .intervals)) × (groupFrom l i ≤ groupTo l i) × (groupTo l i ≤ length (l .keys))
 unfolding lies
 lies-told l i e =
     let a = ltb i (length (l .intervals)) in
@@ -114,7 +114,7 @@ module _ (pool : List ℕ) (t : ColumnTrie) (it : ColumnTrieIter) where
       (and-true (lies (layerOf pool t it) (it .«interval_i»)) run-ok e (le-leb (it .«slice_offset») (length (keysOf (layerOf pool t it) (it .«interval_i»))) k))
 
   -- what the checks tell
-  stands-told : standsBelow pool t it ≡ true → Standing pool t it
+  pub stands-told : standsBelow pool t it ≡ true → Standing pool t it
   unfolding standsBelow
   stands-told e =
       let l = layerOf pool t it in
