@@ -1,100 +1,88 @@
--- Of each public call, any two outcomes that its contract allows on the same arguments are equal: what it answers, and every word lent to it to write.
+-- Of each exported call, any two outcomes that its contract allows on the same arguments are equal: what it answers, and every word lent to it to write.
+-- `Post` is what the call's own `ensures` promises, of its arguments, its answer and its arguments as they are when it returns: no contract, no theorem.
 -- Idea: a contract that is an equation, or a record of equations, gives both outcomes the same other side.
-use Prim.Native.Nat.{ℕ}
-use mathlib.Core.Path.{_≡_, sym, ap₂, _∙_}
-use mathlib.Core.Bool.{Bool}
+use mathlib.Core.Path.{_≡_, sym, ap, _∙_}
 use mathlib.Core.List.{List}
-use lib.IntN.{ℤ}
-use Rattle.seek.specs.Seek.{seekOf}
-use Rattle.seek.specs.declared.Sought.{Sought}
-use Rattle.grade.specs.Word.{wordOf, gradeOf}
-use Rattle.column_trie.specs.Table.{emptyTable, undamaged}
-use Rattle.column_trie.specs.declared.ColumnTrie.{ColumnTrie}
+use Prim.Native.Nat.{ℕ}
+use contract.Lifetimes.{Lfts}
+use denote.Ref.{now}
 use Rattle.column_trie_build.proofs.Determined as builds
-use Rattle.column_trie_insert.specs.Insert.{Inserts}
-use Rattle.column_trie_insert.specs.declared.Inserted.{Inserted}
 use Rattle.column_trie_insert.proofs.Laws as inserts
-use Rattle.column_trie_listing.specs.List.{Lists}
-use Rattle.column_trie_listing.specs.declared.Listed.{Listed}
 use Rattle.column_trie_listing.proofs.Lists as lists
-use Rattle.column_trie_iter.specs.Cursor.{fresh, keyOf, nextOf, soughtOf, endOf, openOf, upOf}
-use Rattle.column_trie_iter.specs.declared.ColumnTrieIter.{ColumnTrieIter}
-use Rattle.column_trie_iter.specs.declared.KeyAnswer.{KeyAnswer}
-use Rattle.column_trie_iter.specs.declared.NextAnswer.{NextAnswer}
-use Rattle.column_trie_iter.specs.declared.SeekAnswer.{SeekAnswer}
-use Rattle.column_trie_iter.specs.declared.EndAnswer.{EndAnswer}
-use Rattle.column_trie_iter.specs.declared.OpenAnswer.{OpenAnswer}
-use Rattle.column_trie_iter.specs.declared.UpAnswer.{UpAnswer}
-use Rattle.leapfrog_triejoin.specs.Outcome.{Joins}
-use Rattle.leapfrog_triejoin.specs.declared.Joined.{Joined}
-use Rattle.leapfrog_triejoin.specs.declared.Query.{Query}
-use Rattle.leapfrog_triejoin.specs.declared.Tables.{Tables}
 use Rattle.leapfrog_triejoin.proofs.Theorems as joins
-use Rattle.ducatbriar.specs.Strategy.{strategyOf}
+use Rattle.ducatbriar.proofs.ducatbriar_partition_point.Reads as partition-point-reads
+use Rattle.ducatbriar.proofs.ducatbriar_word_of.Reads as word-of-reads
+use Rattle.ducatbriar.proofs.ducatbriar_grade_of.Reads as grade-of-reads
+use Rattle.ducatbriar.proofs.ducatbriar_empty.Reads as empty-reads
+use Rattle.ducatbriar.proofs.ducatbriar_undamaged.Reads as undamaged-reads
+use Rattle.ducatbriar.proofs.ducatbriar_build.Reads as build-reads
+use Rattle.ducatbriar.proofs.ducatbriar_insert.Reads as insert-reads
+use Rattle.ducatbriar.proofs.ducatbriar_list.Reads as list-reads
+use Rattle.ducatbriar.proofs.ducatbriar_key.Reads as key-reads
+use Rattle.ducatbriar.proofs.ducatbriar_next.Reads as next-reads
+use Rattle.ducatbriar.proofs.ducatbriar_seek.Reads as seek-reads
+use Rattle.ducatbriar.proofs.ducatbriar_at_end.Reads as at-end-reads
+use Rattle.ducatbriar.proofs.ducatbriar_open.Reads as open-reads
+use Rattle.ducatbriar.proofs.ducatbriar_up.Reads as up-reads
+use Rattle.ducatbriar.proofs.ducatbriar_join.Reads as join-reads
 
--- a contract that allows one outcome at most
-abbrev pub Determined : {A : Type 0} → (A → Type 0) → Type 0
-Determined {A} Allowed = (x y : A) → Allowed x → Allowed y → x ≡ y
+-- ---- calls that write nothing: one answer for each list of arguments
 
-once : {A : Type 0} {z : A} → Determined (λ (x : A). x ≡ z)
-once x y p q = p ∙ sym q
+abbrev pub OneAnswer : {A R E : Type 0} → (A → R → E → Type 0) → Type 0
+OneAnswer {A} {R} {E} Post = (args : A) (r₁ r₂ : R) (e₁ e₂ : E) → Post args r₁ e₁ → Post args r₂ e₂ → r₁ ≡ r₂
 
--- ---- calls that write nothing: the answer is a function of the arguments
+pub partition-point : (κs : Lfts 1) → OneAnswer (partition-point-reads.Post κs)
+partition-point κs args r₁ r₂ e₁ e₂ p q = p ∙ sym q
 
-pub partition-point : (strategy : ℕ) (run : List ℕ) (target : ℕ) → Determined (λ (r : Sought). r ≡ seekOf (strategyOf strategy) run target)
-partition-point strategy run target = once
+pub word-of : (κs : Lfts 0) → OneAnswer (word-of-reads.Post κs)
+word-of κs args r₁ r₂ e₁ e₂ p q = p ∙ sym q
 
-pub word-of : (grade : ℤ) → Determined (λ (r : ℕ). r ≡ wordOf grade)
-word-of grade = once
+pub grade-of : (κs : Lfts 0) → OneAnswer (grade-of-reads.Post κs)
+grade-of κs args r₁ r₂ e₁ e₂ p q = p ∙ sym q
 
-pub grade-of : (word : ℕ) → Determined (λ (r : ℤ). r ≡ gradeOf word)
-grade-of word = once
+pub empty : (κs : Lfts 0) → OneAnswer (empty-reads.Post κs)
+empty κs args r₁ r₂ e₁ e₂ p q = p ∙ sym q
 
-pub empty : (start arity capacity : ℕ) → Determined (λ (r : ColumnTrie). r ≡ emptyTable start arity capacity)
-empty start arity capacity = once
+pub is-undamaged : (κs : Lfts 1) → OneAnswer (undamaged-reads.Post κs)
+is-undamaged κs args r₁ r₂ e₁ e₂ p q = p ∙ sym q
 
-pub is-undamaged : (pool : List ℕ) (t : ColumnTrie) → Determined (λ (r : Bool). r ≡ undamaged pool t)
-is-undamaged pool t = once
+pub key : (κs : Lfts 1) → OneAnswer (key-reads.Post κs)
+key κs args r₁ r₂ e₁ e₂ p q = p ∙ sym q
 
-pub new : Determined (λ (r : ColumnTrieIter). r ≡ fresh)
-new = once
+pub next : (κs : Lfts 1) → OneAnswer (next-reads.Post κs)
+next κs args r₁ r₂ e₁ e₂ p q = p ∙ sym q
 
-module _ (pool : List ℕ) (t : ColumnTrie) (it : ColumnTrieIter) where
-  pub key : Determined (λ (r : KeyAnswer). r ≡ keyOf pool t it)
-  key = once
+pub seek : (κs : Lfts 1) → OneAnswer (seek-reads.Post κs)
+seek κs args r₁ r₂ e₁ e₂ p q = p ∙ sym q
 
-  pub next : Determined (λ (r : NextAnswer). r ≡ nextOf pool t it)
-  next = once
+pub at-end : (κs : Lfts 1) → OneAnswer (at-end-reads.Post κs)
+at-end κs args r₁ r₂ e₁ e₂ p q = p ∙ sym q
 
-  pub seek : (strategy target : ℕ) → Determined (λ (r : SeekAnswer). r ≡ soughtOf pool t it (strategyOf strategy) target)
-  seek strategy target = once
+pub opened : (κs : Lfts 1) → OneAnswer (open-reads.Post κs)
+opened κs args r₁ r₂ e₁ e₂ p q = p ∙ sym q
 
-  pub at-end : Determined (λ (r : EndAnswer). r ≡ endOf pool t it)
-  at-end = once
+pub up : (κs : Lfts 1) → OneAnswer (up-reads.Post κs)
+up κs args r₁ r₂ e₁ e₂ p q = p ∙ sym q
 
-  pub opened : Determined (λ (r : OpenAnswer). r ≡ openOf pool t it)
-  opened = once
+-- ---- calls that write: one answer, and what they leave of the words lent, which `left` finds among the arguments at the return
 
-  pub up : Determined (λ (r : UpAnswer). r ≡ upOf pool t it)
-  up = once
+abbrev pub OneOutcome : {A R E W : Type 0} → (A → R → E → Type 0) → (E → W) → Type 0
+OneOutcome {A} {R} {E} Post left = (args : A) (r₁ r₂ : R) (e₁ e₂ : E) → Post args r₁ e₁ → Post args r₂ e₂ → (r₁ ≡ r₂) × (left e₁ ≡ left e₂)
 
--- ---- calls that write: the answer and the words that are left
+-- the rows and the pool
+pub build : (κs : Lfts 2) → OneOutcome {W = List ℕ × List ℕ} (build-reads.Post κs) (λ e. (now (e .0), now (e .1 .0)))
+build κs args r₁ r₂ e₁ e₂ p q =
+    let d = builds.determined (now (args .0)) (now (args .1 .0)) (args .1 .1 .0) (args .1 .1 .1 .0) (args .1 .1 .1 .1 .0) (record { answer = r₁; rows = now (e₁ .0); pool = now (e₁ .1 .0) }) (record { answer = r₂; rows = now (e₂ .0); pool = now (e₂ .1 .0) }) p q in
+    (ap (λ (o : builds.Outcome). o .answer) d, ap (λ (o : builds.Outcome). (o .rows, o .pool)) d)
 
-pub record Outcome (A : Type 0) : Type 0 where
-  pub answer : A
-  pub lent : List ℕ
+-- the pool
+pub insert : (κs : Lfts 2) → OneOutcome (insert-reads.Post κs) (λ e. now (e .0))
+insert κs args r₁ r₂ e₁ e₂ p q = inserts.determined p q
 
-both : {A : Type 0} {x y : Outcome A} → x .answer ≡ y .answer → x .lent ≡ y .lent → x ≡ y
-both {A} p q = ap₂ (λ (a : A) (w : List ℕ). record { answer = a; lent = w }) p q
+-- the bytes
+pub list : (κs : Lfts 2) → OneOutcome (list-reads.Post κs) (λ e. now (e .1 .1 .0))
+list κs args r₁ r₂ e₁ e₂ p q = lists.determined p q
 
-pub build : (rows pool : List ℕ) (start arity capacity : ℕ) → Determined (builds.Allowed rows pool start arity capacity)
-build rows pool start arity capacity = builds.determined rows pool start arity capacity
-
-pub insert : (pool : List ℕ) (t : ColumnTrie) (tuple : List ℕ) → Determined (λ (o : Outcome Inserted). Inserts pool (o .lent) t tuple (o .answer))
-insert pool t tuple x y p q = let d = inserts.determined p q in both (d .0) (d .1)
-
-pub list : (pool : List ℕ) (t : ColumnTrie) (bytes : List ℕ) → Determined (λ (o : Outcome Listed). Lists pool t bytes (o .lent) (o .answer))
-list pool t bytes x y p q = let d = lists.determined p q in both (d .0) (d .1)
-
-pub join : (pool : List ℕ) (ts : Tables) (query : Query) (window : List ℕ) → Determined (λ (o : Outcome Joined). Joins pool ts query window (o .answer) (o .lent))
-join pool ts query window x y p q = both (joins.one-answer p q) (joins.one-window p q)
+-- the window
+pub join : (κs : Lfts 2) → OneOutcome (join-reads.Post κs) (λ e. now (e .1 .1 .1 .1 .0))
+join κs args r₁ r₂ e₁ e₂ p q = (joins.one-answer p q, joins.one-window p q)
