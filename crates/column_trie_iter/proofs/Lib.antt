@@ -1,4 +1,4 @@
--- Own, Exactly, Determined and Worked have laws of their own. The other modules are steps of the functions' proofs; the crate trie_iterator cites those that are `pub`.
+-- Own, Exactly and Determined have laws of their own. The other modules are steps of the functions' proofs; the crate trie_iterator cites those that are `pub`.
 mod Answers
 pub mod Groups
 mod Opens
@@ -9,4 +9,3 @@ pub mod Rises
 pub mod Seeks
 pub mod Determined
 pub mod Exactly
-pub mod Worked

@@ -1,11 +1,11 @@
--- Document 01's worked join cases come out as they must, and two of them by the meaning itself: the triangle's three rows are its listing, so what is
--- proved of queries that pass is not empty, and "no atoms and no variables give one empty row".
+-- Two of document 01's worked joins by the meaning itself: the triangle's three rows are its listing, so what is proved of queries that pass is not
+-- empty, and "no atoms and no variables give one empty row".
 -- Idea: all is computed; rows that are their own set ascend.
 use Prim.Native.Nat.{_<_}
 use native.Mathlib.Omega.{arith}
 use mathlib.Core.Path.{_≡_, refl, subst}
 use mathlib.Core.Bool.{true}
-use mathlib.Core.List.{[], _∷_, map}
+use mathlib.Core.List.{List, [], _∷_}
 use lib.ListN.{length}
 use lib.Dec.{eqb}
 use borrow.Author.Tests.{eqb-true}
@@ -16,13 +16,16 @@ use Rattle.relation.proofs.Sorting.{asSet-asc}
 use Rattle.query.specs.Meaning.{Atom, Listing, follows, Table, Passes}
 use Rattle.query.specs.Solve.{listing}
 use Rattle.query.specs.Checks.{every, permutes, covers}
-use Rattle.query.specs.Worked.{Case, comes, cases, triangle}
 use Rattle.query.proofs.Checks.{every-in, passes-of}
 use Rattle.query.proofs.Listed.{listing-listing}
 
-pub worked : map (λ (c : Case). comes (c .asked)) cases ≡ map (λ (c : Case). c .must) cases
-unfolding comes cases
-worked = refl
+-- R(0,1) = (1,2),(1,3),(2,3); S(1,2) = (2,3),(3,1); T(0,2) = (1,1),(1,3),(2,1)
+abbrev pub triangle : List Atom
+triangle =
+    record { vars = 0 ∷ 1 ∷ []; rows = (1 ∷ 2 ∷ []) ∷ (1 ∷ 3 ∷ []) ∷ (2 ∷ 3 ∷ []) ∷ [] } ∷
+    record { vars = 1 ∷ 2 ∷ []; rows = (2 ∷ 3 ∷ []) ∷ (3 ∷ 1 ∷ []) ∷ [] } ∷
+    record { vars = 0 ∷ 2 ∷ []; rows = (1 ∷ 1 ∷ []) ∷ (1 ∷ 3 ∷ []) ∷ (2 ∷ 1 ∷ []) ∷ [] } ∷
+    []
 
 table : (a : Atom) → 0 < length (a .vars) → every (λ (r : Row). eqb (length r) (length (a .vars))) (a .rows) ≡ true → asSet (a .rows) ≡ a .rows → Table a
 table a h w s = record {

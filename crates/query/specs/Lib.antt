@@ -6,4 +6,3 @@ pub mod Solve
 pub mod Window
 pub mod Outcome
 pub mod Descend
-pub mod Worked

@@ -1,7 +1,8 @@
 -- What document 01 stars under "Worked on the bench": a table of what is asked and what must come. `comes` asks the definitions that the public calls' contracts cite.
 use Prim.Native.Nat.{ℕ}
-use mathlib.Core.Bool.{Bool, false}
-use mathlib.Core.List.{List, [], _∷_}
+use mathlib.Core.Bool.{Bool, false, true}
+use mathlib.Core.List.{List, [], _∷_, _++_}
+use lib.ListN.{take}
 use lib.IntN.{ℤ, negsuc}
 use Rattle.relation.specs.Order.{Row}
 use Rattle.seek.specs.Seek.{seekOf}
@@ -38,9 +39,9 @@ pub data Comes : Type 0 where
   Table : ℕ → ColumnTrie → List ℕ → Comes
   -- number, whether it was new, header, pool
   New : ℕ → Bool → ColumnTrie → List ℕ → Comes
-  -- number, cursor, the run shown, or the key there
-  Run : ℕ → ColumnTrieIter → List ℕ → Comes
-  Key : ℕ → ColumnTrieIter → ℕ → Comes
+  -- number, whether it opened or rose, cursor, the run shown, or the key there
+  Run : ℕ → Bool → ColumnTrieIter → List ℕ → Comes
+  Key : ℕ → Bool → ColumnTrieIter → ℕ → Comes
   -- offset, probes
   Sought : ℕ → ℕ → Comes
   -- number, rows written, window
@@ -51,8 +52,8 @@ abbrev pub comes : Asked → Comes
 comes (Build rows pool start arity capacity) =
     Table (builtAnswer rows pool start arity capacity .number) (builtAnswer rows pool start arity capacity .table) (poolLeft rows pool start arity capacity)
 comes (Insert pool t tuple) = New (insertNumber pool t tuple) (takesIn pool t tuple) (inserts.tableLeft pool t tuple) (inserts.poolLeft pool t tuple)
-comes (Open pool t it) = Run (openOf pool t it .number) (openOf pool t it .iter) (remaining pool t (openOf pool t it .iter))
-comes (Up pool t it) = Key (upOf pool t it .number) (upOf pool t it .iter) (keyOf pool t (upOf pool t it .iter) .key)
+comes (Open pool t it) = Run (openOf pool t it .number) (openOf pool t it .opened) (openOf pool t it .iter) (remaining pool t (openOf pool t it .iter))
+comes (Up pool t it) = Key (upOf pool t it .number) (upOf pool t it .risen) (upOf pool t it .iter) (keyOf pool t (upOf pool t it .iter) .key)
 comes (Seek s run target) = Sought (seekOf s run target .offset) (seekOf s run target .probes)
 comes (Join pool ts q window) = Rows (outcome pool ts q window .number) (outcome pool ts q window .rows) (outcome pool ts q window .words)
 comes (Grade g) = Word (wordOf g)
@@ -105,14 +106,23 @@ triangle =
     1 ∷ 2 ∷ 0 ∷ 0 ∷ 0 ∷ 0 ∷ 1 ∷ 3 ∷ 1 ∷ 0 ∷ 2 ∷ 0 ∷
     []
 
+abbrev nought : ColumnTrie
+nought = record { start = 0; arity = 0; capacity = 0; «data_len» = 0 ∷ 0 ∷ 0 ∷ 0 ∷ 0 ∷ 0 ∷ 0 ∷ 0 ∷ []; «interval_len» = 0 ∷ 0 ∷ 0 ∷ 0 ∷ 0 ∷ 0 ∷ 0 ∷ 0 ∷ []; «tuple_count» = 0 }
+
 abbrev three : Tables
-three = record { count = 3; tables = table 0 2 3 ∷ table 12 2 2 ∷ table 24 2 3 ∷ [] }
+three = record { count = 3; tables = table 0 2 3 ∷ table 12 2 2 ∷ table 24 2 3 ∷ nought ∷ nought ∷ nought ∷ nought ∷ nought ∷ [] }
 
 abbrev atom : ℕ → ℕ → ℕ → Atom
-atom t x y = record { table = t; len = 2; variables = x ∷ y ∷ [] }
+atom t x y = record { table = t; len = 2; variables = x ∷ y ∷ 0 ∷ 0 ∷ 0 ∷ 0 ∷ 0 ∷ 0 ∷ [] }
+
+abbrev zeros : List ℕ
+zeros = 0 ∷ 0 ∷ 0 ∷ 0 ∷ 0 ∷ 0 ∷ 0 ∷ 0 ∷ []
+
+abbrev noughts : List Atom
+noughts = atom 0 0 0 ∷ atom 0 0 0 ∷ atom 0 0 0 ∷ atom 0 0 0 ∷ atom 0 0 0 ∷ atom 0 0 0 ∷ atom 0 0 0 ∷ []
 
 abbrev query : ℕ → List ℕ → ℕ → List Atom → Query
-query n order count atoms = record { n = n; order = order; «atom_count» = count; atoms = atoms }
+query n order count atoms = record { n = n; order = take 8 (order ++ zeros); «atom_count» = count; atoms = take 8 (atoms ++ noughts) }
 
 abbrev triangleQuery : Query
 triangleQuery = query 3 (0 ∷ 1 ∷ 2 ∷ []) 3 (atom 0 0 1 ∷ atom 1 1 2 ∷ atom 2 0 2 ∷ [])
@@ -125,7 +135,7 @@ abbrev chained : List ℕ
 chained = 1 ∷ 2 ∷ 0 ∷ 0 ∷ 0 ∷ 0 ∷ 2 ∷ 3 ∷ 0 ∷ 0 ∷ 1 ∷ 0 ∷ []
 
 abbrev single : Tables
-single = record { count = 1; tables = table 0 2 2 ∷ [] }
+single = record { count = 1; tables = table 0 2 2 ∷ nought ∷ nought ∷ nought ∷ nought ∷ nought ∷ nought ∷ nought ∷ [] }
 
 pub record Line : Type 0 where
   pub asked : Asked
@@ -139,8 +149,8 @@ starred =
     line (Build (2 ∷ 4 ∷ 1 ∷ 3 ∷ 1 ∷ 2 ∷ 1 ∷ 3 ∷ []) nines 1 2 4) (Table 0 (header 2 1 3 2 3) four) ∷
     line (Build [] nines 1 2 4) (Table 0 (header 0 0 0 0 0) nines) ∷
     line (Insert four (header 2 1 3 2 3) (1 ∷ 3 ∷ [])) (New 0 false (header 2 1 3 2 3) four) ∷
-    line (Open tens (header 2 1 3 2 3) (cursor 1 0 1)) (Run 0 (cursor 2 1 0) (3 ∷ [])) ∷
-    line (Up tens (header 2 1 3 2 3) (cursor 2 1 0)) (Key 0 (cursor 1 0 1) 20) ∷
+    line (Open tens (header 2 1 3 2 3) (cursor 1 0 1)) (Run 0 true (cursor 2 1 0) (3 ∷ [])) ∷
+    line (Up tens (header 2 1 3 2 3) (cursor 2 1 0)) (Key 0 true (cursor 1 0 1) 20) ∷
     line (Seek Linear evens 7) (Sought 3 4) ∷
     line (Seek Binary evens 7) (Sought 3 3) ∷
     line (Seek Galloping evens 7) (Sought 3 5) ∷
