@@ -138,12 +138,12 @@ module _ (given lent : List ℕ) (start arity capacity : ℕ) where
   numbers : Numbers given lent start arity capacity number
   numbers =
       record {
-        arity-off = record { forth = λ e. subst Facts e checked; back = one };
-        capacity-off = record { forth = λ e. subst Facts e checked; back = two };
-        not-in-pool = record { forth = λ e. subst Facts e checked; back = three };
-        not-whole-rows = record { forth = λ e. subst Facts e checked; back = λ h. four (h .0) (h .1) };
-        too-many-rows = record { forth = λ e. subst Facts e checked; back = λ h. five (h .0) (h .1) (h .2) };
-        accepted = record { forth = λ e. subst Facts e checked; back = λ h. none (h .0) (h .1) (h .2) };
+        arity-off = (λ e. subst Facts e checked, one);
+        capacity-off = (λ e. subst Facts e checked, two);
+        not-in-pool = (λ e. subst Facts e checked, three);
+        not-whole-rows = (λ e. subst Facts e checked, λ h. four (h .0) (h .1));
+        too-many-rows = (λ e. subst Facts e checked, λ h. five (h .0) (h .1) (h .2));
+        accepted = (λ e. subst Facts e checked, λ h. none (h .0) (h .1) (h .2));
       }
 
 pub each-number-of-a-build-is-given-exactly-when :

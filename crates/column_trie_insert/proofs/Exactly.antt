@@ -130,11 +130,11 @@ module _ (pool : List ℕ) (t : ColumnTrie) (tuple : Row) where
   numbers : Numbers pool t tuple number (takesIn pool t tuple)
   numbers =
       record {
-        damaged = record { forth = λ e. subst Facts e checked; back = six };
-        another-length = record { forth = λ e. subst Facts e checked; back = four };
-        full = record { forth = λ e. subst Facts e checked; back = λ h. five (h .0) (h .1) (h .2) };
-        accepted = record { forth = λ e. subst Facts e checked; back = λ h. none (h .0) (h .1) };
-        is-new = record { forth = new-tells; back = new-told };
+        damaged = (λ e. subst Facts e checked, six);
+        another-length = (λ e. subst Facts e checked, four);
+        full = (λ e. subst Facts e checked, λ h. five (h .0) (h .1) (h .2));
+        accepted = (λ e. subst Facts e checked, λ h. none (h .0) (h .1));
+        is-new = (new-tells, new-told);
       }
 
 pub each-number-of-an-insert-is-given-exactly-when : {pool pool′ : List ℕ} {t : ColumnTrie} {tuple : Row} {r : Inserted} → Inserts pool pool′ t tuple r → Numbers pool t tuple (r .number) (r .«is_new»)

@@ -36,11 +36,11 @@ module _ {pool pool′ : List ℕ} {t : ColumnTrie} {tuple : Row} {r : Inserted}
           }
 
   pub a-refused-insert-leaves-everything-untouched : (r .number ≡ 0 → ⊥) → Untouched pool pool′ t r
-  a-refused-insert-leaves-everything-untouched n = only-a-new-tuple-changes-anything (λ e. n (each-number-of-an-insert-is-given-exactly-when s .is-new .forth e .0))
+  a-refused-insert-leaves-everything-untouched n = only-a-new-tuple-changes-anything (λ e. n (each-number-of-an-insert-is-given-exactly-when s .is-new .0 e .0))
 
   -- no word of a capacity: a table at capacity takes it too
   pub a-duplicate-is-accepted-and-changes-nothing : Undamaged pool t → tuple ∈ rowsIn pool t → (r .number ≡ 0) × Untouched pool pool′ t r
   a-duplicate-is-accepted-and-changes-nothing u m =
       let x = each-number-of-an-insert-is-given-exactly-when s in
       let own = every-undamaged-table-is-what-a-build-of-its-own-rows-leaves (u .arity .0) (u .layers) in
-      (x .accepted .back ((u, own .width tuple m), inl m), only-a-new-tuple-changes-anything (λ e. x .is-new .forth e .1 m))
+      (x .accepted .1 ((u, own .width tuple m), inl m), only-a-new-tuple-changes-anything (λ e. x .is-new .0 e .1 m))

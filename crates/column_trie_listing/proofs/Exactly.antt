@@ -50,7 +50,7 @@ module _ (pool : List ℕ) (t : ColumnTrie) (bytes : List ℕ) where
   numbers = by-damage (undamaged pool t) refl
     where
       all : (number ≡ 6 → Undamaged pool t → ⊥) → (number ≡ 14 → Undamaged pool t × (length bytes < long)) → (number ≡ 0 → Undamaged pool t × (long ≤ length bytes)) → Numbers pool t bytes number
-      all a b c = record { damaged = record { forth = a; back = six }; too-long = record { forth = b; back = fourteen }; accepted = record { forth = c; back = none } }
+      all a b c = record { damaged = (a, six); too-long = (b, fourteen); accepted = (c, none) }
 
       by-length : Undamaged pool t → Dec (length bytes < long) → Numbers pool t bytes number
       by-length u (yes h) = let z = fourteen (u, h) in all (λ e. absurd (omega arith)) (λ e. (u, h)) (λ e. absurd (omega arith))

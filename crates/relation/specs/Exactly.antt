@@ -1,5 +1,3 @@
--- "Exactly when": of two facts each gives the other.
-
-pub record Exactly (A B : Type 0) : Type 0 where
-  pub forth : A → B
-  pub back : B → A
+-- "Exactly when": each follows from the other.
+abbrev pub Exactly : Type 0 → Type 0 → Type 0
+Exactly A B = (A → B) × (B → A)
