@@ -14,7 +14,7 @@
  * no is a no, and a header or cursor comes back as it was handed in (that of a refused build is all zeros).
  *
  *    1  arity 0 or over 8
- *    2  capacity 0 or over 4,096
+ *    2  capacity 0 or over 65,536
  *    3  the table's words do not lie in the pool
  *    4  the words are not whole rows; the tuple is not as long as the arity
  *    5  more rows than the capacity, duplicates counted; a new tuple when the count is the capacity
@@ -38,7 +38,7 @@ extern "C" {
 #endif
 
 #define DUCATBRIAR_MAX_ARITY 8
-#define DUCATBRIAR_MAX_CAPACITY 4096
+#define DUCATBRIAR_MAX_CAPACITY 65536
 #define DUCATBRIAR_MAX_TABLES 8
 #define DUCATBRIAR_MAX_ATOMS 8
 
