@@ -102,7 +102,7 @@ impl Case for Grown {
             all.push(Grown { arity: self.arity - 1, built, inserted, ..self.clone() });
         }
         if self.capacity > 1 {
-            all.push(Grown { capacity: self.capacity - 1, ..self.clone() });
+            all.extend([self.capacity / 2, self.capacity - 1].map(|capacity| Grown { capacity, ..self.clone() }));
         }
         all
     }
