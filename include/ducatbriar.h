@@ -13,15 +13,15 @@
  * In every answer `number` is 0 or that of the refusal. A refusal other than 12 changes no lent word; the answer's other numbers are 0, each yes or
  * no is a no, and a header or cursor comes back as it was handed in (that of a refused build is all zeros).
  *
- *    1  arity 0 or over 8
- *    2  capacity 0 or over 4,096
+ *    1  arity 0 or over DUCATBRIAR_MAX_ARITY
+ *    2  capacity 0 or over DUCATBRIAR_MAX_CAPACITY
  *    3  the table's words do not lie in the pool
  *    4  the words are not whole rows; the tuple is not as long as the arity
  *    5  more rows than the capacity, duplicates counted; a new tuple when the count is the capacity
  *    6  damaged table, or words of a damaged table that stop a cursor
  *    7  the cursor does not stand in the table
- *    8  the order is not a permutation of 0 to n - 1, or n is over 8
- *    9  over 8 atoms or tables, or an atom names no table
+ *    8  the order is not a permutation of 0 to n - 1, or n is over DUCATBRIAR_MAX_VARIABLES
+ *    9  over DUCATBRIAR_MAX_ATOMS atoms or DUCATBRIAR_MAX_TABLES tables, or an atom names no table
  *   10  an atom's list is not as long as its table's arity, holds a number from n up, or does not strictly follow the order
  *   11  some variable is in no atom
  *   12  more rows exist than fit the window
@@ -37,10 +37,12 @@
 extern "C" {
 #endif
 
-#define DUCATBRIAR_MAX_ARITY 8
-#define DUCATBRIAR_MAX_CAPACITY 4096
-#define DUCATBRIAR_MAX_TABLES 8
-#define DUCATBRIAR_MAX_ATOMS 8
+/* The limits: the one place where a caller finds them. */
+#define DUCATBRIAR_MAX_ARITY 8        /* columns of a table */
+#define DUCATBRIAR_MAX_CAPACITY 65536 /* rows of a table */
+#define DUCATBRIAR_MAX_TABLES 8       /* of a join */
+#define DUCATBRIAR_MAX_ATOMS 8        /* of a query */
+#define DUCATBRIAR_MAX_VARIABLES 8    /* of a query */
 
 /* How a run is searched. A number that is none of these counts as galloping. */
 #define DUCATBRIAR_LINEAR 0    /* key by key from the front */
@@ -186,7 +188,7 @@ typedef struct {
 /* Variables are 0 to n - 1, bound in the sequence of `order`, of which the first n count. */
 typedef struct {
     uint64_t n;
-    uint64_t order[DUCATBRIAR_MAX_ARITY];
+    uint64_t order[DUCATBRIAR_MAX_VARIABLES];
     uint64_t atom_count;
     ducatbriar_atom atoms[DUCATBRIAR_MAX_ATOMS];
 } ducatbriar_query;

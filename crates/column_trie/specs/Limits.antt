@@ -5,4 +5,4 @@ abbrev pub maxArity : ℕ
 maxArity = 8
 
 abbrev pub maxCapacity : ℕ
-maxCapacity = 4096
+maxCapacity = 65536

@@ -28,7 +28,7 @@ pub struct ColumnTrie {
 impl ColumnTrie {
     pub const MAX_ARITY: usize = 8;
 
-    pub const MAX_CAPACITY: usize = 4096;
+    pub const MAX_CAPACITY: usize = 65536;
 
     // The header of a table without rows.
     pub fn empty(start: usize, arity: usize, capacity: usize) -> Self

@@ -380,15 +380,15 @@ fn length_sixes() {
 
 // Arity and capacity over their limits, in a pool with room for them.
 fn limit_sixes() {
-    let pool = [0u64; 16388];
+    let pool = [0u64; 131074];
     let mut t = tens();
     t.arity = 9;
     no_key(b"arity 9", &pool, t, at(0, 0, 0), 6);
-    t.arity = 2;
-    t.capacity = 4097;
-    no_key(b"capacity 4,097", &pool, t, at(0, 0, 0), 6);
-    t.capacity = 4096;
-    no_key(b"capacity 4,096", &pool, t, at(0, 0, 0), 0);
+    t.arity = 1;
+    t.capacity = 65537;
+    no_key(b"capacity 65,537", &pool, t, at(0, 0, 0), 6);
+    t.capacity = 65536;
+    no_key(b"capacity 65,536", &pool, t, at(0, 0, 0), 0);
 }
 
 // Open needs an interval outside its list.

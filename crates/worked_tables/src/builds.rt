@@ -121,8 +121,10 @@ fn greatest() {
     let mut rows = [0u64; ColumnTrie::MAX_CAPACITY];
     fall(&mut rows);
     line(&mut rows, &mut pool, 0, 1, most, 0, most);
-    let mut equal = [7u64; OVER];
-    line(&mut equal, &mut pool, 0, 1, most, 5, 0);
+    let mut over = [7u64; OVER];
+    line(&mut over, &mut pool, 0, 1, most, 5, 0);
+    fall(&mut over);
+    line(&mut over, &mut pool, 0, 1, most, 5, 0);
 }
 
 // 1: arity 0, and one over the most.

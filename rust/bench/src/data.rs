@@ -1,4 +1,5 @@
-//! Rows of two words, of four shapes, the same at every run.
+//! Rows of two words, of several shapes, the same at every run.
+use std::collections::HashSet;
 
 /// A sequence of words that a number repeats.
 pub struct Words(pub u64);
@@ -16,43 +17,90 @@ impl Words {
     fn part(&mut self) -> f64 {
         (self.word() >> 11) as f64 / (1u64 << 53) as f64
     }
-}
 
-pub const SHAPES: [&str; 4] = ["uniform", "dense", "skewed", "star"];
-
-/// Distinct rows of this shape, in no order. `seed` tells the relations of one join apart.
-pub fn rows(shape: &str, count: usize, seed: u64) -> Vec<[u64; 2]> {
-    let mut words = Words(0x9e37_79b9_7f4a_7c15 ^ (seed + 1));
-    let root = (count as f64).sqrt();
-    let mut seen = std::collections::HashSet::new();
-    let mut rows = vec![];
-    let mut next = 0;
-    while rows.len() < count {
-        let row = match shape {
-            // Keys from a range in which a key has eight others beside it.
-            "uniform" => [words.word() % (count as u64 / 8), words.word() % (count as u64 / 8)],
-            // Two of three of all pairs.
-            "dense" => [words.word() % (1.25 * root) as u64, words.word() % (1.25 * root) as u64],
-            // Small keys often, large ones seldom.
-            "skewed" => [0, 1].map(|_| (count as f64 * words.part().powi(4)) as u64),
-            // Every key beside the hub 0, on either side.
-            "star" => {
-                next += 1;
-                if next % 2 == 0 {
-                    [0, next / 2]
-                } else {
-                    [next / 2, 0]
-                }
-            }
-            _ => panic!("no shape {shape}"),
-        };
-        if seen.insert(row) {
-            rows.push(row);
+    pub fn shuffle<T>(&mut self, items: &mut [T]) {
+        for i in (1..items.len()).rev() {
+            items.swap(i, (self.word() % (i as u64 + 1)) as usize);
         }
     }
-    // A star comes in order, which no caller promises.
-    for i in (1..rows.len()).rev() {
-        rows.swap(i, (words.word() % (i as u64 + 1)) as usize);
+}
+
+pub type Row = [u64; 2];
+
+/// How keys are chosen.
+#[derive(Clone, Copy)]
+pub enum Shape {
+    /// From so many keys, each as often as another.
+    Uniform(u64),
+    /// Two of three of all pairs.
+    Dense,
+    /// Small keys often, large ones seldom.
+    Skewed,
+    /// Every key beside the hub 0, on either side.
+    Star,
+    /// Speed bands, all under one surface.
+    Bands,
+}
+
+/// So many rows of one shape.
+#[derive(Clone, Copy)]
+pub struct Set {
+    pub name: &'static str,
+    pub shape: Shape,
+    pub count: usize,
+}
+
+/// The four shapes at this count: in the uniform one a key has about eight others beside it.
+pub fn four(count: usize) -> [Set; 4] {
+    let set = |name, shape| Set { name, shape, count };
+    [
+        set("uniform", Shape::Uniform(count as u64 / 8)),
+        set("dense", Shape::Dense),
+        set("skewed", Shape::Skewed),
+        set("star", Shape::Star),
+    ]
+}
+
+/// What request 14 asks of: 50,000 rows, from few keys, many, and as many as rows, and the two uneven shapes.
+pub fn large() -> [Set; 5] {
+    let set = |name, shape| Set { name, shape, count: 50_000 };
+    [
+        set("uniform, 500 keys", Shape::Uniform(500)),
+        set("uniform, 5,000 keys", Shape::Uniform(5_000)),
+        set("uniform, 50,000 keys", Shape::Uniform(50_000)),
+        set("skewed", Shape::Skewed),
+        set("star", Shape::Star),
+    ]
+}
+
+impl Set {
+    fn row(&self, words: &mut Words, number: u64) -> Row {
+        let count = self.count as f64;
+        match self.shape {
+            Shape::Uniform(keys) => [0, 1].map(|_| words.word() % keys),
+            Shape::Dense => [0, 1].map(|_| words.word() % (1.25 * count.sqrt()) as u64),
+            Shape::Skewed => [0, 1].map(|_| (count * words.part().powi(4)) as u64),
+            Shape::Star if number % 2 == 0 => [0, number / 2],
+            Shape::Star => [number / 2, 0],
+            Shape::Bands => [7, 5 * number],
+        }
     }
-    rows
+
+    /// The rows, all different, in no order. `seed` tells the relations of one join apart.
+    pub fn rows(&self, seed: u64) -> Vec<Row> {
+        let mut words = Words(0x9e37_79b9_7f4a_7c15 ^ (seed + 1));
+        let mut seen = HashSet::new();
+        let mut rows = vec![];
+        let mut number = 0;
+        while rows.len() < self.count {
+            number += 1;
+            let row = self.row(&mut words, number);
+            if seen.insert(row) {
+                rows.push(row);
+            }
+        }
+        // Some come in order, which no caller promises.
+        words.shuffle(&mut rows);
+        rows
+    }
 }

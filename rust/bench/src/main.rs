@@ -1,33 +1,55 @@
-//! bench [--rows N] [--times N] [NAME ..]: times build, insert, seek and the triangle join, kermit's and ours in turn, and prints the medians and ratios.
+//! bench [--times N] [GROUP ..]: times kermit and ours in one process, in turn, on the same rows, and prints a table for each group.
 //!
-//! docs/BENCHMARKS.md says what is timed and records a run.
+//! Without a group it runs all of them. docs/BENCHMARKS.md says what each group times, and records a run.
+#[cfg(kermit)]
+mod check;
+#[cfg(kermit)]
+mod counters;
+#[cfg(kermit)]
+mod cycles;
 #[cfg(kermit)]
 mod data;
 #[cfg(kermit)]
-mod times;
+mod inserts;
 #[cfg(kermit)]
-mod works;
+mod merge;
+#[cfg(kermit)]
+mod seeks;
+#[cfg(kermit)]
+mod sides;
+#[cfg(kermit)]
+mod times;
+
+/// What a group is called, and what prints its table, given how often each side is timed.
+#[cfg(kermit)]
+const GROUPS: [(&str, fn(usize)); 8] = [
+    ("build", inserts::build),
+    ("insert", inserts::insert),
+    ("wait", inserts::wait),
+    ("place", seeks::place),
+    ("check", check::check),
+    ("seeks", seeks::seeks),
+    ("triangle", cycles::triangles),
+    ("square", cycles::squares),
+];
 
 #[cfg(kermit)]
 fn main() {
-    let (mut rows, mut times, mut names) = (4096, 41, vec![]);
+    let (mut times, mut chosen) = (41, vec![]);
     let mut words = std::env::args().skip(1);
     while let Some(word) = words.next() {
-        let mut number = || words.next().and_then(|word| word.parse().ok()).unwrap_or_else(|| panic!("{word} needs a number"));
         match word.as_str() {
-            "--rows" => rows = number(),
-            "--times" => times = number(),
-            _ => names.push(word),
+            "--times" => times = words.next().and_then(|word| word.parse().ok()).expect("--times needs a number"),
+            name => chosen.push(*GROUPS.iter().find(|group| group.0 == name).unwrap_or_else(|| panic!("no group {name}"))),
         }
     }
-    let chosen = |name: &str| names.is_empty() || names.iter().any(|chosen| name.starts_with(chosen.as_str()));
-    println!("{rows} rows a table, {times} times each, in turn; medians. The window and the pool are touched first.\n");
-    println!("| work | data | strategy | kermit | ours | ours / kermit |");
-    println!("|---|---|---|---:|---:|---:|");
-    for work in works::all(rows) {
-        if chosen(work.name) {
-            work.run(times);
-        }
+    if chosen.is_empty() {
+        chosen = GROUPS.to_vec();
+    }
+    println!("Medians of {times} turns of each side, of fewer where a turn is long. Pools and windows are touched first.");
+    for (name, group) in chosen {
+        println!("\n{name}\n");
+        group(times);
     }
 }
 

@@ -1,15 +1,8 @@
-//! Two ways of doing one work, timed in turn.
+//! Several ways of doing one work, timed in turn.
 use std::time::{Duration, Instant};
 
-/// A work that is prepared, which is not timed, and then done, which is.
-pub struct Work {
-    pub name: &'static str,
-    pub data: &'static str,
-    pub strategy: &'static str,
-    /// Each does the work once and answers the time it took.
-    pub kermit: Box<dyn FnMut() -> Duration>,
-    pub ours: Box<dyn FnMut() -> Duration>,
-}
+/// Does the work once, and answers the time that it took.
+pub type Side<'a> = Box<dyn FnMut() -> Duration + 'a>;
 
 /// The time of the second function, over what the first prepared.
 pub fn timed<T, R>(prepare: impl FnOnce() -> T, work: impl FnOnce(T) -> R) -> Duration {
@@ -21,27 +14,42 @@ pub fn timed<T, R>(prepare: impl FnOnce() -> T, work: impl FnOnce(T) -> R) -> Du
     took
 }
 
-fn median(mut times: Vec<Duration>) -> Duration {
-    times.sort();
-    times[times.len() / 2]
+/// A side that prepares nothing.
+pub fn side<'a, R>(mut work: impl FnMut() -> R + 'a) -> Side<'a> {
+    Box::new(move || timed(|| (), |()| work()))
 }
 
-fn show(time: Duration) -> String {
-    format!("{:.1} µs", time.as_nanos() as f64 / 1000.0)
-}
+/// Where turns are long: no more of them than go into this time, but five.
+const LONG: Duration = Duration::from_secs(2);
 
-impl Work {
-    /// Does both in turn, after one of each that is not counted, and prints a line of the table.
-    pub fn run(mut self, times: usize) {
-        (self.kermit)();
-        (self.ours)();
-        let (mut kermit, mut ours) = (vec![], vec![]);
-        for _ in 0..times.max(1) {
-            kermit.push((self.kermit)());
-            ours.push((self.ours)());
-        }
-        let (kermit, ours) = (median(kermit), median(ours));
-        let ratio = ours.as_secs_f64() / kermit.as_secs_f64();
-        println!("| {} | {} | {} | {} | {} | {ratio:.2} |", self.name, self.data, self.strategy, show(kermit), show(ours));
+/// The median time of each side in nanoseconds: all in turn, after a turn that isn't counted.
+pub fn medians<const N: usize>(times: usize, mut sides: [Side; N]) -> [f64; N] {
+    let mut turn = || sides.each_mut().map(|side| side());
+    turn();
+    let start = Instant::now();
+    let mut turns = vec![];
+    while turns.len() < times && (turns.len() < 5 || start.elapsed() < LONG) {
+        turns.push(turn());
     }
+    std::array::from_fn(|i| {
+        let mut times: Vec<Duration> = turns.iter().map(|turn| turn[i]).collect();
+        times.sort();
+        times[times.len() / 2].as_nanos() as f64
+    })
+}
+
+/// Microseconds.
+pub fn micros(nanoseconds: f64) -> String {
+    format!("{:.1} µs", nanoseconds / 1e3)
+}
+
+/// Milliseconds.
+pub fn millis(nanoseconds: f64) -> String {
+    format!("{:.2} ms", nanoseconds / 1e6)
+}
+
+/// The head of a table: names, those behind the first `left` to the right.
+pub fn head(left: usize, names: &[&str]) {
+    println!("| {} |", names.join(" | "));
+    println!("|{}{}", "---|".repeat(left), "---:|".repeat(names.len() - left));
 }

@@ -15,7 +15,16 @@ impl Tally {
         if got == want {
             return Ok(());
         }
-        Err(format!("{}: ours {got:?}, expected {want:?}", what()))
+        Err(format!("{}: ours {}, expected {}", what(), cut(&got), cut(&want)))
+    }
+}
+
+/// As much of the item as one may want to read.
+fn cut(item: &impl Debug) -> String {
+    let text = format!("{item:?}");
+    match text.char_indices().nth(4000) {
+        None => text,
+        Some((end, _)) => format!("{} ..", &text[..end]),
     }
 }
 
@@ -57,14 +66,19 @@ pub fn check<C: Case>(case: C, tally: &mut Tally) -> Result<(), String> {
     })
 }
 
-/// Lists with one item left out.
+/// Items of longer lists aren't tried one by one: there would be too many lists to hold.
+const FEW: usize = 64;
+
+/// The list's halves, and the list with one item left out, or one of sixteen parts of a long one.
 pub fn shorter<T: Clone>(list: &[T]) -> Vec<Vec<T>> {
     let mut all: Vec<Vec<T>> = vec![];
     if list.len() > 3 {
         all.push(list[..list.len() / 2].to_vec());
         all.push(list[list.len() / 2..].to_vec());
     }
-    all.extend((0..list.len()).map(|i| [&list[..i], &list[i + 1..]].concat()));
+    let part = if list.len() <= FEW { 1 } else { list.len().div_ceil(16) };
+    let behind = |from: usize| &list[list.len().min(from + part)..];
+    all.extend((0..list.len()).step_by(part).map(|from| [&list[..from], behind(from)].concat()));
     all
 }
 
@@ -79,10 +93,11 @@ pub fn lower(list: &[u64]) -> Vec<Vec<u64>> {
     list.iter().enumerate().flat_map(|(i, &word)| steps(word).map(move |less| with(i, less))).collect()
 }
 
-/// Lists of rows with one row left out, or one word made smaller.
+/// Lists of rows that are shorter, or have one word made smaller if they aren't long.
 pub fn smaller_rows(rows: &[Vec<u64>]) -> Vec<Vec<Vec<u64>>> {
     let mut all = shorter(rows);
-    for (i, row) in rows.iter().enumerate() {
+    let few = if rows.len() <= FEW { rows } else { &[] };
+    for (i, row) in few.iter().enumerate() {
         all.extend(lower(row).into_iter().map(|row| {
             let mut rows = rows.to_vec();
             rows[i] = row;
@@ -92,13 +107,17 @@ pub fn smaller_rows(rows: &[Vec<u64>]) -> Vec<Vec<Vec<u64>>> {
     all
 }
 
-/// Rows as one writes them: (1, 2), (3, 4).
+/// Rows as one writes them: (1, 2), (3, 4). Of many, the first ones.
 pub fn show_rows(rows: &[Vec<u64>]) -> String {
     if rows.is_empty() {
         return "none".into();
     }
     let row = |row: &Vec<u64>| format!("({})", row.iter().map(u64::to_string).collect::<Vec<_>>().join(", "));
-    rows.iter().map(row).collect::<Vec<_>>().join(", ")
+    let shown = rows.iter().take(FEW).map(row).collect::<Vec<_>>().join(", ");
+    match rows.len().saturating_sub(FEW) {
+        0 => shown,
+        more => format!("{shown} and {more} more"),
+    }
 }
 
 #[cfg(test)]
@@ -129,6 +148,13 @@ mod tests {
         let case = Over((0..20).map(|i| vec![i % 5, i * i, 3]).collect());
         let text = check(case, &mut Tally::default()).unwrap_err();
         assert_eq!(text, "words over 6: ours 1, expected 0\non the smallest case found:\nrows (0, 7, 0)");
+    }
+
+    #[test]
+    fn a_long_case_is_shrunk_too() {
+        let case = Over((0..50_000).map(|i| vec![if i == 31_415 { 9 } else { i % 5 }]).collect());
+        let text = check(case, &mut Tally::default()).unwrap_err();
+        assert_eq!(text, "words over 6: ours 1, expected 0\non the smallest case found:\nrows (7)");
     }
 
     #[test]

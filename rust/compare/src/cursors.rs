@@ -3,7 +3,7 @@ use crate::case::{shorter, show_rows, smaller_rows, Case, Tally};
 use crate::kermit::trie;
 use crate::model::{self, Row};
 use crate::rng::{Keys, Rng};
-use crate::tables::{all_rows, marked};
+use crate::tables::{all_rows, distinct, marked, MOST};
 use ducatbriar::calls::*;
 use oracle::{taken, BinarySeek, Counted, GallopingSeek, LinearIterator, LinearSeek, TrieIterator};
 use std::collections::HashMap;
@@ -41,52 +41,82 @@ pub fn table(arity: usize, rows: &[Row]) -> (Vec<u64>, ColumnTrie) {
     (pool, built.table)
 }
 
+/// Both cursors on their way.
+struct Pair<'a, S: oracle::SeekStrategy> {
+    pool: &'a [u64],
+    t: ColumnTrie,
+    strategy: SeekStrategy,
+    ours: ColumnTrieIter,
+    theirs: oracle::ColumnTrieIter<'a, Counted<S>>,
+}
+
+fn some(found: bool, key: u64) -> Option<usize> {
+    found.then_some(key as usize)
+}
+
+impl<S: oracle::SeekStrategy> Pair<'_, S> {
+    /// Both move, and answer the same.
+    fn step(&mut self, step: Move, tally: &mut Tally, what: &dyn Fn() -> String) -> Result<(), String> {
+        let (pool, t, ours) = (self.pool, self.t, self.ours);
+        self.ours = match step {
+            Move::Next => {
+                let answer = ours.next(pool, t);
+                tally.same(answer, model::next(pool, t, ours), || what() + " by the rules")?;
+                tally.same((answer.number, some(answer.found, answer.key)), (0, self.theirs.next()), what)?;
+                answer.iter
+            }
+            Move::Seek(target) => self.seek(target, tally, what)?,
+            Move::Open => {
+                let answer = ours.open(pool, t);
+                tally.same(answer, model::open(pool, t, ours), || what() + " by the rules")?;
+                tally.same((answer.number, answer.opened), (0, self.theirs.open()), what)?;
+                answer.iter
+            }
+            Move::Up => {
+                let answer = ours.up(pool, t);
+                tally.same(answer, model::up(pool, t, ours), || what() + " by the rules")?;
+                tally.same((answer.number, answer.risen), (0, self.theirs.up()), what)?;
+                answer.iter
+            }
+        };
+        Ok(())
+    }
+
+    fn seek(&mut self, target: u64, tally: &mut Tally, what: &dyn Fn() -> String) -> Result<ColumnTrieIter, String> {
+        taken();
+        let found = self.theirs.seek(target as usize);
+        let probes = taken().1 as u64;
+        let answer = self.ours.seek(self.pool, self.t, self.strategy, target);
+        let expected = model::seek(self.pool, self.t, self.ours, self.strategy, target);
+        tally.same(answer, expected, || what() + " by the rules")?;
+        tally.same((answer.number, answer.found), (0, found), what)?;
+        if self.strategy == SeekStrategy::Linear {
+            tally.same(answer.probes, probes, || what() + ", probes")?;
+        }
+        Ok(answer.iter)
+    }
+
+    /// Both stand on the same key, or at the end.
+    fn stand(&self, tally: &mut Tally, what: &dyn Fn() -> String) -> Result<(), String> {
+        let (pool, t, ours) = (self.pool, self.t, self.ours);
+        let (key, end) = (ours.key(pool, t), ours.at_end(pool, t));
+        tally.same(key, model::key(pool, t, ours), || what() + ", then key by the rules")?;
+        tally.same(end, model::at_end(pool, t, ours), || what() + ", then at_end by the rules")?;
+        tally.same((key.number, some(key.found, key.key)), (0, self.theirs.key()), || what() + ", then key")?;
+        tally.same((end.number, end.at_end), (0, self.theirs.at_end()), || what() + ", then at_end")
+    }
+}
+
 impl Walk {
     fn walk<S: oracle::SeekStrategy>(&self, tally: &mut Tally) -> Result<(), String> {
         let (pool, t) = table(self.arity, &self.rows);
         let trie = trie::<Counted<S>>(self.arity, &self.rows);
-        let mut theirs = oracle::ColumnTrieIter::new(&trie);
-        let mut ours = ColumnTrieIter::new();
-        let some = |found: bool, key: u64| found.then_some(key as usize);
+        let theirs = oracle::ColumnTrieIter::new(&trie);
+        let mut pair = Pair { pool: &pool, t, strategy: self.strategy, ours: ColumnTrieIter::new(), theirs };
         for (i, &step) in self.moves.iter().enumerate() {
             let what = || format!("move {}, {step:?}", i + 1);
-            ours = match step {
-                Move::Next => {
-                    let answer = ours.next(&pool, t);
-                    tally.same(answer, model::next(&pool, t, ours), || what() + " by the rules")?;
-                    tally.same((answer.number, some(answer.found, answer.key)), (0, theirs.next()), what)?;
-                    answer.iter
-                }
-                Move::Seek(target) => {
-                    taken();
-                    let found = theirs.seek(target as usize);
-                    let probes = taken().1 as u64;
-                    let answer = ours.seek(&pool, t, self.strategy, target);
-                    tally.same(answer, model::seek(&pool, t, ours, self.strategy, target), || what() + " by the rules")?;
-                    tally.same((answer.number, answer.found), (0, found), what)?;
-                    if self.strategy == SeekStrategy::Linear {
-                        tally.same(answer.probes, probes, || what() + ", probes")?;
-                    }
-                    answer.iter
-                }
-                Move::Open => {
-                    let answer = ours.open(&pool, t);
-                    tally.same(answer, model::open(&pool, t, ours), || what() + " by the rules")?;
-                    tally.same((answer.number, answer.opened), (0, theirs.open()), what)?;
-                    answer.iter
-                }
-                Move::Up => {
-                    let answer = ours.up(&pool, t);
-                    tally.same(answer, model::up(&pool, t, ours), || what() + " by the rules")?;
-                    tally.same((answer.number, answer.risen), (0, theirs.up()), what)?;
-                    answer.iter
-                }
-            };
-            let (key, end) = (ours.key(&pool, t), ours.at_end(&pool, t));
-            tally.same(key, model::key(&pool, t, ours), || what() + ", then key by the rules")?;
-            tally.same(end, model::at_end(&pool, t, ours), || what() + ", then at_end by the rules")?;
-            tally.same((key.number, some(key.found, key.key)), (0, theirs.key()), || what() + ", then key")?;
-            tally.same((end.number, end.at_end), (0, theirs.at_end()), || what() + ", then at_end")?;
+            pair.step(step, tally, &what)?;
+            pair.stand(tally, &what)?;
         }
         Ok(())
     }
@@ -172,6 +202,16 @@ pub fn random(rng: &mut Rng) -> Walk {
     let count = rng.within(1, 40);
     let moves = (0..count).map(|_| random_move(rng, &rows, keys)).collect();
     Walk { arity, rows, strategy: rng.pick(&SeekStrategy::ALL), moves }
+}
+
+/// A walk under each strategy over a table of the largest capacity, with one row less.
+pub fn large(rng: &mut Rng) -> Vec<Walk> {
+    let rows = distinct(rng, 2, MOST - 1);
+    let mut walk = |strategy| {
+        let moves = (0..20).map(|_| random_move(rng, &rows, Keys::Below(800))).collect();
+        Walk { arity: 2, rows: rows.clone(), strategy, moves }
+    };
+    SeekStrategy::ALL.map(&mut walk).into()
 }
 
 /// Any move; a seek goes to any key, or to one of the rows'.

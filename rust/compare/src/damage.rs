@@ -1,8 +1,9 @@
 //! Damaged words: every call on small tables with one word changed, and cursors at every place, against document 01's rules.
-use crate::case::{show_rows, Case, Tally};
+use crate::case::{shorter, show_rows, Case, Tally};
 use crate::cursors::table;
 use crate::model::{self, Row};
 use crate::rng::Rng;
+use crate::tables::{distinct, MOST};
 use ducatbriar::calls::*;
 use std::fmt;
 
@@ -38,7 +39,7 @@ impl fmt::Display for Damaged {
 /// Words that a single change may put in the place of `word`.
 pub fn others(word: u64) -> Vec<u64> {
     let mut all = vec![0, 1, 2, 3, 4, 5, 7, 8, 9, word.wrapping_add(1), word.wrapping_sub(1)];
-    all.extend([4096, 4097, 1 << 32, (1 << 63) - 1, 1 << 63, u64::MAX - 1, u64::MAX]);
+    all.extend([model::MAX_CAPACITY, model::MAX_CAPACITY + 1, 1 << 32, (1 << 63) - 1, 1 << 63, u64::MAX - 1, u64::MAX]);
     all.sort();
     all.dedup();
     all.retain(|&other| other != word);
@@ -46,6 +47,22 @@ pub fn others(word: u64) -> Vec<u64> {
 }
 
 impl Damaged {
+    /// The table with its words changed.
+    fn spoiled(&self) -> (Vec<u64>, ColumnTrie) {
+        let (mut pool, mut t) = table(self.arity, &self.rows);
+        let mut words = header_words(&mut t);
+        words.extend(&mut pool);
+        let len = words.len();
+        self.changes.iter().for_each(|&(i, word)| *words[i % len] = word);
+        (pool, t)
+    }
+
+    /// Tables with a change or a row less.
+    fn fewer(&self) -> Vec<Damaged> {
+        let changes = shorter(&self.changes).into_iter().map(|changes| Damaged { changes, ..self.clone() });
+        changes.chain(shorter(&self.rows).into_iter().map(|rows| Damaged { rows, ..self.clone() })).collect()
+    }
+
     fn cursors(&self, t: ColumnTrie) -> Vec<ColumnTrieIter> {
         // Around the lists of a small table, and far outside.
         let numbers = |most: u64| (0..=most).chain([u64::MAX]);
@@ -79,13 +96,7 @@ impl Damaged {
 
 impl Case for Damaged {
     fn run(&self, tally: &mut Tally) -> Result<(), String> {
-        let (mut pool, mut t) = table(self.arity, &self.rows);
-        {
-            let mut words = header_words(&mut t);
-            words.extend(&mut pool);
-            let len = words.len();
-            self.changes.iter().for_each(|&(i, word)| *words[i % len] = word);
-        }
+        let (pool, t) = self.spoiled();
         tally.same(undamaged(&pool, t), model::undamaged(&pool, t), || "undamaged".into())?;
 
         let mut text = vec![b'~'; 400];
@@ -120,8 +131,33 @@ impl Case for Damaged {
     }
 
     fn smaller(&self) -> Vec<Self> {
-        let changes = crate::case::shorter(&self.changes).into_iter().map(|changes| Damaged { changes, ..self.clone() });
-        changes.chain(crate::case::shorter(&self.rows).into_iter().map(|rows| Damaged { rows, ..self.clone() })).collect()
+        self.fewer()
+    }
+}
+
+/// A larger table with some words changed: whether it is damaged, and what an insert says of it.
+#[derive(Clone)]
+pub struct Spoiled(Damaged);
+
+impl fmt::Display for Spoiled {
+    fn fmt(&self, f: &mut fmt::Formatter) -> fmt::Result {
+        self.0.fmt(f)
+    }
+}
+
+impl Case for Spoiled {
+    fn run(&self, tally: &mut Tally) -> Result<(), String> {
+        let (mut pool, t) = self.0.spoiled();
+        let mut expected = pool.clone();
+        tally.same(undamaged(&pool, t), model::undamaged(&pool, t), || "undamaged".into())?;
+        let tuple = self.0.rows.last().cloned().unwrap_or_default();
+        let answer = insert(&mut pool, t, &tuple);
+        tally.same(answer, model::insert(&mut expected, t, &tuple), || format!("answer to insert {tuple:?}"))?;
+        tally.same(pool, expected, || format!("pool after insert {tuple:?}"))
+    }
+
+    fn smaller(&self) -> Vec<Self> {
+        self.0.fewer().into_iter().map(Spoiled).collect()
     }
 }
 
@@ -163,4 +199,33 @@ pub fn random(rng: &mut Rng) -> Damaged {
         })
         .collect();
     Damaged { arity, rows, changes }
+}
+
+/// One or two words changed of a table with seven of eight of so many rows, so that groups have gaps and differ in length.
+fn spoiled(rng: &mut Rng, arity: usize, count: usize) -> Spoiled {
+    let rows = distinct(rng, arity, count);
+    let rows = rows[..count - count / 8].to_vec();
+    let (pool, t) = table(arity, &rows);
+    let changes = (0..rng.within(1, 2))
+        .map(|_| {
+            // A word of some layer's two lists, and one that is near it.
+            let d = rng.below(arity);
+            let lists = [(0, t.data_len[d]), (t.capacity, t.interval_len[d])];
+            let (from, len) = rng.pick(&lists);
+            let at = (t.start + 2 * t.capacity * d as u64 + from) as usize + rng.below(len.max(1) as usize);
+            let word = pool[at].wrapping_add(rng.within(0, 8) as u64).wrapping_sub(4);
+            (HEADER + at, word)
+        })
+        .collect();
+    Spoiled(Damaged { arity, rows, changes })
+}
+
+pub fn larger(rng: &mut Rng) -> Spoiled {
+    let (arity, count) = (rng.within(1, 4), rng.within(1, 60));
+    spoiled(rng, arity, count)
+}
+
+/// As many rows as a table can have.
+pub fn large(rng: &mut Rng) -> Vec<Spoiled> {
+    (0..12).map(|i| spoiled(rng, 1 + i % 3, MOST)).collect()
 }

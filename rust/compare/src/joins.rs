@@ -3,7 +3,7 @@ use crate::case::{shorter, show_rows, smaller_rows, Case, Tally};
 use crate::kermit;
 use crate::model::{self, Row};
 use crate::rng::Rng;
-use crate::tables::{all_rows, marked};
+use crate::tables::{all_rows, distinct, marked, MOST};
 use ducatbriar::calls::*;
 use oracle::{BinarySeek, GallopingSeek, LinearSeek};
 use std::fmt;
@@ -82,14 +82,18 @@ impl Case for Joins {
         let call = self.call();
         let n = self.order.len();
         tally.same(model::join_number(&call.pool, &call.tables, &call.query), 0, || "the query passes the checks".into())?;
-        let by_definition = model::answers(&call.pool, &call.tables, &call.query);
+        // The definition tries every row.
+        let few = self.tables.iter().all(|(_, rows)| rows.len() <= 100);
+        let by_definition = few.then(|| model::answers(&call.pool, &call.tables, &call.query));
         for strategy in SeekStrategy::ALL {
             let rows = match strategy {
                 SeekStrategy::Linear => self.theirs::<LinearSeek>(),
                 SeekStrategy::Binary => self.theirs::<BinarySeek>(),
                 SeekStrategy::Galloping => self.theirs::<GallopingSeek>(),
             };
-            tally.same(&by_definition, &rows, || format!("{strategy:?}, rows by the definition and kermit's"))?;
+            if let Some(by_definition) = &by_definition {
+                tally.same(by_definition, &rows, || format!("{strategy:?}, rows by the definition and kermit's"))?;
+            }
             for size in windows(n, rows.len()) {
                 let mut window = marked(size);
                 let mut expected = window.clone();
@@ -144,6 +148,18 @@ pub fn exhaustive() -> impl Iterator<Item = Joins> {
         atoms: vec![(0, vec![0, 1]), (0, vec![1, 2])],
     });
     triangles.chain(paths)
+}
+
+/// Over tables with as many rows as they can have: all rows of one, what a small one leaves of it, and a triangle.
+pub fn large(rng: &mut Rng) -> Vec<Joins> {
+    let full = (2, distinct(rng, 2, MOST));
+    let some = (1, (0..9).map(|_| vec![rng.below(800) as u64]).collect());
+    let sparse = [0; 3].map(|_| (2, (0..MOST).map(|_| vec![rng.below(9000) as u64, rng.below(9000) as u64]).collect()));
+    vec![
+        Joins { order: vec![1, 0], tables: vec![full.clone()], atoms: vec![(0, vec![1, 0])] },
+        Joins { order: vec![0, 1], tables: vec![full, some], atoms: vec![(0, vec![0, 1]), (1, vec![1])] },
+        Joins { order: vec![0, 1, 2], tables: sparse.into(), atoms: vec![(0, vec![0, 1]), (1, vec![1, 2]), (2, vec![0, 2])] },
+    ]
 }
 
 pub fn random(rng: &mut Rng) -> Joins {
@@ -248,7 +264,7 @@ pub fn changed(rng: &mut Rng) -> Changed {
     let changes = (0..rng.within(0, 3))
         .map(|_| {
             let i = if rng.below(3) == 0 { rng.below(2000) } else { rng.below(91) };
-            let odd = [u64::MAX, 1 << 63, 1 << 32, 4096, 9, 8, 7];
+            let odd = [u64::MAX, 1 << 63, 1 << 32, model::MAX_CAPACITY, 9, 8, 7];
             let word = if rng.below(4) == 0 { rng.pick(&odd) } else { rng.below(6) as u64 };
             (i, word)
         })

@@ -1,7 +1,7 @@
 //! compare [--seed N] [--rounds N] [PART ..]: runs against kermit, each part or those that are named.
 //!
-//! The exhaustive cases of a part are always run whole; --rounds scales the random ones. A part that fails prints what differs on the smallest case found,
-//! and the program ends with status 1.
+//! The exhaustive cases of a part are always run whole; --rounds scales the random ones, and from 1,000 on there are large ones. A part that fails prints
+//! what differs on the smallest case found, and the program ends with status 1.
 #[cfg(kermit)]
 fn main() {
     use compare::runs::{run, NAMES};

@@ -5,7 +5,7 @@
 use ducatbriar::calls::*;
 
 pub const MAX: usize = 8;
-pub const MAX_CAPACITY: u64 = 4096;
+pub const MAX_CAPACITY: u64 = 65_536;
 
 pub type Row = Vec<u64>;
 

@@ -14,11 +14,15 @@ fn some<C: Case>(tally: &mut Tally, rng: &mut Rng, rounds: usize, case: impl Fn(
     (0..rounds).try_for_each(|_| check(case(rng), tally))
 }
 
+/// From so many rounds on there are tables with as many rows as one can have: each takes as long as hundreds of small ones.
+const LARGE: usize = 1000;
+
 /// Runs the part of this name. `rounds` scales the random cases; a case of one part takes longer than one of another, so the parts have different shares.
 pub fn run(name: &str, seed: u64, rounds: usize) -> Result<Tally, String> {
     let mut tally = Tally::default();
     let t = &mut tally;
     let rng = &mut Rng::new(seed, name);
+    let large = rounds >= LARGE;
     match name {
         "seeks" => {
             all(t, seeks::exhaustive())?;
@@ -26,22 +30,26 @@ pub fn run(name: &str, seed: u64, rounds: usize) -> Result<Tally, String> {
         }
         "tables" => {
             all(t, tables::exhaustive())?;
-            all(t, tables::large(rng))?;
+            all(t, large.then(|| tables::large(rng)).into_iter().flatten())?;
             some(t, rng, 2 * rounds, tables::random)?;
             some(t, rng, 10 * rounds, tables::refused)?;
         }
         "cursors" => {
             all(t, cursors::exhaustive())?;
+            all(t, large.then(|| cursors::large(rng)).into_iter().flatten())?;
             some(t, rng, 4 * rounds, cursors::random)?;
         }
         "joins" => {
             all(t, joins::exhaustive())?;
+            all(t, large.then(|| joins::large(rng)).into_iter().flatten())?;
             some(t, rng, rounds, joins::random)?;
             some(t, rng, 4 * rounds, joins::changed)?;
         }
         "damage" => {
             all(t, damage::exhaustive())?;
+            all(t, large.then(|| damage::large(rng)).into_iter().flatten())?;
             some(t, rng, rounds / 10, damage::random)?;
+            some(t, rng, 4 * rounds, damage::larger)?;
         }
         _ => return Err(format!("no part {name}: there are {NAMES:?}")),
     }

@@ -102,7 +102,7 @@ impl Case for Grown {
             all.push(Grown { arity: self.arity - 1, built, inserted, ..self.clone() });
         }
         if self.capacity > 1 {
-            all.push(Grown { capacity: self.capacity - 1, ..self.clone() });
+            all.extend([self.capacity / 2, self.capacity - 1].map(|capacity| Grown { capacity, ..self.clone() }));
         }
         all
     }
@@ -154,27 +154,63 @@ pub fn random(rng: &mut Rng) -> Grown {
             _ => (),
         }
     }
-    // Room for all, for some, or not even for what is built.
+    // Room for all, for some, or not even for what is built; seldom as much as a table can have.
     let all = built.len() + inserted.len();
-    let capacity = match rng.below(8) {
-        0 => rng.within(1, all + 1),
-        1 => built.len().max(1),
+    let capacity = match rng.below(2000) {
+        0 => MOST,
+        1..=250 => rng.within(1, all + 1),
+        251..=500 => built.len().max(1),
         _ => all + rng.within(1, 5),
     };
     Grown { arity, capacity, margins: (rng.below(4), rng.below(4)), built, inserted }
 }
 
-/// A few large ones, at the limits: 4,096 rows at capacity 4,096, and one more.
-pub fn large(rng: &mut Rng) -> Vec<Grown> {
+/// As many rows as a table can have.
+pub const MOST: usize = model::MAX_CAPACITY as usize;
+
+/// So many rows of this arity, all different, in no order.
+pub fn distinct(rng: &mut Rng, arity: usize, count: usize) -> Vec<Row> {
+    let base = (1u64..).find(|base| base.pow(arity as u32) >= count as u64).unwrap();
+    let row = |code: u64| (0..arity).map(|i| 3 * (code / base.pow(i as u32) % base)).collect();
+    let mut rows: Vec<Row> = (0..count as u64).map(row).collect();
+    rng.shuffle(&mut rows);
+    rows
+}
+
+/// At the limit of a table's rows: so many that are built, repeated ones among them, or one more.
+fn many(rng: &mut Rng) -> Vec<Grown> {
     let mut all = vec![];
-    for (arity, keys) in [(1, 5000), (2, 64), (3, 16), (8, 3)] {
-        for rows in [4095, 4096, 4097] {
+    for (arity, keys) in [(1, 70_000), (2, 300), (8, 4)] {
+        for rows in [MOST, MOST + 1] {
             let built: Vec<Row> = (0..rows).map(|_| (0..arity).map(|_| rng.below(keys) as u64).collect()).collect();
-            let inserted = vec![built[0].clone(), vec![9999; arity], vec![0; arity]];
-            all.push(Grown { arity, capacity: 4096, margins: (2, 2), built, inserted });
+            let inserted = vec![built[0].clone(), vec![99_999; arity]];
+            all.push(Grown { arity, capacity: MOST, margins: (2, 2), built, inserted });
         }
     }
-    all.push(Grown { arity: 1, capacity: 4096, margins: (0, 0), built: vec![vec![7]; 4097], inserted: vec![] });
+    for rows in [MOST, MOST + 1] {
+        all.push(Grown { arity: 1, capacity: MOST, margins: (0, 0), built: vec![vec![7]; rows], inserted: vec![vec![7]] });
+    }
+    all
+}
+
+/// Tables that are full, or lack one row, and rows for them that are there or new: what doesn't fit gets 5.
+fn full(rng: &mut Rng) -> Vec<Grown> {
+    let mut all = vec![];
+    for arity in [1, 2, 8] {
+        for missing in [0, 1] {
+            let mut built = distinct(rng, arity, MOST + 2);
+            let new = built.split_off(MOST - missing);
+            let inserted = [&built[0], &new[0], &built[1], &new[0], &new[1]].map(Row::clone).to_vec();
+            all.push(Grown { arity, capacity: MOST, margins: (1, 1), built, inserted });
+        }
+    }
+    all
+}
+
+/// A few large ones, at the limits.
+pub fn large(rng: &mut Rng) -> Vec<Grown> {
+    let mut all = many(rng);
+    all.extend(full(rng));
     all
 }
 
@@ -224,7 +260,7 @@ fn empty_model(r: &Refused) -> ColumnTrie {
 }
 
 pub fn refused(rng: &mut Rng) -> Refused {
-    let odd = [0, 1, 2, 8, 9, 4096, 4097, 1 << 32, (1 << 63) - 1, 1 << 63, u64::MAX - 1, u64::MAX];
+    let odd = [0, 1, 2, 8, 9, MOST as u64, MOST as u64 + 1, 1 << 32, (1 << 63) - 1, 1 << 63, u64::MAX - 1, u64::MAX];
     let number = |rng: &mut Rng, most: usize| if rng.below(4) == 0 { rng.pick(&odd) } else { rng.below(most) as u64 };
     let pool = rng.below(60);
     let words = rng.below(14);

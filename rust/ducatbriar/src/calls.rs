@@ -2,6 +2,7 @@
 //!
 //! Each takes whatever words, counts, headers and cursors it is handed, never panics, and answers with a number: 0, or that of a [`Refusal`](crate::Refusal).
 //! Names and layouts are those of include/ducatbriar.h, which says what each call leaves as it was. Every number crosses as 64 bits.
+use crate::limits::{MAX_ARITY, MAX_ATOMS, MAX_TABLES, MAX_VARIABLES};
 
 /// How a run is probed: key by key from the front, by halves, or at doubling distances and then by halves.
 #[derive(Clone, Copy, Debug, Default, PartialEq, Eq, Hash)]
@@ -33,7 +34,14 @@ c_struct!(
 );
 c_struct!(
     /// A table's header: where its words start in the pool, its limits, the lengths of each layer's two lists, and the number of distinct rows.
-    ColumnTrie { start: u64, arity: u64, capacity: u64, data_len: [u64; 8], interval_len: [u64; 8], tuple_count: u64 }
+    ColumnTrie {
+        start: u64,
+        arity: u64,
+        capacity: u64,
+        data_len: [u64; MAX_ARITY],
+        interval_len: [u64; MAX_ARITY],
+        tuple_count: u64,
+    }
 );
 c_struct!(Built { number: u64, table: ColumnTrie });
 c_struct!(Inserted { number: u64, is_new: bool, table: ColumnTrie });
@@ -50,15 +58,15 @@ c_struct!(OpenAnswer { number: u64, opened: bool, iter: ColumnTrieIter });
 c_struct!(UpAnswer { number: u64, risen: bool, iter: ColumnTrieIter });
 c_struct!(
     /// The number of the table that an atom reads, and its list, `len` variables long.
-    Atom { table: u64, len: u64, variables: [u64; 8] }
+    Atom { table: u64, len: u64, variables: [u64; MAX_ARITY] }
 );
 c_struct!(
     /// The order, `n` variables long, and `atom_count` atoms.
-    Query { n: u64, order: [u64; 8], atom_count: u64, atoms: [Atom; 8] }
+    Query { n: u64, order: [u64; MAX_VARIABLES], atom_count: u64, atoms: [Atom; MAX_ATOMS] }
 );
 c_struct!(
     /// `count` headers.
-    Tables { count: u64, tables: [ColumnTrie; 8] }
+    Tables { count: u64, tables: [ColumnTrie; MAX_TABLES] }
 );
 c_struct!(Joined { number: u64, rows: u64 });
 

@@ -26,6 +26,7 @@ mod query;
 mod refusal;
 
 pub mod calls;
+pub mod limits;
 
 pub use calls::{grade_of, word_of, SeekStrategy, Sought};
 pub use pool::{Cursor, Filled, Pool, Rows, Table};

@@ -1,5 +1,6 @@
 //! A pool that owns its tables' words, with cursors and joins over them.
 use crate::calls::{self, ColumnTrie, ColumnTrieIter, SeekStrategy, Tables};
+use crate::limits::{MAX_ARITY, MAX_CAPACITY, MAX_VARIABLES};
 use crate::{Query, Refusal};
 
 /// The words of tables. It grows with every table that is built.
@@ -93,7 +94,7 @@ impl Pool {
     pub fn build<R: AsRef<[u64]>>(&mut self, arity: usize, capacity: usize, rows: &[R]) -> Result<Table, Refusal> {
         let start = self.words.len();
         // The library refuses any other arity or capacity before it looks at the pool.
-        if (1..=8).contains(&arity) && (1..=4096).contains(&capacity) {
+        if (1..=MAX_ARITY).contains(&arity) && (1..=MAX_CAPACITY).contains(&capacity) {
             self.words.resize(start + 2 * arity * capacity, 0);
         }
         let mut words = rows.iter().flat_map(|row| row.as_ref()).copied().collect::<Vec<_>>();
@@ -177,7 +178,7 @@ impl Pool {
     /// All rows of the query, each by variable number, ascending as read in the query's order.
     pub fn join(&self, strategy: SeekStrategy, tables: &[&Table], query: &Query) -> Result<Rows, Refusal> {
         let width = query.variables();
-        let mut words = vec![0; 256 * width.min(8)];
+        let mut words = vec![0; 256 * width.min(MAX_VARIABLES)];
         loop {
             let filled = self.join_into(strategy, tables, query, &mut words)?;
             if !filled.full {

@@ -1,4 +1,5 @@
 //! A refusal: its number, and what it means.
+use crate::limits::{MAX_ARITY, MAX_ATOMS, MAX_CAPACITY, MAX_TABLES, MAX_VARIABLES};
 use std::error::Error;
 use std::fmt;
 
@@ -30,17 +31,24 @@ impl Refusal {
         self.0
     }
 
-    pub fn meaning(self) -> &'static str {
+    pub fn meaning(self) -> String {
         match self.0 {
-            1 => "the arity is 0 or over 8",
-            2 => "the capacity is 0 or over 4,096",
+            1 => format!("the arity is 0 or over {MAX_ARITY}"),
+            2 => format!("the capacity is 0 or over {MAX_CAPACITY}"),
+            8 => format!("the order is not a permutation of the variables, or there are over {MAX_VARIABLES} of them"),
+            9 => format!("there are over {MAX_ATOMS} atoms or {MAX_TABLES} tables, or an atom names no table"),
+            number => Self::plain(number).into(),
+        }
+    }
+
+    /// Of the numbers that speak of no limit.
+    fn plain(number: u64) -> &'static str {
+        match number {
             3 => "the table's words do not lie in the pool",
             4 => "the words are not whole rows, or the tuple is not as long as the arity",
             5 => "there are more rows than the capacity",
             6 => "the table is damaged, or the pool is not its own",
             7 => "the cursor does not stand in the table",
-            8 => "the order is not a permutation of the variables, or there are over 8 of them",
-            9 => "there are over 8 atoms or tables, or an atom names no table",
             10 => "an atom's list is not as long as its table's arity, or does not strictly follow the order",
             11 => "some variable is in no atom",
             12 => "more rows exist than fit the window",

@@ -1,4 +1,5 @@
 //! Each number of refusal that the owned types can meet, and what the pool holds behind it.
+use ducatbriar::limits::MAX_CAPACITY;
 use ducatbriar::{calls, Pool, Query, Refusal, SeekStrategy, Table};
 
 const NO_ROWS: &[[u64; 2]] = &[];
@@ -24,7 +25,7 @@ fn builds() {
     let mut pool = Pool::new();
     assert_eq!(number(pool.build(0, 1, NO_ROWS)), 1);
     assert_eq!(number(pool.build(2, 0, NO_ROWS)), 2);
-    assert_eq!(number(pool.build(2, 4097, NO_ROWS)), 2);
+    assert_eq!(number(pool.build(2, MAX_CAPACITY + 1, NO_ROWS)), 2);
     // Three words and one: together they would be two rows.
     assert_eq!(number(pool.build(2, 2, &[&[1, 2, 3][..], &[4]])), 4);
     assert_eq!(number(pool.build(2, 1, &[[1, 2], [1, 2]])), 5);

@@ -1,0 +1,60 @@
+//! The binding's limits are those of the header, and the library's: each is the last that a call accepts.
+use ducatbriar::limits::*;
+use ducatbriar::{calls, Pool, Query, SeekStrategy};
+
+const HEADER: &str = include_str!("../../../include/ducatbriar.h");
+
+/// The number behind `#define NAME` in the header's text.
+fn defined(name: &str) -> usize {
+    let number =
+        |line: &str| line.strip_prefix("#define ")?.strip_prefix(name)?.strip_prefix(' ')?.split(' ').next()?.parse().ok();
+    HEADER.lines().find_map(number).unwrap_or_else(|| panic!("no {name} in the header"))
+}
+
+#[test]
+fn they_are_the_header_s() {
+    assert_eq!(defined("DUCATBRIAR_MAX_ARITY"), MAX_ARITY);
+    assert_eq!(defined("DUCATBRIAR_MAX_CAPACITY"), MAX_CAPACITY);
+    assert_eq!(defined("DUCATBRIAR_MAX_TABLES"), MAX_TABLES);
+    assert_eq!(defined("DUCATBRIAR_MAX_ATOMS"), MAX_ATOMS);
+    assert_eq!(defined("DUCATBRIAR_MAX_VARIABLES"), MAX_VARIABLES);
+    let limits = HEADER.lines().filter(|line| line.starts_with("#define DUCATBRIAR_MAX_")).count();
+    assert_eq!(limits, 5, "a limit of the header that the binding lacks");
+}
+
+#[test]
+fn refusals_name_them() {
+    let meaning = |arity, capacity| Pool::new().build(arity, capacity, &[[0u64; 0]; 0]).unwrap_err().to_string();
+    assert_eq!(meaning(MAX_ARITY + 1, 1), format!("refused with 1: the arity is 0 or over {MAX_ARITY}"));
+    assert_eq!(meaning(1, MAX_CAPACITY + 1), format!("refused with 2: the capacity is 0 or over {MAX_CAPACITY}"));
+}
+
+/// The number of a build of no rows.
+fn built(arity: usize, capacity: usize) -> u64 {
+    let mut pool = vec![0; 2 * arity * capacity];
+    calls::build(&mut [], &mut pool, 0, arity as u64, capacity as u64).number
+}
+
+#[test]
+fn of_tables() {
+    assert_eq!([built(MAX_ARITY, 1), built(MAX_ARITY + 1, 1)], [0, 1]);
+    assert_eq!([built(1, MAX_CAPACITY), built(1, MAX_CAPACITY + 1)], [0, 2]);
+}
+
+/// The number of a join of so many tables of one column: an atom over each variable, and over variable 0 for the atoms behind.
+fn joined(variables: usize, atoms: usize, tables: usize) -> u64 {
+    let mut pool = Pool::new();
+    let tables: Vec<_> = (0..tables).map(|_| pool.build(1, 1, &[[7]]).unwrap()).collect();
+    let over = |i: usize| if i < variables { i } else { 0 };
+    let order: Vec<usize> = (0..variables).collect();
+    let query = (0..atoms).fold(Query::new(&order), |query, i| query.atom(0, &[over(i)]));
+    let answer = pool.join(SeekStrategy::Linear, &tables.iter().collect::<Vec<_>>(), &query);
+    answer.map_or_else(|refusal| refusal.number(), |_| 0)
+}
+
+#[test]
+fn of_joins() {
+    assert_eq!([joined(MAX_VARIABLES, MAX_ATOMS, 1), joined(MAX_VARIABLES + 1, MAX_ATOMS, 1)], [0, 8]);
+    assert_eq!([joined(1, MAX_ATOMS, 1), joined(1, MAX_ATOMS + 1, 1)], [0, 9]);
+    assert_eq!([joined(1, 1, MAX_TABLES), joined(1, 1, MAX_TABLES + 1)], [0, 9]);
+}
