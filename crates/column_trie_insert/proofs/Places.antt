@@ -12,6 +12,7 @@ use lib.Dec.{eqb}
 use borrow.Author.Tests.{eqb-true, eqb-false}
 use Rattle.relation.proofs.Tests.{not-both}
 use Rattle.seek.specs.Offset.{NonFalling, Leading}
+use Rattle.seek.specs.Probes.{digits}
 use Rattle.column_trie.specs.Limits.{maxCapacity}
 use Rattle.column_trie.specs.Pool.{spot}
 use Rattle.column_trie.specs.Table.{dataLen, intervalLen, layerIn}
@@ -80,13 +81,19 @@ module _ {pool : List ℕ} {t : ColumnTrie} {d i data-from from to : ℕ} (u : G
   run-rises a b h k =
       omega (arith, run-at a (omega (arith, run-long)), run-at b (omega (arith, run-long)), u .grouped .rises (from + a) (from + b) (omega (arith, starts)) (omega arith) (omega (arith, ends, run-long)))
 
-  module _ {key offset : ℕ} (l : Leading (run pool data-from from to) key offset) where
+  -- the bound on the probes, in the layer's terms
+  probes-few : {probes : ℕ} → probes ≤ digits (length (run pool data-from from to)) → probes ≤ digits (groupTo (layerIn pool t d) i - groupFrom (layerIn pool t d) i)
+  probes-few {probes} h =
+      let e : length (run pool data-from from to) ≡ groupTo (layerIn pool t d) i - groupFrom (layerIn pool t d) i = omega (arith, run-long, starts, ends) in
+      subst (λ (n : ℕ). probes ≤ digits n) e h
+
+  module _ {key offset probes : ℕ} (l : Leading (run pool data-from from to) key offset) (c : probes ≤ digits (length (run pool data-from from to))) where
     before : (j : ℕ) → groupFrom (layerIn pool t d) i ≤ j → j < from + offset → getD (layerIn pool t d .keys) j 0 < key
     before j h k =
         let e : from + (j - from) ≡ j = omega (arith, starts) in
         subst (λ (n : ℕ). getD (layerIn pool t d .keys) n 0 < key) e (omega (arith, l .before (j - from) (omega (arith, starts)), run-at (j - from) (omega (arith, starts, l .inside, run-long))))
 
-    pub place-found : offset < length (run pool data-from from to) → PlaceOf (layerIn pool t d) i key (record { at = from + offset; there = eqb (getD (run pool data-from from to) offset 0) key })
+    pub place-found : offset < length (run pool data-from from to) → PlaceOf (layerIn pool t d) i key (record { at = from + offset; there = eqb (getD (run pool data-from from to) offset 0) key; probes = probes })
     place-found h =
         let word = getD (run pool data-from from to) offset 0 in
         record {
@@ -95,9 +102,10 @@ module _ {pool : List ℕ} {t : ColumnTrie} {d i data-from from to : ℕ} (u : G
           below = before;
           found = λ e. (omega (arith, ends, run-long), sym (run-at offset (omega (arith, run-long))) ∙ eqb-true word key e);
           absent = λ e k. omega (arith, run-at offset (omega (arith, run-long)), lt-of-le-ne (l .stops h) (λ q. eqb-false word key e (sym q)));
+          few = probes-few c;
         }
 
-    pub place-end : length (run pool data-from from to) ≤ offset → PlaceOf (layerIn pool t d) i key (record { at = to; there = false })
+    pub place-end : length (run pool data-from from to) ≤ offset → PlaceOf (layerIn pool t d) i key (record { at = to; there = false; probes = probes })
     place-end h =
         record {
           from = omega (arith, starts, group-fits);
@@ -105,4 +113,5 @@ module _ {pool : List ℕ} {t : ColumnTrie} {d i data-from from to : ℕ} (u : G
           below = λ j a b. before j a (omega (arith, run-long, group-fits));
           found = λ e. not-both false e refl;
           absent = λ e k. absurd (omega (arith, ends));
+          few = probes-few c;
         }

@@ -1,5 +1,5 @@
 -- A layer that gains a key, the pool and the header with that layer, and where a key goes in its group.
-use Prim.Native.Nat.{ℕ, suc, _+_, _≤_, _<_}
+use Prim.Native.Nat.{ℕ, suc, _+_, _-_, _≤_, _<_}
 use mathlib.Core.Path.{_≡_}
 use mathlib.Core.Bool.{Bool, true, false}
 use mathlib.Core.List.{List, _∷_, _++_, map}
@@ -8,6 +8,7 @@ use Rattle.relation.specs.Order.{Row, pick}
 use Rattle.relation.specs.Rows.{put}
 use Rattle.relation.specs.Layers.{Layer, layersOf}
 use Rattle.relation.proofs.Insert.{Stored, number}
+use Rattle.seek.specs.Probes.{digits}
 use Rattle.column_trie.specs.Pool.{lay, store, spot}
 use Rattle.column_trie.specs.Table.{dataLen, intervalLen, rowsIn, tableOf, headerSound, undamaged}
 use Rattle.column_trie.specs.declared.ColumnTrie.{ColumnTrie}
@@ -68,13 +69,14 @@ pub record Grouped (l : Layer) (i : ℕ) : Type 0 where
   pub to : groupTo l i ≤ length (l .keys)
   pub rises : (j k : ℕ) → groupFrom l i ≤ j → j ≤ k → k < groupTo l i → getD (l .keys) j 0 ≤ getD (l .keys) k 0
 
--- where a key stands in its group, or where it goes; nothing is said of how it is searched
+-- where a key stands in its group, or where it goes, and that few keys were looked at
 pub record PlaceOf (l : Layer) (i key : ℕ) (p : Place) : Type 0 where
   pub from : groupFrom l i ≤ p .at
   pub to : p .at ≤ groupTo l i
   pub below : (j : ℕ) → groupFrom l i ≤ j → j < p .at → getD (l .keys) j 0 < key
   pub found : p .there ≡ true → (p .at < groupTo l i) × (getD (l .keys) (p .at) 0 ≡ key)
   pub absent : p .there ≡ false → p .at < groupTo l i → key < getD (l .keys) (p .at) 0
+  pub few : p .probes ≤ digits (groupTo l i - groupFrom l i)
 
 -- how many of the tuple's leading keys are stored, the place of the last of them, and the place of the next, which isn't
 pub record PathOf (a : ℕ) (rows : List Row) (r : Row) (p : Path) : Type 0 where

@@ -108,10 +108,12 @@ fn begins(pool: &[u64], t: ColumnTrie, d: usize, i: usize) -> usize
     pool[from] as usize
 }
 
-// Where a key stands in its group, or where it goes.
+// Where a key stands in its group, or where it goes, and how many keys the search looked at. Nobody asks for that number: it is there so that the
+// contract can bound it.
 struct Place {
     at: usize,
     there: bool,
+    probes: usize,
 }
 
 // How many leading keys of a tuple are stored, the place of the last of them in its layer, and the place where the next one goes.
@@ -121,8 +123,8 @@ struct Path {
     at: usize,
 }
 
-// Where `key` stands in the group of interval i of layer d, or where it goes. How it is searched is no part of the contract: by halving, since a
-// group can be as long as the table.
+// Where `key` stands in the group of interval i of layer d, or where it goes. A group can be as long as the table, so it is searched by halving: no
+// more keys are looked at than the group's length has binary digits.
 fn find_place(pool: &[u64], t: ColumnTrie, d: usize, i: usize, key: u64) -> Place
     requires { ⌜ (headerSound (length (now pool)) t ≡ true) × (d < t .arity) × Grouped (layerIn (now pool) t d) i ⌝ }
     ensures { λ r. ⌜ PlaceOf (layerIn (now (pool .entry)) t d) i key r ⌝ }
@@ -133,16 +135,19 @@ fn find_place(pool: &[u64], t: ColumnTrie, d: usize, i: usize, key: u64) -> Plac
     let run_from = data_from + from;
     let run_to = data_from + to;
     let run = &pool[run_from..run_to];
-    let offset = partition_point(SeekStrategy::Binary, run, key).offset;
+    let sought = partition_point(SeekStrategy::Binary, run, key);
+    let offset = sought.offset;
     if offset < run.len() {
         return Place {
             at: from + offset,
             there: run[offset] == key,
+            probes: sought.probes,
         };
     }
     Place {
         at: to,
         there: false,
+        probes: sought.probes,
     }
 }
 

@@ -1,4 +1,5 @@
--- `column_trie_insert::find_place` meets its contract: the seek's offset leads in the group's words (Places.antt).
+-- `column_trie_insert::find_place` meets its contract: the seek's offset leads in the group's words (Places.antt), and halving looks at few of them.
+use Prim.Native.Nat.{_≤_}
 use mathlib.Core.Path.{sym, subst}
 use native.Mathlib.Omega.{arith}
 use lib.ListN.{length}
@@ -6,7 +7,8 @@ use borrow.Author.Needs.{needs}
 use Rattle.seek.specs.Offset.{Leading}
 use Rattle.seek.specs.declared.Sought.{Sought}
 use Rattle.seek.specs.declared.SeekStrategy.the-variants.{Binary}
-use Rattle.seek.proofs.Laws.{leading}
+use Rattle.seek.specs.Probes.{digits}
+use Rattle.seek.proofs.Laws.{leading, binary-cost}
 use Rattle.column_trie.proofs.Header.{LayerFits, layer-fits, header-told}
 use Rattle.column_trie_insert.proofs.Places.{Group, index-small, group-fits, run, run-long, run-rises, place-found, place-end}
 use Rattle.column_trie_insert.proofs.find_place.Statement.{statement}
@@ -34,6 +36,13 @@ found c =
     let key = c .before .before .before .before .before .before .args .key in
     let words = run (c .before .before .before .before .before .before .args .pool .now) (c .before .before .layer-at .result) (c .before .before .before .before .begins .result) (c .before .before .before .begins2 .result) in
     subst (λ (z : Sought). Leading words key (z .offset)) (sym (c .partition-point .ensures)) (leading Binary words key (run-rises (group (c .before .before))))
+
+-- and how many keys it looked at
+looked : (c : tie.After-partition-point) → c .partition-point .result .probes ≤ digits (length (run (c .before .before .before .before .before .before .args .pool .now) (c .before .before .layer-at .result) (c .before .before .before .before .begins .result) (c .before .before .before .begins2 .result)))
+looked c =
+    let key = c .before .before .before .before .before .before .args .key in
+    let words = run (c .before .before .before .before .before .before .args .pool .now) (c .before .before .layer-at .result) (c .before .before .before .before .begins .result) (c .before .before .before .begins2 .result) in
+    subst (λ (z : Sought). z .probes ≤ digits (length words)) (sym (c .partition-point .ensures)) (binary-cost words key)
 
 begins-requires : tie.Need-begins-requires
 begins-requires c κs = search needs
@@ -78,10 +87,10 @@ shared-slice-read-t23 : tie.Need-shared-slice-read-t23
 shared-slice-read-t23 c = search needs
 
 returns : tie.Need-returns
-returns c = place-found (group (c .before .before .before .before)) (found (c .before .before)) (c .before .if1 .taken)
+returns c = place-found (group (c .before .before .before .before)) (found (c .before .before)) (looked (c .before .before)) (c .before .if1 .taken)
 
 returns-2 : tie.Need-returns-2
-returns-2 c = place-end (group (c .before .before .before)) (found (c .before)) (c .if1 .left)
+returns-2 c = place-end (group (c .before .before .before)) (found (c .before)) (looked (c .before)) (c .if1 .left)
 
 pub find-place-spec : {M : Type 1} → statement M
 find-place-spec =
