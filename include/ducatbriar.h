@@ -59,7 +59,8 @@ typedef struct {
 /* Seeks the target in a run of `len` words. On a run that does not ascend: where the strategy's probes end. Never refuses; the run is only read. */
 ducatbriar_sought ducatbriar_partition_point(uint64_t strategy, const uint64_t *run, uint64_t len, uint64_t target);
 
-/* The word of a grade, a signed whole number of thousandths: the number itself from 0 up, 2^64 plus the number below 0. Never refuses. */
+/* The word of a grade, a signed whole number of thousandths: the grade plus 2^63, so that words ascend as grades do. Never refuses. Tables with grades
+   that were made by the earlier rule (the number itself from 0 up, 2^64 plus it below 0) are to be rebuilt: their words don't tell which rule made them. */
 uint64_t ducatbriar_word_of(int64_t grade);
 
 /* The grade of a word: the reverse of ducatbriar_word_of. Never refuses. */

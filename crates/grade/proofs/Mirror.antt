@@ -34,6 +34,13 @@ half (negsuc n) f e = let z : _≡_ {A = ℕ} 0 1 = cc in absurd (omega arith)
 pub cast-up : (x : ℤ) → SFits w64 x → leZ (pos 0) (R x) ≡ true → T (nonNeg (R x)) × Fits w64 (natAbs (R x))
 cast-up x f = subst (λ (z : ℤ). leZ (pos 0) z ≡ true → T (nonNeg z) × Fits w64 (natAbs z)) (sym (toZ-ofZ f)) (half x f)
 
+small : (z : ℤ) → SFits w64 z → leZ (pos 0) z ≡ true → natAbs z < 2 ^ 63
+small (pos n) f e = f .sfits
+small (negsuc n) f e = let z : _≡_ {A = ℕ} 0 1 = cc in absurd (omega arith)
+
+pub up-small : (x : ℤ) → SFits w64 x → leZ (pos 0) (R x) ≡ true → natAbs (R x) < 2 ^ 63
+up-small x f = subst (λ (z : ℤ). leZ (pos 0) z ≡ true → natAbs z < 2 ^ 63) (sym (toZ-ofZ f)) (small x f)
+
 -- what is known of the mirror of a number below 0
 pub record Mirror (m : ℤ) : Type 0 where
   pub sfits : SFits w64 m

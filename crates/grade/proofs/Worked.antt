@@ -10,10 +10,10 @@ pub record Pair (g : ℤ) (w : ℕ) : Type 0 where
   pub grade : gradeOf w ≡ g
 
 pub record GradeCases : Type 0 where
-  pub zero : Pair (pos 0) 0
-  pub minus-one : Pair (negsuc 0) 18446744073709551615
-  pub most : Pair (pos 9223372036854775807) 9223372036854775807
-  pub least : Pair (negsuc 9223372036854775807) 9223372036854775808
+  pub zero : Pair (pos 0) 9223372036854775808
+  pub minus-one : Pair (negsuc 0) 9223372036854775807
+  pub most : Pair (pos 9223372036854775807) 18446744073709551615
+  pub least : Pair (negsuc 9223372036854775807) 0
 
 pub cases : GradeCases
 unfolding wordOf gradeOf

@@ -3,7 +3,7 @@ use Prim.Native.Nat.{ℕ}
 use mathlib.Core.Bool.{Bool, false, true}
 use mathlib.Core.List.{List, [], _∷_, _++_}
 use lib.ListN.{take}
-use lib.IntN.{ℤ, negsuc}
+use lib.IntN.{ℤ, pos, negsuc}
 use Rattle.relation.specs.Order.{Row}
 use Rattle.seek.specs.Seek.{seekOf}
 use Rattle.seek.specs.declared.SeekStrategy.{SeekStrategy}
@@ -162,5 +162,8 @@ starred =
     line (Join triangle three triangleQuery (9 ∷ 9 ∷ 9 ∷ 9 ∷ 9 ∷ 9 ∷ 9 ∷ [])) (Rows 12 2 (1 ∷ 2 ∷ 3 ∷ 1 ∷ 3 ∷ 1 ∷ 9 ∷ [])) ∷
     line (Join pairs single (query 2 (1 ∷ 0 ∷ []) 1 (atom 0 1 0 ∷ [])) (0 ∷ 0 ∷ 0 ∷ 0 ∷ [])) (Rows 0 2 (9 ∷ 5 ∷ 2 ∷ 7 ∷ [])) ∷
     line (Join chained single (query 3 (0 ∷ 1 ∷ 2 ∷ []) 2 (atom 0 0 1 ∷ atom 0 1 2 ∷ [])) (0 ∷ 0 ∷ 0 ∷ [])) (Rows 0 1 (1 ∷ 2 ∷ 3 ∷ [])) ∷
-    line (Grade (negsuc 0)) (Word 18446744073709551615) ∷
+    line (Grade (pos 0)) (Word 9223372036854775808) ∷
+    line (Grade (negsuc 0)) (Word 9223372036854775807) ∷
+    line (Grade (pos 9223372036854775807)) (Word 18446744073709551615) ∷
+    line (Grade (negsuc 9223372036854775807)) (Word 0) ∷
     []

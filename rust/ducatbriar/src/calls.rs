@@ -128,10 +128,11 @@ pub fn partition_point(strategy: SeekStrategy, remaining: &[u64], target: u64) -
     unsafe { c::ducatbriar_partition_point(strategy as u64, remaining.as_ptr(), remaining.len() as u64, target) }
 }
 
-/// The word of a grade, a signed whole number of thousandths.
+/// The word of a grade, a signed whole number of thousandths: the grade plus 2^63, so that words ascend as grades do.
 ///
 /// ```
-/// assert_eq!(ducatbriar::word_of(-1), 18_446_744_073_709_551_615);
+/// assert_eq!(ducatbriar::word_of(0), 9_223_372_036_854_775_808);
+/// assert!(ducatbriar::word_of(-1) < ducatbriar::word_of(0));
 /// assert_eq!(ducatbriar::grade_of(ducatbriar::word_of(-1)), -1);
 /// ```
 pub fn word_of(grade: i64) -> u64 {
