@@ -1,10 +1,10 @@
 // Recorded walks: rows that were built, and moves of a cursor with its answers, the same under every strategy.
-use crate::reader::NOWHERE;
-use crate::reader::number;
-use crate::reader::numbers;
 use crate::tables::table_of;
-use crate::tally::Tally;
-use crate::tally::is_told;
+use cases::reader::NOWHERE;
+use cases::reader::number;
+use cases::reader::numbers;
+use cases::tally::Tally;
+use cases::tally::is_told;
 use column_trie::ColumnTrie;
 use column_trie_iter::ColumnTrieIter;
 use seek::SeekStrategy;

@@ -1,12 +1,12 @@
 // Recorded joins: tables, a query over them, and all its rows, the same under every strategy.
 //
 // Windows are the program's own: every size from one word over full down to one row short. What each must hold follows from the rows.
-use crate::reader::NOWHERE;
-use crate::reader::cut;
-use crate::reader::number;
-use crate::reader::numbers;
 use crate::tables::table_of;
-use crate::tally::Tally;
+use cases::reader::NOWHERE;
+use cases::reader::cut;
+use cases::reader::number;
+use cases::reader::numbers;
+use cases::tally::Tally;
 use column_trie::ColumnTrie;
 use leapfrog_triejoin::Atom;
 use leapfrog_triejoin::Joined;

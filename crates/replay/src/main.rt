@@ -2,22 +2,17 @@
 //
 // Each file of data/ holds the cases of one kind, made by `record` (rust/compare), and starts with their number; docs/REPLAY.md says what is in them. The
 // gate holds the counts to the file `stdout`, so the library is held to kermit's answers where no Rust is at hand.
-ghost use lib.ListN.{length};
-ghost use mathlib.Core.Path.{_≡_};
-
 mod cursors;
 mod joins;
-mod reader;
 mod seeks;
 mod tables;
-mod tally;
 
-use reader::NOWHERE;
-use reader::ended;
-use reader::number;
-use tally::Tally;
-
-const TEXT: usize = 262144;
+use cases::excerpt::cut_bytes;
+use cases::file::load;
+use cases::file::room;
+use cases::reader::NOWHERE;
+use cases::reader::number;
+use cases::tally::Tally;
 
 enum Kind {
     Seeks,
@@ -37,7 +32,7 @@ fn case(kind: Kind, text: &[u8], tally: Tally) -> Tally {
 }
 
 // So many cases, as far as the text goes.
-fn cases(kind: Kind, text: &[u8], start: Tally, count: u64) -> Tally {
+fn each_case(kind: Kind, text: &[u8], start: Tally, count: u64) -> Tally {
     let mut tally = start;
     let mut left = count;
     while 0 < left {
@@ -50,39 +45,19 @@ fn cases(kind: Kind, text: &[u8], start: Tally, count: u64) -> Tally {
     tally
 }
 
-// A text that isn't as recorded ones are, or that holds more than its cases, is wrong.
 fn replayed(kind: Kind, name: &[u8], text: &[u8]) {
     let count = number(text, 0);
-    let tally = cases(kind, text, Tally::new(count.at), count.word);
-    if ended(text, tally.at) {
-        tally.print(name, count.word);
-    } else {
-        tally.with(false).print(name, count.word);
-    }
-}
-
-// The `ensures` gives only the length, which lending the array as a slice needs.
-fn room() -> [u8; TEXT]
-    ensures { λ r. ⌜ 262144 ≡ length r ⌝ }
-{
-    [0; TEXT]
-}
-
-// The file behind fd, whole. What the array doesn't hold is missed, and so is wrong.
-fn read(kind: Kind, name: &[u8], fd: i32) {
-    let mut text = room();
-    let n = io::read_full(fd, &mut text);
-    replayed(kind, name, &text[..n]);
+    let tally = each_case(kind, text, Tally::new(count.at), count.word);
+    tally.closed(text).print(name, count.word);
 }
 
 fn replay(kind: Kind, name: &[u8]) {
-    let fd = os::open_read(name);
-    if fd < 0 {
-        os::fail(name);
-        return;
+    let mut text = room();
+    let loaded = load(name, &mut text);
+    if loaded.is_there {
+        let n = cut_bytes(&text, loaded.len);
+        replayed(kind, name, &text[..n]);
     }
-    read(kind, name, fd);
-    libc::close(fd);
 }
 
 fn main() {

@@ -1,9 +1,9 @@
 // Recorded seeks: a run, and for each target the offset, which is the same under every strategy, and the probes of the linear one.
-use crate::reader::NOWHERE;
-use crate::reader::cut;
-use crate::reader::number;
-use crate::reader::numbers;
-use crate::tally::Tally;
+use cases::reader::NOWHERE;
+use cases::reader::cut;
+use cases::reader::number;
+use cases::reader::numbers;
+use cases::tally::Tally;
 use seek::SeekStrategy;
 use seek::partition_point;
 

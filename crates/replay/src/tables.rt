@@ -1,15 +1,16 @@
 // Recorded tables: rows that were built, the count of tuples and the listing then, and the same behind each insert, with whether the tuple was new.
-use crate::reader::NOWHERE;
-use crate::reader::Read;
-use crate::reader::cut;
-use crate::reader::number;
-use crate::reader::numbers;
-use crate::tally::Tally;
-use crate::tally::is_told;
+use cases::excerpt::behind;
+use cases::excerpt::line_below;
+use cases::excerpt::stands;
+use cases::reader::NOWHERE;
+use cases::reader::cut;
+use cases::reader::number;
+use cases::reader::numbers;
+use cases::tally::Tally;
+use cases::tally::is_told;
 use column_trie::ColumnTrie;
 use column_trie_build::build;
 use column_trie_insert::insert;
-use std::num::wrapping_add_usize;
 
 const WORDS: usize = 512;
 
@@ -43,50 +44,6 @@ pub fn table_of(text: &[u8], from: usize, pool: &mut [u64], start: usize) -> Mad
         return Made { at: NOWHERE, table };
     }
     Made { at, table }
-}
-
-// The place behind a number and a newline.
-fn line_below(text: &[u8], len: Read) -> usize {
-    if text.len() <= len.at {
-        return NOWHERE;
-    }
-    len.at + 1
-}
-
-// The place behind so many bytes.
-fn behind(text: &[u8], from: usize, n: usize) -> usize {
-    if text.len() < from {
-        return NOWHERE;
-    }
-    if text.len() - from < n {
-        return NOWHERE;
-    }
-    from + n
-}
-
-// Whether there is a byte at both places, and it is the same one.
-fn same_byte(text: &[u8], at: usize, bytes: &[u8], i: usize) -> bool {
-    if text.len() <= at {
-        return false;
-    }
-    if bytes.len() <= i {
-        return false;
-    }
-    text[at] == bytes[i]
-}
-
-// Whether the first n bytes stand in the text at `from`.
-fn stands(text: &[u8], from: usize, bytes: &[u8], n: usize) -> bool {
-    let mut at = from;
-    let mut i = 0;
-    while i < n {
-        if !same_byte(text, at, bytes, i) {
-            return false;
-        }
-        at = wrapping_add_usize(at, 1);
-        i += 1;
-    }
-    true
 }
 
 // Whether the table's listing is so long, and is what the text says.

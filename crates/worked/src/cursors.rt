@@ -1,0 +1,138 @@
+// Cursors: behind the pool the header, the cursor and the call, and of a seek strategy and target; then the number, yes or no, the key, the probes and
+// the cursor. What a call doesn't answer is 0, or the cursor that was asked.
+use crate::choices::choice;
+use crate::choices::strategy_of;
+use crate::choices::word_of;
+use crate::headers::header_at;
+use crate::lists::answered;
+use cases::reader::Read;
+use cases::reader::number;
+use cases::reader::numbers;
+use cases::tally::Tally;
+use column_trie::ColumnTrie;
+use column_trie_iter::ColumnTrieIter;
+
+// Words of an answer.
+const WORDS: usize = 7;
+
+// The text's next cursor, and how far the text was read.
+struct Placed {
+    at: usize,
+    iter: ColumnTrieIter,
+}
+
+fn cursor_at(text: &[u8], from: usize) -> Placed {
+    let mut words = [0u64; 3];
+    let at = numbers(text, from, &mut words, 3);
+    Placed {
+        at,
+        iter: ColumnTrieIter {
+            depth: words[0] as usize,
+            interval_i: words[1] as usize,
+            slice_offset: words[2] as usize,
+        },
+    }
+}
+
+fn answer(number: u64, yes: bool, key: u64, probes: usize, iter: ColumnTrieIter) -> [u64; WORDS] {
+    [
+        number,
+        word_of(yes),
+        key,
+        probes as u64,
+        iter.depth as u64,
+        iter.interval_i as u64,
+        iter.slice_offset as u64,
+    ]
+}
+
+// ---- the calls
+
+fn key(pool: &[u64], table: ColumnTrie, iter: ColumnTrieIter) -> [u64; WORDS] {
+    let came = iter.key(pool, table);
+    answer(came.number, came.found, came.key, 0, iter)
+}
+
+fn next(pool: &[u64], table: ColumnTrie, iter: ColumnTrieIter) -> [u64; WORDS] {
+    let came = iter.next(pool, table);
+    let after = came.iter;
+    answer(came.number, came.found, came.key, 0, after)
+}
+
+fn at_end(pool: &[u64], table: ColumnTrie, iter: ColumnTrieIter) -> [u64; WORDS] {
+    let came = iter.at_end(pool, table);
+    answer(came.number, came.at_end, 0, 0, iter)
+}
+
+fn open(pool: &[u64], table: ColumnTrie, iter: ColumnTrieIter) -> [u64; WORDS] {
+    let came = iter.open(pool, table);
+    let after = came.iter;
+    answer(came.number, came.opened, 0, 0, after)
+}
+
+fn up(pool: &[u64], table: ColumnTrie, iter: ColumnTrieIter) -> [u64; WORDS] {
+    let came = iter.up(pool, table);
+    let after = came.iter;
+    answer(came.number, came.risen, 0, 0, after)
+}
+
+// A new cursor, whatever is asked.
+fn new() -> [u64; WORDS] {
+    answer(0, false, 0, 0, ColumnTrieIter::new())
+}
+
+// 0 key, 1 next, 2 at_end, 3 open, 4 up, and else a new cursor.
+fn call(kind: u64, pool: &[u64], table: ColumnTrie, iter: ColumnTrieIter) -> [u64; WORDS] {
+    if kind == 0 {
+        return key(pool, table, iter);
+    }
+    if kind == 1 {
+        return next(pool, table, iter);
+    }
+    if kind == 2 {
+        return at_end(pool, table, iter);
+    }
+    if kind == 3 {
+        return open(pool, table, iter);
+    }
+    if kind == 4 {
+        return up(pool, table, iter);
+    }
+    new()
+}
+
+// A seek: the strategy, the target, and the answer.
+fn seek(text: &[u8], tally: Tally, pool: &[u64], table: ColumnTrie, iter: ColumnTrieIter) -> Tally {
+    let strategy = choice(text, tally.at, 3);
+    let target = number(text, strategy.at);
+    let came = iter.seek(pool, table, strategy_of(strategy.word), target.word);
+    let after = came.iter;
+    let words = answer(came.number, came.found, 0, came.probes, after);
+    answered(text, tally.at(target.at), &words)
+}
+
+// Seek is 5, and a new cursor 6.
+fn asked(
+    text: &[u8],
+    tally: Tally,
+    pool: &[u64],
+    table: ColumnTrie,
+    iter: ColumnTrieIter,
+    kind: Read,
+) -> Tally {
+    let then = tally.at(kind.at);
+    if kind.word == 5 {
+        return seek(text, then, pool, table, iter);
+    }
+    let words = call(kind.word, pool, table, iter);
+    answered(text, then, &words)
+}
+
+pub fn case(text: &[u8], tally: Tally, pool: &[u64]) -> Tally {
+    let header = header_at(text, tally.at);
+    let table = header.table;
+    let placed = cursor_at(text, header.at);
+    let iter = placed.iter;
+    let kind = choice(text, placed.at, 7);
+    asked(text, tally, pool, table, iter, kind)
+}
