@@ -1,7 +1,8 @@
-// Numbers that must not be too great, and what they stand for.
+// Single numbers: those that must not be too great, what they stand for, and those that are expected.
 use cases::reader::NOWHERE;
 use cases::reader::Read;
 use cases::reader::number;
+use cases::tally::Tally;
 use seek::SeekStrategy;
 
 // The next number, which must be below `count`.
@@ -38,4 +39,10 @@ pub fn strategy_of(word: u64) -> SeekStrategy {
 // 1 for a yes, 0 for a no.
 pub fn word_of(yes: bool) -> u64 {
     if yes { 1 } else { 0 }
+}
+
+// An answer: the text's next number is this word.
+pub fn said(text: &[u8], tally: Tally, word: u64) -> Tally {
+    let read = number(text, tally.at);
+    tally.with(read.word == word).at(read.at)
 }

@@ -1,10 +1,10 @@
 // Cursors: behind the pool the header, the cursor and the call, and of a seek strategy and target; then the number, yes or no, the key, the probes and
 // the cursor. What a call doesn't answer is 0, or the cursor that was asked.
 use crate::choices::choice;
+use crate::choices::said;
 use crate::choices::strategy_of;
 use crate::choices::word_of;
 use crate::headers::header_at;
-use crate::lists::answered;
 use cases::reader::Read;
 use cases::reader::number;
 use cases::reader::numbers;
@@ -12,19 +12,16 @@ use cases::tally::Tally;
 use column_trie::ColumnTrie;
 use column_trie_iter::ColumnTrieIter;
 
-// Words of an answer.
-const WORDS: usize = 7;
-
 // The text's next cursor, and how far the text was read.
-struct Placed {
+struct Stood {
     at: usize,
     iter: ColumnTrieIter,
 }
 
-fn cursor_at(text: &[u8], from: usize) -> Placed {
+fn cursor_at(text: &[u8], from: usize) -> Stood {
     let mut words = [0u64; 3];
     let at = numbers(text, from, &mut words, 3);
-    Placed {
+    Stood {
         at,
         iter: ColumnTrieIter {
             depth: words[0] as usize,
@@ -34,55 +31,79 @@ fn cursor_at(text: &[u8], from: usize) -> Placed {
     }
 }
 
-fn answer(number: u64, yes: bool, key: u64, probes: usize, iter: ColumnTrieIter) -> [u64; WORDS] {
-    [
+// The text's next cursor is this one.
+fn placed(text: &[u8], tally: Tally, iter: ColumnTrieIter) -> Tally {
+    let depth = said(text, tally, iter.depth as u64);
+    let interval_i = said(text, depth, iter.interval_i as u64);
+    said(text, interval_i, iter.slice_offset as u64)
+}
+
+// What a call says.
+struct Answer {
+    number: u64,
+    yes: bool,
+    key: u64,
+    probes: usize,
+    iter: ColumnTrieIter,
+}
+
+fn told(number: u64, yes: bool, key: u64, probes: usize, iter: ColumnTrieIter) -> Answer {
+    Answer {
         number,
-        word_of(yes),
+        yes,
         key,
-        probes as u64,
-        iter.depth as u64,
-        iter.interval_i as u64,
-        iter.slice_offset as u64,
-    ]
+        probes,
+        iter,
+    }
+}
+
+// The text's next answer is this one.
+fn answered(text: &[u8], tally: Tally, came: Answer) -> Tally {
+    let number = said(text, tally, came.number);
+    let yes = said(text, number, word_of(came.yes));
+    let key = said(text, yes, came.key);
+    let probes = said(text, key, came.probes as u64);
+    let iter = came.iter;
+    placed(text, probes, iter)
 }
 
 // ---- the calls
 
-fn key(pool: &[u64], table: ColumnTrie, iter: ColumnTrieIter) -> [u64; WORDS] {
+fn key(pool: &[u64], table: ColumnTrie, iter: ColumnTrieIter) -> Answer {
     let came = iter.key(pool, table);
-    answer(came.number, came.found, came.key, 0, iter)
+    told(came.number, came.found, came.key, 0, iter)
 }
 
-fn next(pool: &[u64], table: ColumnTrie, iter: ColumnTrieIter) -> [u64; WORDS] {
+fn next(pool: &[u64], table: ColumnTrie, iter: ColumnTrieIter) -> Answer {
     let came = iter.next(pool, table);
     let after = came.iter;
-    answer(came.number, came.found, came.key, 0, after)
+    told(came.number, came.found, came.key, 0, after)
 }
 
-fn at_end(pool: &[u64], table: ColumnTrie, iter: ColumnTrieIter) -> [u64; WORDS] {
+fn at_end(pool: &[u64], table: ColumnTrie, iter: ColumnTrieIter) -> Answer {
     let came = iter.at_end(pool, table);
-    answer(came.number, came.at_end, 0, 0, iter)
+    told(came.number, came.at_end, 0, 0, iter)
 }
 
-fn open(pool: &[u64], table: ColumnTrie, iter: ColumnTrieIter) -> [u64; WORDS] {
+fn open(pool: &[u64], table: ColumnTrie, iter: ColumnTrieIter) -> Answer {
     let came = iter.open(pool, table);
     let after = came.iter;
-    answer(came.number, came.opened, 0, 0, after)
+    told(came.number, came.opened, 0, 0, after)
 }
 
-fn up(pool: &[u64], table: ColumnTrie, iter: ColumnTrieIter) -> [u64; WORDS] {
+fn up(pool: &[u64], table: ColumnTrie, iter: ColumnTrieIter) -> Answer {
     let came = iter.up(pool, table);
     let after = came.iter;
-    answer(came.number, came.risen, 0, 0, after)
+    told(came.number, came.risen, 0, 0, after)
 }
 
 // A new cursor, whatever is asked.
-fn new() -> [u64; WORDS] {
-    answer(0, false, 0, 0, ColumnTrieIter::new())
+fn new() -> Answer {
+    told(0, false, 0, 0, ColumnTrieIter::new())
 }
 
 // 0 key, 1 next, 2 at_end, 3 open, 4 up, and else a new cursor.
-fn call(kind: u64, pool: &[u64], table: ColumnTrie, iter: ColumnTrieIter) -> [u64; WORDS] {
+fn call(kind: u64, pool: &[u64], table: ColumnTrie, iter: ColumnTrieIter) -> Answer {
     if kind == 0 {
         return key(pool, table, iter);
     }
@@ -107,8 +128,8 @@ fn seek(text: &[u8], tally: Tally, pool: &[u64], table: ColumnTrie, iter: Column
     let target = number(text, strategy.at);
     let came = iter.seek(pool, table, strategy_of(strategy.word), target.word);
     let after = came.iter;
-    let words = answer(came.number, came.found, 0, came.probes, after);
-    answered(text, tally.at(target.at), &words)
+    let sought = told(came.number, came.found, 0, came.probes, after);
+    answered(text, tally.at(target.at), sought)
 }
 
 // Seek is 5, and a new cursor 6.
@@ -124,15 +145,15 @@ fn asked(
     if kind.word == 5 {
         return seek(text, then, pool, table, iter);
     }
-    let words = call(kind.word, pool, table, iter);
-    answered(text, then, &words)
+    let came = call(kind.word, pool, table, iter);
+    answered(text, then, came)
 }
 
 pub fn case(text: &[u8], tally: Tally, pool: &[u64]) -> Tally {
     let header = header_at(text, tally.at);
     let table = header.table;
-    let placed = cursor_at(text, header.at);
-    let iter = placed.iter;
-    let kind = choice(text, placed.at, 7);
+    let stood = cursor_at(text, header.at);
+    let iter = stood.iter;
+    let kind = choice(text, stood.at, 7);
     asked(text, tally, pool, table, iter, kind)
 }

@@ -1,10 +1,14 @@
 // Headers as a case writes them: start, arity, capacity, eight lengths of data, eight of intervals, and the count of tuples.
-use crate::lists::answered;
-use cases::reader::numbers;
+use crate::choices::said;
+use cases::reader::number;
 use cases::tally::Tally;
 use column_trie::ColumnTrie;
 
-const WORDS: usize = 20;
+// Eight numbers, and how far the text was read.
+pub struct Eight {
+    pub at: usize,
+    pub eight: [usize; ColumnTrie::MAX_ARITY],
+}
 
 // A header, and how far the text was read.
 pub struct Header {
@@ -12,72 +16,62 @@ pub struct Header {
     pub table: ColumnTrie,
 }
 
-fn data_lens(w: [u64; WORDS]) -> [usize; ColumnTrie::MAX_ARITY] {
-    [
-        w[3] as usize,
-        w[4] as usize,
-        w[5] as usize,
-        w[6] as usize,
-        w[7] as usize,
-        w[8] as usize,
-        w[9] as usize,
-        w[10] as usize,
-    ]
+// The text's next eight numbers.
+pub fn eight_at(text: &[u8], from: usize) -> Eight {
+    let mut eight = [0usize; ColumnTrie::MAX_ARITY];
+    let mut at = from;
+    let mut i = 0;
+    while i < ColumnTrie::MAX_ARITY {
+        let read = number(text, at);
+        eight[i] = read.word as usize;
+        at = read.at;
+        i += 1;
+    }
+    Eight { at, eight }
 }
 
-fn interval_lens(w: [u64; WORDS]) -> [usize; ColumnTrie::MAX_ARITY] {
-    [
-        w[11] as usize,
-        w[12] as usize,
-        w[13] as usize,
-        w[14] as usize,
-        w[15] as usize,
-        w[16] as usize,
-        w[17] as usize,
-        w[18] as usize,
-    ]
+// The text's next eight numbers are these.
+fn eight_said(text: &[u8], start: Tally, eight: [usize; ColumnTrie::MAX_ARITY]) -> Tally {
+    let mut tally = start;
+    let mut i = 0;
+    while i < ColumnTrie::MAX_ARITY {
+        tally = said(text, tally, eight[i] as u64);
+        i += 1;
+    }
+    tally
 }
 
 // The text's next header.
 pub fn header_at(text: &[u8], from: usize) -> Header {
-    let mut words = [0u64; WORDS];
-    let at = numbers(text, from, &mut words, WORDS);
+    let start = number(text, from);
+    let arity = number(text, start.at);
+    let capacity = number(text, arity.at);
+    let data = eight_at(text, capacity.at);
+    let intervals = eight_at(text, data.at);
+    let count = number(text, intervals.at);
+    let data_len = data.eight;
+    let interval_len = intervals.eight;
     Header {
-        at,
+        at: count.at,
         table: ColumnTrie {
-            start: words[0] as usize,
-            arity: words[1] as usize,
-            capacity: words[2] as usize,
-            data_len: data_lens(words),
-            interval_len: interval_lens(words),
-            tuple_count: words[19] as usize,
+            start: start.word as usize,
+            arity: arity.word as usize,
+            capacity: capacity.word as usize,
+            data_len,
+            interval_len,
+            tuple_count: count.word as usize,
         },
     }
 }
 
 // The text's next header is this one.
 pub fn headed(text: &[u8], tally: Tally, t: ColumnTrie) -> Tally {
-    let words = [
-        t.start as u64,
-        t.arity as u64,
-        t.capacity as u64,
-        t.data_len[0] as u64,
-        t.data_len[1] as u64,
-        t.data_len[2] as u64,
-        t.data_len[3] as u64,
-        t.data_len[4] as u64,
-        t.data_len[5] as u64,
-        t.data_len[6] as u64,
-        t.data_len[7] as u64,
-        t.interval_len[0] as u64,
-        t.interval_len[1] as u64,
-        t.interval_len[2] as u64,
-        t.interval_len[3] as u64,
-        t.interval_len[4] as u64,
-        t.interval_len[5] as u64,
-        t.interval_len[6] as u64,
-        t.interval_len[7] as u64,
-        t.tuple_count as u64,
-    ];
-    answered(text, tally, &words)
+    let start = said(text, tally, t.start as u64);
+    let arity = said(text, start, t.arity as u64);
+    let capacity = said(text, arity, t.capacity as u64);
+    let data_len = t.data_len;
+    let data = eight_said(text, capacity, data_len);
+    let interval_len = t.interval_len;
+    let intervals = eight_said(text, data, interval_len);
+    said(text, intervals, t.tuple_count as u64)
 }

@@ -1,10 +1,10 @@
 // Joins: behind pool and window the tables and the query; then the number, the rows and the window.
+use crate::choices::said;
 use crate::choices::within;
+use crate::headers::eight_at;
 use crate::headers::header_at;
-use crate::lists::answered;
 use crate::lists::left;
 use cases::reader::number;
-use cases::reader::numbers;
 use cases::tally::Tally;
 use column_trie::ColumnTrie;
 use leapfrog_triejoin::Atom;
@@ -45,19 +45,6 @@ fn tables_at(text: &[u8], from: usize) -> Given {
     }
 }
 
-fn variables(words: [u64; ColumnTrie::MAX_ARITY]) -> [usize; ColumnTrie::MAX_ARITY] {
-    [
-        words[0] as usize,
-        words[1] as usize,
-        words[2] as usize,
-        words[3] as usize,
-        words[4] as usize,
-        words[5] as usize,
-        words[6] as usize,
-        words[7] as usize,
-    ]
-}
-
 // An atom, and how far the text was read.
 struct Named {
     at: usize,
@@ -68,14 +55,14 @@ struct Named {
 fn atom_at(text: &[u8], from: usize) -> Named {
     let table = number(text, from);
     let len = number(text, table.at);
-    let mut list = [0u64; ColumnTrie::MAX_ARITY];
-    let at = numbers(text, len.at, &mut list, ColumnTrie::MAX_ARITY);
+    let list = eight_at(text, len.at);
+    let variables = list.eight;
     Named {
-        at,
+        at: list.at,
         atom: Atom {
             table: table.word as usize,
             len: len.word as usize,
-            variables: variables(list),
+            variables,
         },
     }
 }
@@ -125,17 +112,17 @@ struct Posed {
 
 // The number of variables, eight of the order, the count of atoms that is said, and the atoms.
 fn query_at(text: &[u8], from: usize) -> Posed {
-    let mut order = [0u64; ColumnTrie::MAX_ARITY];
     let n = number(text, from);
-    let behind = numbers(text, n.at, &mut order, ColumnTrie::MAX_ARITY);
-    let count = number(text, behind);
+    let variables = eight_at(text, n.at);
+    let count = number(text, variables.at);
     let given = atoms_at(text, count.at);
+    let order = variables.eight;
     let atoms = given.atoms;
     Posed {
         at: given.at,
         query: Query {
             n: n.word as usize,
-            order: variables(order),
+            order,
             atom_count: count.word as usize,
             atoms,
         },
@@ -154,7 +141,7 @@ pub fn case(
     let tables = given.tables;
     let query = posed.query;
     let came = join(strategy, pool, tables, query, window);
-    let words = [came.number, came.rows as u64];
-    let numbered = answered(text, tally.at(posed.at), &words);
-    left(text, numbered, window)
+    let numbered = said(text, tally.at(posed.at), came.number);
+    let counted = said(text, numbered, came.rows as u64);
+    left(text, counted, window)
 }

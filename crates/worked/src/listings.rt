@@ -1,7 +1,7 @@
 // Listings: behind the pool the header and the buffer's length; then the number, the text's length, and below that line the text.
+use crate::choices::said;
 use crate::choices::within;
 use crate::headers::header_at;
-use crate::lists::answered;
 use cases::excerpt::behind;
 use cases::excerpt::cut_bytes;
 use cases::excerpt::line_below;
@@ -41,8 +41,7 @@ fn written(text: &[u8], tally: Tally, bytes: &[u8], len: usize) -> Tally {
 
 fn asked(text: &[u8], tally: Tally, pool: &[u64], table: ColumnTrie, bytes: &mut [u8]) -> Tally {
     let came = list(pool, table, bytes);
-    let words = [came.number];
-    let numbered = answered(text, tally, &words);
+    let numbered = said(text, tally, came.number);
     written(text, numbered, bytes, came.len)
 }
 

@@ -1,5 +1,6 @@
 // Lists of words as a case writes them: how many there are, how many are given, and these. The words behind them go on by the step between the last two
 // given; with one given they are all like it, with none all 0.
+use crate::choices::within;
 use cases::reader::NOWHERE;
 use cases::reader::number;
 use cases::tally::Tally;
@@ -22,31 +23,18 @@ pub struct Filled {
     pub len: usize,
 }
 
-// How far the text was read, and whether the words are those that it says.
-struct Held {
-    at: usize,
-    same: bool,
-}
-
-fn list_of(at: usize, len: usize, given: usize) -> List {
-    List {
-        at,
-        len,
-        given,
-        read: 0,
-        word: 0,
-        step: 0,
-    }
-}
-
 // The list that starts here. It gives no more words than it has.
 fn list_at(text: &[u8], from: usize) -> List {
     let len = number(text, from);
     let given = number(text, len.at);
-    if len.word < given.word {
-        return list_of(NOWHERE, 0, 0);
+    List {
+        at: within(given.word, len.word, given.at),
+        len: len.word as usize,
+        given: given.word as usize,
+        read: 0,
+        word: 0,
+        step: 0,
     }
-    list_of(given.at, len.word as usize, given.word as usize)
 }
 
 fn step_to(word: u64, last: u64, read: usize) -> u64 {
@@ -98,9 +86,15 @@ pub fn fill(text: &[u8], from: usize, words: &mut [u64]) -> Filled {
     Filled { at: list.at, len }
 }
 
-// Whether the words are those of the list.
-fn holds(text: &[u8], start: List, words: &[u64]) -> Held {
-    let mut list = start;
+// Lent words: the text's next list is theirs. One of no words asks nothing; one of another length is no list of them.
+pub fn left(text: &[u8], tally: Tally, words: &[u64]) -> Tally {
+    let mut list = list_at(text, tally.at);
+    if list.len == 0 {
+        return tally.at(list.at);
+    }
+    if list.len != words.len() {
+        return tally.at(NOWHERE);
+    }
     let mut same = true;
     let mut i = 0;
     while i < words.len() {
@@ -110,24 +104,5 @@ fn holds(text: &[u8], start: List, words: &[u64]) -> Held {
         }
         i += 1;
     }
-    Held { at: list.at, same }
-}
-
-// An answer: the text's next numbers are these words.
-pub fn answered(text: &[u8], tally: Tally, words: &[u64]) -> Tally {
-    let held = holds(text, list_of(tally.at, words.len(), words.len()), words);
-    tally.with(held.same).at(held.at)
-}
-
-// Lent words: the text's next list is theirs. One of no words asks nothing; one of another length is no list of them.
-pub fn left(text: &[u8], tally: Tally, words: &[u64]) -> Tally {
-    let list = list_at(text, tally.at);
-    if list.len == 0 {
-        return tally.at(list.at);
-    }
-    if list.len != words.len() {
-        return tally.at(NOWHERE);
-    }
-    let held = holds(text, list, words);
-    tally.with(held.same).at(held.at)
+    tally.with(same).at(list.at)
 }

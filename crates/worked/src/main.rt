@@ -50,15 +50,18 @@ enum Kind {
     Joins,
 }
 
+fn read(kind: OfOne, text: &[u8], tally: Tally, words: &[u64]) -> Tally {
+    match kind {
+        OfOne::Seeks => seeks::case(text, tally, words),
+        OfOne::Listings => listings::case(text, tally, words),
+        OfOne::Cursors => cursors::case(text, tally, words),
+    }
+}
+
 fn of_one(kind: OfOne, text: &[u8], tally: Tally, words: &mut [u64]) -> Tally {
     let filled = fill(text, tally.at, words);
     let n = cut(words, filled.len);
-    let then = tally.at(filled.at);
-    match kind {
-        OfOne::Seeks => seeks::case(text, then, &words[..n]),
-        OfOne::Listings => listings::case(text, then, &words[..n]),
-        OfOne::Cursors => cursors::case(text, then, &words[..n]),
-    }
+    read(kind, text, tally.at(filled.at), &words[..n])
 }
 
 fn asked(kind: OfTwo, text: &[u8], tally: Tally, pool: &mut [u64], words: &mut [u64]) -> Tally {

@@ -1,7 +1,7 @@
 // Seeks: behind the run the strategy and the target; then offset and probes.
 use crate::choices::choice;
+use crate::choices::said;
 use crate::choices::strategy_of;
-use crate::lists::answered;
 use cases::reader::number;
 use cases::tally::Tally;
 use seek::partition_point;
@@ -10,6 +10,6 @@ pub fn case(text: &[u8], tally: Tally, run: &[u64]) -> Tally {
     let strategy = choice(text, tally.at, 3);
     let target = number(text, strategy.at);
     let came = partition_point(strategy_of(strategy.word), run, target.word);
-    let words = [came.offset as u64, came.probes as u64];
-    answered(text, tally.at(target.at), &words)
+    let offset = said(text, tally.at(target.at), came.offset as u64);
+    said(text, offset, came.probes as u64)
 }

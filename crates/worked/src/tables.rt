@@ -1,8 +1,8 @@
 // Tables that are made: the header of an empty one, a build, an insert.
+use crate::choices::said;
 use crate::choices::word_of;
 use crate::headers::headed;
 use crate::headers::header_at;
-use crate::lists::answered;
 use crate::lists::left;
 use cases::reader::numbers;
 use cases::tally::Tally;
@@ -28,8 +28,7 @@ pub fn build(text: &[u8], tally: Tally, pool: &mut [u64], rows: &mut [u64]) -> T
         given[2] as usize,
     );
     let table = came.table;
-    let words = [came.number];
-    let numbered = answered(text, tally.at(at), &words);
+    let numbered = said(text, tally.at(at), came.number);
     let then = headed(text, numbered, table);
     let sorted = left(text, then, rows);
     left(text, sorted, pool)
@@ -41,8 +40,8 @@ pub fn insert(text: &[u8], tally: Tally, pool: &mut [u64], tuple: &[u64]) -> Tal
     let before = header.table;
     let came = column_trie_insert::insert(pool, before, tuple);
     let table = came.table;
-    let words = [came.number, word_of(came.is_new)];
-    let numbered = answered(text, tally.at(header.at), &words);
-    let then = headed(text, numbered, table);
+    let numbered = said(text, tally.at(header.at), came.number);
+    let answered = said(text, numbered, word_of(came.is_new));
+    let then = headed(text, answered, table);
     left(text, then, pool)
 }
