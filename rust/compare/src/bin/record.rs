@@ -1,21 +1,22 @@
-//! record DIR: writes kermit's answers as text for the program `replay`, which asks the library the same. docs/REPLAY.md says what is recorded.
+//! record CRATES: writes kermit's answers as text for the programs `replay` and `replay_leapfrogs`, which ask the library the same, each into the data folder of its
+//! program below CRATES. docs/REPLAY.md says what is recorded.
 //!
 //! The answers are kermit's alone: nothing here asks the library. The cases are the same at every run. A reader takes the decimal numbers of the text in
 //! sequence, whatever stands between them, so no other text may hold a digit; a listing stands as it is behind its length and a newline.
 #[cfg(kermit)]
 fn main() {
-    let folder = std::env::args().nth(1).expect("record DIR");
-    for (name, cases) in [
-        ("seeks", recorded::seeks()),
-        ("tables", recorded::tables()),
-        ("cursors", recorded::cursors()),
-        ("joins", recorded::joins()),
-        ("leapfrogs", recorded::leapfrogs()),
+    let crates = std::env::args().nth(1).expect("record CRATES");
+    for (program, name, cases) in [
+        ("replay", "seeks", recorded::seeks()),
+        ("replay", "tables", recorded::tables()),
+        ("replay", "cursors", recorded::cursors()),
+        ("replay", "joins", recorded::joins()),
+        ("replay_leapfrogs", "leapfrogs", recorded::leapfrogs()),
     ] {
         let text = format!("{} {name}\n{}", cases.len(), cases.concat());
-        assert!(text.len() <= 262_144, "{name} has {} bytes, more than replay's buffer", text.len());
+        assert!(text.len() <= 262_144, "{name} has {} bytes, more than {program}'s buffer", text.len());
         println!("{name}: {} cases, {} bytes", cases.len(), text.len());
-        std::fs::write(format!("{folder}/{name}"), text).unwrap();
+        std::fs::write(format!("{crates}/{program}/data/{name}"), text).unwrap();
     }
 }
 
