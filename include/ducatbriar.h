@@ -202,13 +202,14 @@ typedef struct {
 
 typedef struct {
     uint64_t number;
-    uint64_t rows; /* written */
+    uint64_t rows;  /* written */
+    uint64_t seeks; /* made by the leapfrogs; 2^64 - 1 stands for that and all above */
 } ducatbriar_joined;
 
 /* Writes the query's rows at the front of the window: the assignments of words to variables whose part for each atom is a row of its table, each once,
  * n words by variable number, ascending as read in the order, the same under all strategies. Refusals 8, 9, 10, 11, 6, 12, in that sequence; only tables
- * that atoms name are looked at. With 12 the window holds the first rows that fit, and `rows` says how many. Words behind the rows stay, and the pool is
- * only read. */
+ * that atoms name are looked at. With 12 the window holds the first rows that fit, `rows` says how many, and `seeks` are those up to finding the first row
+ * that does not fit; with any other refusal both are 0. Words behind the rows stay, and the pool is only read. */
 ducatbriar_joined ducatbriar_join(uint64_t strategy, const uint64_t *pool, uint64_t len, ducatbriar_tables tables, ducatbriar_query query,
                                   uint64_t *window, uint64_t window_len);
 

@@ -1,132 +1,148 @@
--- While a leapfrog searches: the ring is ordered from p, the atom before p stands on the greatest key, and no common key has been passed.
--- Idea: that atom's run has no key below the greatest, so the least may seek it; the seek passes a key and puts its atom last in the ring.
+-- While the code searches: its runs are those of the definition's search, which from here comes to the same with the seeks made so far.
 use mathlib.Core.Path.{_≡_, refl, sym, subst, ap, _∙_}
-use mathlib.Core.Logic.{⊎-elim}
-use mathlib.Core.List.{List, []}
-use Prim.Native.Nat.{ℕ, _+_, _≤_, _<_}
-use native.Mathlib.Decide.{decLt}
-use native.Mathlib.Nat.{eq-or-lt-of-le, le-refl}
+use mathlib.Core.List.{List, [], _∷_}
+use Prim.Native.Nat.{ℕ, zero, suc, _+_, _*_, _≤_, _<_}
 use native.Mathlib.Omega.{arith}
 use lib.Arith.{lt-of-le-ne}
-use lib.ListN.{length, getD}
-use Rattle.relation.specs.Lists.{_∈_, Ascends}
+use lib.ListN.{length, getD, set}
+use Rattle.relation.specs.Lists.{Ascends}
 use Rattle.relation.specs.Runs.{from}
-use Rattle.query.specs.Meet.{meet, total}
-use Rattle.query.specs.Ring.{Round}
-use Rattle.relation.proofs.Runs.{from-ascends, head-least}
-use Rattle.query.proofs.Leap.{seek-meet}
+use Rattle.relation.proofs.Runs.{from-ascends}
+use Rattle.query.specs.Meet.{total}
+use Rattle.leapfrog.specs.Search.{Went, on, out, runAt, first, placeAfter, placeBefore, more, stopped, searchFrom, searchOf}
+use Rattle.leapfrog.proofs.Steps.{step-found, step-out, step-on, cons-some}
+use Rattle.leapfrog.proofs.Good.{keyAt, Good}
+use Rattle.leapfrog.proofs.Good as good
+use Rattle.leapfrog.proofs.Search.{ring-good}
+use Rattle.leapfrog_join.specs.declared.Hit.the-variants.{Key, Nothing}
 use Rattle.leapfrog_join.specs.Ring.{keyOf, Follows}
-use Rattle.leapfrog_join.specs.Leapfrog.{runsIn, OnKey, Ready, Ordered, Agreed, Spent, Moved, Reached}
-use Rattle.leapfrog_join.proofs.Parts.{reached-key}
-use Rattle.leapfrog_join.proofs.Runs.{atom-place, enough, stands-at, ready-length, ready-runs, ready-heads, put, put-sought, put-none, put-moved, put-spent, put-ready, put-ordered, put-key, moved-on, seek-falls}
+use Rattle.leapfrog_join.specs.Leapfrog.{part, runsIn, OnKey, Ready, Ordered, Moved, Reached, answered}
+use Rattle.leapfrog_join.proofs.Parts.{part-cons, part-none}
+use Rattle.leapfrog_join.proofs.Runs.{stands-at, ready-length, ready-at, put, put-sought, put-moved, put-ready, moved-on}
+use Rattle.leapfrog_join.proofs.Defined.{follows-after, follows-before, ready-key, ready-ring, ready-few}
 
--- ---- the ends of an ordered ring
-
-module _ {κ : ℕ → ℕ} {k p : ℕ} (r : Round κ k p) where
-  least : p < k → (j : ℕ) → j < k → κ p ≤ κ j
-  least h j l = go (decLt j p)
-    where
-      go : Dec (j < p) → κ p ≤ κ j
-      go (yes b) = r .over p j b (le-refl p) h
-      go (no n) = r .up p j (le-refl p) (omega arith) l
-
-  greatest : (z : ℕ) → Follows k z p → (j : ℕ) → j < k → κ j ≤ κ z
-  greatest z f j l =
-      ⊎-elim
-      (λ (e : z + 1 ≡ k). r .up j z (omega (arith, f .round e)) (omega arith) (f .from))
-      (λ m. go (f .next m) (decLt j p))
-      (eq-or-lt-of-le {n = z + 1} {m = k} (omega (arith, f .from)))
-    where
-      go : p ≡ z + 1 → Dec (j < p) → κ j ≤ κ z
-      go e (yes b) = r .wrapped j z (omega arith) (omega arith)
-      go e (no n) = r .over j z (omega arith) (omega arith) l
-
-pub record Going (pool at₀ end ring : List ℕ) (k : ℕ) (at : List ℕ) (p most : ℕ) : Type 0 where
+pub record Going (pool at₀ end ring : List ℕ) (k start : ℕ) (at : List ℕ) (p most seeks : ℕ) : Type 0 where
   pub ready : Ready pool at end ring k
-  pub ordered : Ordered pool at ring k p
-  pub last : ℕ
-  pub follows : Follows k last p
-  is-most : keyOf pool at (getD ring last 0) ≡ most
-  pub kept : meet (runsIn pool at₀ end ring k) ≡ meet (runsIn pool at end ring k)
+  pub good : Good (runsIn pool at end ring k) p most
   pub moved : Moved end ring k at₀ at
+  pub fuel : ℕ
+  pub enough : total (runsIn pool at end ring k) ≤ fuel
+  pub same : searchOf (runsIn pool at₀ end ring k) start ≡ more seeks (searchFrom fuel (runsIn pool at end ring k) p most)
+  pub count : seeks + total (runsIn pool at end ring k) ≤ 8 * length pool
 
-pub begin : {pool at end ring : List ℕ} {k p : ℕ} (z : ℕ) → Ready pool at end ring k → Ordered pool at ring k p → Follows k z p → Going pool at end ring k at p (keyOf pool at (getD ring z 0))
-begin z r o f = record {
+-- ---- counts
+
+abbrev counted : Went → ℕ → Went
+counted w n = record { runs = w .runs; place = w .place; stop = w .stop; seeks = n }
+
+seeks-are : (w : Went) {n n′ : ℕ} → n ≡ n′ → counted w n ≡ counted w n′
+seeks-are w e = ap (counted w) e
+
+grown : (n : ℕ) → 0 < n → (m : ℕ) × (n ≡ suc m)
+grown zero h = absurd (omega arith)
+grown (suc m) h = (m, refl)
+
+none-yet : (w : Went) → w ≡ more 0 w
+none-yet w = seeks-are w (one (w .seeks))
+  where
+    one : (n : ℕ) → n ≡ 0 + n
+    one n = omega arith
+
+one-more : (n : ℕ) (w : Went) → more n (more 1 w) ≡ more (n + 1) w
+one-more n w = seeks-are w (sum (w .seeks))
+  where
+    sum : (m : ℕ) → n + (1 + m) ≡ (n + 1) + m
+    sum m = omega arith
+
+pub begin : {pool at end ring : List ℕ} {k p : ℕ} (z : ℕ) → Ready pool at end ring k → Ordered pool at ring k p → Follows k z p → Going pool at end ring k p at p (keyOf pool at (getD ring z 0)) 0
+unfolding searchOf
+begin {pool} {at} {end} {ring} {k} {p} z r o f = record {
   ready = r;
-  ordered = o;
-  last = z;
-  follows = f;
-  is-most = refl;
-  kept = refl;
+  good = subst (Good runs p) most (ring-good (ready-ring r o (f .to)));
   moved = record { places = r .places; forward = λ a. omega arith; within = λ a m. omega (arith, r .each a m .inside); others = λ a n. refl };
+  fuel = total runs;
+  enough = omega arith;
+  same = ap (searchFrom (total runs) runs p) most ∙ none-yet (searchFrom (total runs) runs p (keyOf pool at (getD ring z 0)));
+  count = omega (arith, ready-few r);
 }
+  where
+    runs : List (List ℕ)
+    runs = runsIn pool at end ring k
 
-module _ {pool at₀ end ring : List ℕ} {k : ℕ} {at : List ℕ} {p most : ℕ} (g : Going pool at₀ end ring k at p most) where
-  here : p < k
-  here = g .follows .to
+    most : keyAt (runsIn pool at end ring k) (placeBefore (length (runsIn pool at end ring k)) p) ≡ keyOf pool at (getD ring z 0)
+    most = ap (λ (n : ℕ). keyAt (runsIn pool at end ring k) (placeBefore n p)) (ready-length r) ∙ (ap (keyAt (runsIn pool at end ring k)) (follows-before f) ∙ ready-key r z (f .from))
+
+module _ {pool at₀ end ring : List ℕ} {k start : ℕ} {at : List ℕ} {p most seeks : ℕ} (g : Going pool at₀ end ring k start at p most seeks) where
+  pub here : p < k
+  here = omega (arith, good.here (g .good), ready-length (g .ready))
 
   pub stands : OnKey pool at end (getD ring p 0)
   stands = stands-at (g .ready) p here
 
-  top : (j : ℕ) → j < k → keyOf pool at (getD ring j 0) ≤ most
-  top j l = omega (arith, greatest (g .ordered) (g .last) (g .follows) j l, g .is-most)
+  key : keyAt (runsIn pool at end ring k) p ≡ keyOf pool at (getD ring p 0)
+  key = ready-key (g .ready) p here
 
-  pub agreed : keyOf pool at (getD ring p 0) ≡ most → Agreed pool at end ring k most p
-  agreed e = record {
-    ready = g .ready;
-    place = here;
-    all = λ a m.
-        let t = atom-place pool at end ring k (enough (g .ready)) m in
-        let i : keyOf pool at (getD ring (t .0) 0) ≡ most = omega (arith, least (g .ordered) here (t .0) (t .1), top (t .0) (t .1)) in
-        rw (t .2) at i;
-  }
+  -- the definition has fuel for this turn
+  turn : (m : ℕ) × (g .fuel ≡ suc m)
+  turn = grown (g .fuel) (omega (arith, good.filled (g .good), g .enough))
 
-  -- no common key is below the greatest
-  from-most : (y : ℕ) → y ∈ getD (runsIn pool at end ring k) (g .last) [] → most ≤ y
-  from-most y m =
-      let e = ready-heads (g .ready) (g .last) (g .follows .from) in
-      let a = subst (Ascends _<_) e (ready-runs (g .ready) (g .last) (omega (arith, ready-length (g .ready), g .follows .from))) in
-      omega (arith, head-least a y (subst (λ (r : List ℕ). y ∈ r) e m), g .is-most)
+  now-same : {w : Went} → searchFrom (suc (turn .0)) (runsIn pool at end ring k) p most ≡ w → searchOf (runsIn pool at₀ end ring k) start ≡ more seeks w
+  now-same e = g .same ∙ ap (more seeks) (ap (λ (f : ℕ). searchFrom f (runsIn pool at end ring k) p most) (turn .1) ∙ e)
 
-  module _ (q : ℕ) (s : Reached pool (getD at (getD ring p 0) 0) (getD end (getD ring p 0) 0) most q) (apart : keyOf pool at (getD ring p 0) ≡ most → ⊥) where
-    below : keyOf pool at (getD ring p 0) < most
-    below = lt-of-le-ne (top p here) apart
+  pub found : keyOf pool at (getD ring p 0) ≡ most → searchOf (runsIn pool at₀ end ring k) start ≡ answered (runsIn pool at end ring k) (Key most p) seeks
+  found e = now-same (step-found (turn .0) (runsIn pool at end ring k) p most (key ∙ e)) ∙ seeks-are (stopped (runsIn pool at end ring k) p (on most)) {n′ = seeks} (omega arith)
 
-    long : p < length (runsIn pool at end ring k)
-    long = omega (arith, ready-length (g .ready), here)
+  module _ {q : ℕ} (s : Reached pool (getD at (getD ring p 0) 0) (getD end (getD ring p 0) 0) most q) (differ : keyOf pool at (getD ring p 0) ≡ most → ⊥) where
+    apart : keyAt (runsIn pool at end ring k) p ≡ most → ⊥
+    apart e = differ (sym key ∙ e)
+
+    runs′ : runsIn pool (put at ring p q) end ring k ≡ set (runsIn pool at end ring k) p (from most (runAt (runsIn pool at end ring k) p))
+    runs′ = put-sought (g .ready) here q s
+
+    run′ : from most (runAt (runsIn pool at end ring k) p) ≡ part pool q (getD end (getD ring p 0) 0)
+    run′ = ap (from most) (ready-at (g .ready) p here) ∙ sym (s .rest)
 
     pub falls : total (runsIn pool (put at ring p q) end ring k) < total (runsIn pool at end ring k)
-    falls = rw (put-sought (g .ready) here q s) (seek-falls (runsIn pool at end ring k) p most (keyOf pool at (getD ring p 0)) _ long (ready-heads (g .ready) p here) below)
+    falls = rw runs′ (omega (arith, good.falls (g .good) apart))
 
-    still : meet (runsIn pool at₀ end ring k) ≡ meet (runsIn pool (put at ring p q) end ring k)
-    still =
-        g .kept
-        ∙ sym (ap meet (put-sought (g .ready) here q s) ∙ seek-meet (runsIn pool at end ring k) (ready-runs (g .ready)) p long most (g .last) (omega (arith, ready-length (g .ready), g .follows .from)) from-most)
+    pub room : seeks + 1 ≤ 8 * length pool
+    room = omega (arith, falls, g .count)
 
     pub moved′ : Moved end ring k at₀ (put at ring p q)
     moved′ = moved-on (g .moved) (put-moved (g .ready) here q (s .forward) (s .within))
 
-    -- the run has ended: nothing is in common
-    pub spent : q ≡ getD end (getD ring p 0) 0 → Spent (put at ring p q) end ring k p
-    spent e = put-spent (g .ready) here q e
-
-    pub none : q ≡ getD end (getD ring p 0) 0 → meet (runsIn pool at₀ end ring k) ≡ []
-    none e = still ∙ put-none (g .ready) here q e
+    pub gone : q ≡ getD end (getD ring p 0) 0 → searchOf (runsIn pool at₀ end ring k) start ≡ answered (runsIn pool (put at ring p q) end ring k) (Nothing p) (seeks + 1)
+    gone e =
+        now-same (step-out (turn .0) (runsIn pool at end ring k) p most apart (run′ ∙ part-none pool q (getD end (getD ring p 0) 0) e))
+        ∙ (seeks-are (stopped (set (runsIn pool at end ring k) p (from most (runAt (runsIn pool at end ring k) p))) p out) {n′ = seeks + 1} (omega arith)
+        ∙ ap (λ (rs : List (List ℕ)). counted (stopped rs p out) (seeks + 1)) (sym runs′))
 
     -- else the search goes on from the next place
-    pub on : (q ≡ getD end (getD ring p 0) 0 → ⊥) → (p′ : ℕ) → Follows k p p′ → Going pool at₀ end ring k (put at ring p q) p′ (getD pool q 0)
-    on n p′ f = record {
+    pub on-going : (q ≡ getD end (getD ring p 0) 0 → ⊥) → (p′ : ℕ) → Follows k p p′ → Going pool at₀ end ring k start (put at ring p q) p′ (getD pool q 0) (seeks + 1)
+    on-going n p′ f = record {
       ready = put-ready (g .ready) here q inside (subst (Ascends _<_) (sym (s .rest)) (from-ascends most (stands .ascends)));
-      ordered = put-ordered (g .ready) here q (λ j l. omega (arith, top j l, new)) (g .ordered) p′ f;
-      last = p;
-      follows = f;
-      is-most = put-key (g .ready) here q;
-      kept = still;
+      good = rw (runs′, ← place′, ← first′) (good.good-on (g .good) apart some);
       moved = moved′;
+      fuel = turn .0;
+      enough = omega (arith, falls, g .enough, turn .1);
+      same =
+          now-same (step-on (turn .0) (runsIn pool at end ring k) p most apart some)
+          ∙ (one-more seeks _
+          ∙ ap (more (seeks + 1)) (rw (runs′, ← place′, ← first′)));
+      count = omega (arith, falls, g .count);
     }
       where
         inside : q < getD end (getD ring p 0) 0
         inside = lt-of-le-ne (s .within) n
 
-        new : most ≤ getD pool q 0
-        new = reached-key pool (getD at (getD ring p 0) 0) (getD end (getD ring p 0) 0) (omega (arith, stands .inside)) (stands .ends) (stands .ascends) s inside
+        cons : from most (runAt (runsIn pool at end ring k) p) ≡ getD pool q 0 ∷ part pool (q + 1) (getD end (getD ring p 0) 0)
+        cons = run′ ∙ part-cons pool q (getD end (getD ring p 0) 0) inside (stands .ends)
+
+        some : from most (runAt (runsIn pool at end ring k) p) ≡ [] → ⊥
+        some = cons-some (from most (runAt (runsIn pool at end ring k) p)) cons
+
+        first′ : first (from most (runAt (runsIn pool at end ring k) p)) ≡ getD pool q 0
+        first′ = ap first cons
+
+        place′ : placeAfter (length (runsIn pool at end ring k)) p ≡ p′
+        place′ = ap (λ (m : ℕ). placeAfter m p) (ready-length (g .ready)) ∙ follows-after f

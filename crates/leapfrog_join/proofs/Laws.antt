@@ -1,21 +1,29 @@
--- What callers cite: what it means that a ring agrees, that a ring may be replaced by another with the same atoms, and the key that a call found.
+-- What callers cite: what it means that a ring agrees, what the calls leave of the common keys, and that a ring may be replaced by another with the same atoms.
 -- Idea: everything but the sequence of places is said of atoms, so it holds of any ring that has the same ones.
-use mathlib.Core.Path.{_≡_, sym, subst, ap, _∙_}
-use mathlib.Core.List.{List, [], _∷_, _++_, map}
-use Prim.Native.Nat.{ℕ, _+_, _≤_, _<_}
+use mathlib.Core.Path.{_≡_, refl, sym, ap, ap₂, _∙_}
+use mathlib.Core.List.{List, [], _∷_, map}
+use Prim.Native.Nat.{ℕ, _+_, _-_, _≤_, _<_}
 use native.Mathlib.Omega.{arith}
 use lib.ListN.{length, getD, take, drop}
 use lib.Seq.{getD-take, length-take-le}
-use Rattle.relation.specs.Lists.{Ascends}
-use Rattle.query.specs.Meet.{meet, Agree}
+use Rattle.relation.specs.Lists.{_∈_, hd, tl, Ascends}
+use Rattle.relation.proofs.Runs.{from-drop}
+use Rattle.relation.specs.Runs.{from}
+use Rattle.query.specs.Meet.{meet, total, Agree}
 use Rattle.query.proofs.Meet.{meet-map}
 use Rattle.query.proofs.Leap.{agree-tails}
 use Rattle.leapfrog_join.specs.declared.Hit.{Hit}
-use Rattle.leapfrog_join.specs.declared.Hit.the-variants.{Key}
+use Rattle.leapfrog.specs.Search.{Went, searchOf, nextOf, seekTo}
+use Rattle.leapfrog.proofs.Search.{ring-comes, one-search-makes-no-more-seeks-than-keys-not-yet-passed}
+use Rattle.leapfrog.proofs.Onward.{Agreeing, next-comes, next-keys, seek-comes}
+use Rattle.leapfrog_join.specs.declared.Hit.the-variants.{Key, Nothing}
+use Rattle.leapfrog_join.specs.declared.Searched.{Searched}
 use Rattle.leapfrog_join.specs.Ring.{keyOf, SameAtoms}
-use Rattle.leapfrog_join.specs.Leapfrog.{part, runOf, runsIn, Ready, Ordered, Agreed, Moved, Left}
-use Rattle.leapfrog_join.proofs.Lists.{ascends-apart}
-use Rattle.leapfrog_join.proofs.Runs.{ring-in, ready-length, ready-runs, ready-heads}
+use Rattle.leapfrog_join.specs.Leapfrog.{part, runOf, runsIn, Ready, Ordered, Agreed, Moved, answered, Ran, Left}
+use Rattle.leapfrog_join.proofs.Lists.{ascends-getD, ascends-apart}
+use Rattle.leapfrog_join.proofs.Parts.{part-length, part-at, part-drop}
+use Rattle.leapfrog_join.proofs.Runs.{ring-in, ready-length, ready-runs, ready-heads, seek-from}
+use Rattle.leapfrog_join.proofs.Defined.{ready-ring, ran-left}
 
 -- a ring in atom order has different atoms
 pub order-apart : (ring : List ℕ) (k : ℕ) → k ≤ length ring → Ascends _<_ (take k ring) → (i j : ℕ) → i < k → j < k → getD ring i 0 ≡ getD ring j 0 → i ≡ j
@@ -33,10 +41,6 @@ module _ {pool at end ring : List ℕ} {k x p : ℕ} (g : Agreed pool at end rin
   pub agreed-here : Agreed pool at end ring k (keyOf pool at (getD ring p 0)) p
   agreed-here = rw (agreed-key p (g .place)) g
 
-  -- what the next call leaves, said of x
-  pub next-left : {at′ common : List ℕ} {hit : Hit} → Left pool end ring k at at′ common (keyOf pool at (getD ring p 0) ∷ []) hit → Left pool end ring k at at′ common (x ∷ []) hit
-  next-left {at′} {common} {hit} l = subst (λ (y : ℕ). Left pool end ring k at at′ common (y ∷ []) hit) (agreed-key p (g .place)) l
-
   -- every run begins with x
   pub agreed-runs : Agree (runsIn pool at end ring k) x
   agreed-runs i l =
@@ -48,6 +52,9 @@ module _ {pool at end ring : List ℕ} {k x p : ℕ} (g : Agreed pool at end rin
   pub agreed-first : meet (runsIn pool at end ring k) ≡ x ∷ meet (map (drop 1) (runsIn pool at end ring k))
   agreed-first = agree-tails (runsIn pool at end ring k) (ready-runs (g .ready)) (omega (arith, ready-length (g .ready), g .ready .some)) agreed-runs
 
+  pub agreed-agreeing : Agreeing (runsIn pool at end ring k) x p
+  agreed-agreeing = record { ascend = ready-runs (g .ready); agree = agreed-runs; place = omega (arith, ready-length (g .ready), g .place) }
+
   pub agreed-ordered : Ordered pool at ring k p
   agreed-ordered = record {
     up = λ i j a b c. omega (arith, agreed-key i (omega arith), agreed-key j c);
@@ -55,9 +62,45 @@ module _ {pool at end ring : List ℕ} {k x p : ℕ} (g : Agreed pool at end rin
     over = λ i j a b c. omega (arith, agreed-key i c, agreed-key j (omega (arith, g .place)));
   }
 
--- the key that a call found is the first common key that it has not passed
-pub found-first : {pool end ring : List ℕ} {k : ℕ} {at₀ at common passed : List ℕ} {x p : ℕ} → Left pool end ring k at₀ at common passed (Key x p) → common ≡ passed ++ x ∷ meet (map (drop 1) (runsIn pool at end ring k))
-found-first {passed = passed} l = l .keys ∙ ap (λ (r : List ℕ). passed ++ r) (agreed-first (l .ended))
+-- ---- what the calls leave of the common keys: laws of the definition
+
+pub search-left : {pool at₀ end ring : List ℕ} {k p : ℕ} {at : List ℕ} {r : Searched} → Ready pool at₀ end ring k → Ordered pool at₀ ring k p → p < k → Ran pool end ring k at₀ at (searchOf (runsIn pool at₀ end ring k) p) r → Left pool end ring k at₀ at (meet (runsIn pool at₀ end ring k)) [] (r .hit)
+search-left g o h d = ran-left [] g refl (ring-comes (ready-ring g o h)) d
+
+-- the seeks of a search are at most the keys not yet passed in its runs
+pub search-few : {pool at₀ end ring : List ℕ} {k p : ℕ} {at : List ℕ} {r : Searched} → Ready pool at₀ end ring k → Ordered pool at₀ ring k p → p < k → Ran pool end ring k at₀ at (searchOf (runsIn pool at₀ end ring k) p) r → r .seeks ≤ total (runsIn pool at₀ end ring k)
+search-few {pool} {end = end} {ring} {k} {at = at} {r = r} g o h d = omega (arith, one-search-makes-no-more-seeks-than-keys-not-yet-passed (ready-ring g o h), ap (λ (w : Went). w .seeks) (d .same), answered-seeks (r .hit))
+  where
+    answered-seeks : (h : Hit) → answered (runsIn pool at end ring k) h (r .seeks) .seeks ≡ r .seeks
+    answered-seeks (Key x p) = refl
+    answered-seeks (Nothing p) = refl
+
+module _ {pool at₀ end ring : List ℕ} {k p x : ℕ} {at : List ℕ} {r : Searched} (g : Agreed pool at₀ end ring k x p) where
+  pub went-next : Ran pool end ring k at₀ at (nextOf (runsIn pool at₀ end ring k) p) r → Left pool end ring k at₀ at (meet (runsIn pool at₀ end ring k)) (x ∷ []) (r .hit)
+  went-next d = ran-left (x ∷ []) (g .ready) (next-keys (agreed-agreeing g)) (next-comes (agreed-agreeing g)) d
+
+  pub went-seek : (t : ℕ) → Ran pool end ring k at₀ at (seekTo t (runsIn pool at₀ end ring k) p) r → Left pool end ring k at₀ at (from t (meet (runsIn pool at₀ end ring k))) [] (r .hit)
+  went-seek t d = ran-left [] (g .ready) (sym (seek-from (runsIn pool at₀ end ring k) (ready-runs (g .ready)) p t (omega (arith, ready-length (g .ready), g .place)))) (seek-comes (agreed-agreeing g) t) d
+
+-- where all stand on x, each run is what the seek of x leaves of the run as it was
+pub agreed-from : {pool at₀ at end ring : List ℕ} {k x p : ℕ} → Ready pool at₀ end ring k → Moved end ring k at₀ at → Agreed pool at end ring k x p → runsIn pool at end ring k ≡ map (from x) (runsIn pool at₀ end ring k)
+unfolding runsIn
+agreed-from {pool} {at₀} {at} {end} {ring} {k} {x} r m g = cut (take k ring) (λ a i. i)
+  where
+    one : (a : ℕ) → a ∈ take k ring → runOf pool at end a ≡ from x (runOf pool at₀ end a)
+    one a i =
+        let o = r .each a i in
+        let e : getD at₀ a 0 + (getD at a 0 - getD at₀ a 0) ≡ getD at a 0 = omega (arith, m .forward a) in
+        let l = part-length pool (getD at₀ a 0) (getD end a 0) (o .ends) in
+        let h : getD at a 0 < getD end a 0 = g .ready .each a i .inside in
+        let stands : getD (runOf pool at₀ end a) (getD at a 0 - getD at₀ a 0) 0 ≡ x = part-at pool (getD at₀ a 0) (getD end a 0) (getD at a 0 - getD at₀ a 0) (omega (arith, m .forward a)) ∙ (ap (λ (y : ℕ). getD pool y 0) e ∙ g .all a i) in
+        sym
+        (from-drop x (runOf pool at₀ end a) (getD at a 0 - getD at₀ a 0) (omega arith) (λ j b. omega (arith, stands, ascends-getD (o .ascends) j (getD at a 0 - getD at₀ a 0) 0 b (omega (arith, l, m .forward a)))) (λ b. omega (arith, stands))
+        ∙ (part-drop pool (getD at₀ a 0) (getD end a 0) (getD at a 0 - getD at₀ a 0) (omega arith) (o .ends) ∙ ap (λ (y : ℕ). part pool y (getD end a 0)) e))
+
+    cut : (l : List ℕ) → ((a : ℕ) → a ∈ l → a ∈ take k ring) → map (runOf pool at end) l ≡ map (from x) (map (runOf pool at₀ end) l)
+    cut [] f = refl
+    cut (a ∷ l) f = ap₂ (λ (y : List ℕ) (ys : List (List ℕ)). y ∷ ys) (one a (f a (hd refl))) (cut l (λ b i. f b (tl i)))
 
 -- ---- another ring with the same atoms
 
@@ -77,11 +120,3 @@ module _ {ring ring′ : List ℕ} {k : ℕ} (s : SameAtoms ring ring′ k) {poo
 
   pub same-agreed : {x p : ℕ} → Agreed pool at end ring k x p → (p′ : ℕ) → p′ < k → Agreed pool at end ring′ k x p′
   same-agreed g p′ l = record { ready = same-ready (g .ready); place = l; all = λ a m. g .all a (s .back a m) }
-
-  -- at a key the ring may be replaced, and go on from any place
-  pub same-left : {at₀ common passed : List ℕ} {x p : ℕ} → Left pool end ring k at₀ at common passed (Key x p) → (p′ : ℕ) → p′ < k → Left pool end ring′ k at₀ at common passed (Key x p′)
-  same-left {passed = passed} l p′ h = record {
-    ended = same-agreed (l .ended) p′ h;
-    keys = l .keys ∙ ap (λ (r : List ℕ). passed ++ r) (same-meet (l .ended .ready));
-    moved = same-moved s (l .moved);
-  }

@@ -1,4 +1,5 @@
 pub mod Beginning
+pub mod Defined
 mod Going
 pub mod Laws
 mod Lists
@@ -8,4 +9,5 @@ pub mod Runs
 mod Sinking
 pub mod Sorting
 mod Stepping
+pub mod Theorems
 mod Worked

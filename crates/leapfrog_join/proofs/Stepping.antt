@@ -1,34 +1,48 @@
 -- A step from a key on which all agree: the atom at p goes past that key, or seeks a target, and the search goes on from the next place.
 -- Idea: every other atom stands on the least key, so the one that moved stands on the greatest, and what is left in common follows from one run's change.
 use mathlib.Core.Path.{_≡_, refl, sym, subst, ap, _∙_}
-use mathlib.Core.List.{List, [], _∷_, _++_}
+use mathlib.Core.List.{List, _∷_}
 use Prim.Native.Nat.{ℕ, _+_, _≤_, _<_}
 use native.Mathlib.Omega.{arith}
-use lib.ListN.{length, getD}
+use lib.ListN.{length, getD, set, drop}
 use Rattle.relation.specs.Lists.{_∈_, hd, tl, Ascends}
 use Rattle.relation.proofs.Lists.{ascends-tail}
 use Rattle.relation.specs.Runs.{from}
-use Rattle.query.specs.Meet.{meet}
 use Rattle.relation.proofs.Runs.{head-least, in-from, from-ascends}
-use Rattle.query.proofs.Leap.{agree-meet, agree-all}
+use Rattle.leapfrog.specs.Search.{Went, out, runAt, placeAfter, more, stopped, searchOf, goOn}
+use Rattle.leapfrog.proofs.Steps.{cons-some}
+use Rattle.leapfrog.proofs.Onward.{Agreeing, on-out, on-on}
+use Rattle.leapfrog_join.specs.declared.Searched.{Searched}
 use Rattle.leapfrog_join.specs.declared.Hit.{Hit}
-use Rattle.leapfrog_join.specs.declared.Hit.the-variants.{Nothing}
+use Rattle.leapfrog_join.specs.declared.Hit.the-variants.{Key, Nothing}
 use Rattle.leapfrog_join.specs.Ring.{Follows}
-use Rattle.leapfrog_join.specs.Leapfrog.{part, runOf, runsIn, OnKey, Ready, Ordered, Agreed, Moved, Reached, Left}
-use Rattle.leapfrog_join.proofs.Parts.{part-cons}
-use Rattle.leapfrog_join.proofs.Laws.{agreed-runs, agreed-ordered}
-use Rattle.leapfrog_join.proofs.Runs.{ring-in, stands-at, ready-length, ready-at, ready-runs, put, put-runs, put-sought, put-none, put-moved, put-spent, put-ready, put-ordered, moved-on, seek-from}
+use Rattle.leapfrog_join.specs.Leapfrog.{part, runOf, runsIn, OnKey, Ready, Ordered, Agreed, Moved, Reached, answered, Ran}
+use Rattle.leapfrog_join.proofs.Parts.{part-cons, part-none}
+use Rattle.leapfrog_join.proofs.Laws.{agreed-agreeing, agreed-ordered}
+use Rattle.leapfrog_join.proofs.Defined.{follows-after}
+use Rattle.leapfrog_join.proofs.Runs.{ring-in, stands-at, ready-length, ready-at, ready-heads, put, put-runs, put-moved, put-ready, put-ordered, moved-on}
 
--- a call that goes on from a step leaves what the step kept
-pub left-on : {pool end ring : List ℕ} {k : ℕ} {at₀ at₁ at common₁ : List ℕ} {hit : Hit} (common passed : List ℕ) → Moved end ring k at₀ at₁ → common ≡ passed ++ common₁ → Left pool end ring k at₁ at common₁ [] hit → Left pool end ring k at₀ at common passed hit
-left-on common passed m e l = record { ended = l .ended; keys = e ∙ ap (λ (r : List ℕ). passed ++ r) (l .keys); moved = moved-on m (l .moved) }
+-- a call that goes on from a step leaves what the definition gives from there
+pub ran-on : {pool end ring : List ℕ} {k : ℕ} {at₀ at₁ at : List ℕ} {w w₁ : Went} {r : Searched} → Moved end ring k at₀ at₁ → w ≡ w₁ → Ran pool end ring k at₁ at w₁ r → Ran pool end ring k at₀ at w r
+ran-on m e d = record { same = e ∙ d .same; moved = moved-on m (d .moved) }
+
+-- with one seek before it
+pub ran-more : {pool end ring : List ℕ} {k : ℕ} {at₀ at : List ℕ} {w : Went} {r : Searched} → Ran pool end ring k at₀ at w r → Ran pool end ring k at₀ at (more 1 w) (record { hit = r .hit; seeks = r .seeks + 1 })
+ran-more {pool} {end} {ring} {k} {at = at} {r = r} d = record { same = ap (more 1) (d .same) ∙ one (r .hit) (r .seeks); moved = d .moved }
+  where
+    sum : (n : ℕ) → 1 + n ≡ n + 1
+    sum n = omega arith
+
+    one : (h : Hit) (n : ℕ) → more 1 (answered (runsIn pool at end ring k) h n) ≡ answered (runsIn pool at end ring k) h (n + 1)
+    one (Key x p) n = ap (answered (runsIn pool at end ring k) (Key x p)) (sum n)
+    one (Nothing p) n = ap (answered (runsIn pool at end ring k) (Nothing p)) (sum n)
 
 module _ {pool at end ring : List ℕ} {k x p : ℕ} (g : Agreed pool at end ring k x p) where
   pub stands : OnKey pool at end (getD ring p 0)
   stands = stands-at (g .ready) p (g .place)
 
-  long : p < length (runsIn pool at end ring k)
-  long = omega (arith, ready-length (g .ready), g .place)
+  agreeing : Agreeing (runsIn pool at end ring k) x p
+  agreeing = agreed-agreeing g
 
   -- its run: the common key, and what follows
   run : runOf pool at end (getD ring p 0) ≡ x ∷ part pool (getD at (getD ring p 0) 0 + 1) (getD end (getD ring p 0) 0)
@@ -51,20 +65,27 @@ module _ {pool at end ring : List ℕ} {k x p : ℕ} (g : Agreed pool at end rin
           new : x ≤ getD pool q 0
           new = head-least (subst (Ascends _<_) run (stands .ascends)) (getD pool q 0) (subst (λ (r : List ℕ). getD pool q 0 ∈ r) run (y (getD pool q 0) (rw (part-cons pool q (getD end (getD ring p 0) 0) inside (stands .ends)) (hd refl))))
 
-    -- a step to the end, where `common` is what it kept
-    pub step-spent : (common passed : List ℕ) → common ≡ passed ++ meet (runsIn pool (put at ring p q) end ring k) → q ≡ getD end (getD ring p 0) 0 → Left pool end ring k at (put at ring p q) common passed (Nothing p)
-    step-spent common passed c e = record {
-      ended = put-spent (g .ready) (g .place) q e;
-      keys = c ∙ ap (λ (r : List ℕ). passed ++ r) (put-none (g .ready) (g .place) q e);
-      moved = step-moved;
-    }
+    -- where the run is left with s, an end of it, the definition goes the same way
+    module _ {s : List ℕ} (d : ℕ) (e : s ≡ drop d (runAt (runsIn pool at end ring k) p)) (t : s ≡ part pool q (getD end (getD ring p 0) 0)) where
+      runs′ : set (runsIn pool at end ring k) p s ≡ runsIn pool (put at ring p q) end ring k
+      runs′ = ap (set (runsIn pool at end ring k) p) t ∙ sym (put-runs (g .ready) (g .place) q)
+
+      pub step-out : q ≡ getD end (getD ring p 0) 0 → Ran pool end ring k at (put at ring p q) (goOn (runsIn pool at end ring k) p s) (record { hit = Nothing p; seeks = 0 })
+      step-out n = record {
+        same = on-out agreeing d e (t ∙ part-none pool q (getD end (getD ring p 0) 0) n) ∙ ap (λ (rs : List (List ℕ)). stopped rs p out) runs′;
+        moved = step-moved;
+      }
+
+      pub step-on : q < getD end (getD ring p 0) 0 → {p′ : ℕ} → Follows k p p′ → goOn (runsIn pool at end ring k) p s ≡ searchOf (runsIn pool (put at ring p q) end ring k) p′
+      step-on n {p′} f =
+          on-on agreeing d e (cons-some s (t ∙ part-cons pool q (getD end (getD ring p 0) 0) n (stands .ends)))
+          ∙ (ap (λ (rs : List (List ℕ)). searchOf rs (placeAfter (length (runsIn pool at end ring k)) p)) runs′
+          ∙ ap (searchOf (runsIn pool (put at ring p q) end ring k)) (ap (λ (n : ℕ). placeAfter n p) (ready-length (g .ready)) ∙ follows-after f))
 
   -- ---- the step past the common key
 
-  pub past-keys : meet (runsIn pool at end ring k) ≡ x ∷ meet (runsIn pool (put at ring p (getD at (getD ring p 0) 0 + 1)) end ring k)
-  past-keys =
-      agree-meet (runsIn pool at end ring k) (ready-runs (g .ready)) p long (agree-all (runsIn pool at end ring k) (agreed-runs g)) (ready-at (g .ready) p (g .place) ∙ run)
-      ∙ ap (λ (rs : List (List ℕ)). x ∷ meet rs) (sym (put-runs (g .ready) (g .place) (getD at (getD ring p 0) 0 + 1)))
+  pub past-run : drop 1 (runAt (runsIn pool at end ring k) p) ≡ part pool (getD at (getD ring p 0) 0 + 1) (getD end (getD ring p 0) 0)
+  past-run = ap (drop 1) (ready-heads (g .ready) p (g .place))
 
   pub past-forward : getD at (getD ring p 0) 0 ≤ getD at (getD ring p 0) 0 + 1
   past-forward = omega arith
@@ -81,8 +102,8 @@ module _ {pool at end ring : List ℕ} {k x p : ℕ} (g : Agreed pool at end rin
   -- ---- a seek of target t
 
   module _ {t q : ℕ} (s : Reached pool (getD at (getD ring p 0) 0) (getD end (getD ring p 0) 0) t q) where
-    pub target-keys : from t (meet (runsIn pool at end ring k)) ≡ meet (runsIn pool (put at ring p q) end ring k)
-    target-keys = sym (ap meet (put-sought (g .ready) (g .place) q s) ∙ seek-from (runsIn pool at end ring k) (ready-runs (g .ready)) p t long)
+    pub target-run : from t (runAt (runsIn pool at end ring k) p) ≡ part pool q (getD end (getD ring p 0) 0)
+    target-run = ap (from t) (ready-at (g .ready) p (g .place)) ∙ sym (s .rest)
 
     pub target-ascends : Ascends _<_ (part pool q (getD end (getD ring p 0) 0))
     target-ascends = subst (Ascends _<_) (sym (s .rest)) (from-ascends t (stands .ascends))

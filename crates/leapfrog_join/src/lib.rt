@@ -4,18 +4,19 @@
 // The runs lie in one pool. Atom a stands at pool[at[a]], and its run ends before end[a]. The ring's first k entries are the atoms that take part;
 // p is a place of the ring. From p round, the keys on which the atoms stand do not fall: the atom at p has the least, the one before it the greatest.
 //
-// Each of `leapfrog_init`, `_search`, `_next` and `_seek` leaves the atoms on the first key not passed that all have, or says that there is none
-// (specs/Leapfrog.antt, `Left`).
+// Each of `leapfrog_init`, `_search`, `_next` and `_seek` does what its algorithm does to the runs, as crates/leapfrog computes it: it leaves the same runs,
+// stops at the same place, on the same key or on none, and makes the same number of seeks (specs/Leapfrog.antt, `Ran`).
 ghost use mathlib.Core.Path.{_≡_};
-ghost use mathlib.Core.List.{[], _∷_, _++_};
+ghost use mathlib.Core.List.{_++_};
 ghost use Prim.Native.Nat.{_+_, _<_, _≤_};
 ghost use lib.ListN.{length, getD, take, drop};
 ghost use Rattle.relation.specs.Lists.{Ascends};
-ghost use Rattle.relation.specs.Runs.{from};
-ghost use Rattle.query.specs.Meet.{meet};
+ghost use Rattle.seek.specs.Seek.{seekOf};
+ghost use Rattle.leapfrog.specs.Search.{searchOf, nextOf, seekTo};
 ghost use Rattle.leapfrog_join.specs.Ring.{keyOf, place, sorted, Rises, Keyed, Follows};
-ghost use Rattle.leapfrog_join.specs.Leapfrog.{part, runsIn, Ready, Ordered, Agreed, Left, Begun, Reached};
+ghost use Rattle.leapfrog_join.specs.Leapfrog.{part, runsIn, Ready, Ordered, Agreed, Ran, Begun};
 use seek::SeekStrategy;
+use seek::Sought;
 use seek::partition_point;
 
 // How many atoms there may be.
@@ -25,6 +26,12 @@ pub const MAX_ATOMS: usize = 8;
 pub enum Hit {
     Key { key: u64, p: usize },
     Nothing { p: usize },
+}
+
+// What a call answers: how its search ended, and how many seeks it made.
+pub struct Searched {
+    pub hit: Hit,
+    pub seeks: u64,
 }
 
 // The place of the ring after p.
@@ -77,13 +84,12 @@ fn sort_ring(pool: &[u64], at: &[usize; MAX_ATOMS], ring: &mut [usize; MAX_ATOMS
     }
 }
 
-// The place of the first key not below `target` in the run from x to e, or e. The seek is handed the keys not yet passed.
-fn seek_run(pool: &[u64], x: usize, e: usize, target: u64, strategy: SeekStrategy) -> usize
+// One seek in the run from x to e: where it ended behind x, and its probes, which tell the strategy. It is handed the keys not yet passed.
+fn seek_run(pool: &[u64], x: usize, e: usize, target: u64, strategy: SeekStrategy) -> Sought
     requires { ⌜ (x ≤ e) × (e ≤ length (now pool)) ⌝ }
-    requires { ⌜ Ascends _<_ (part (now pool) x e) ⌝ }
-    ensures { λ r. ⌜ Reached (now (pool .entry)) x e target r ⌝ }
+    ensures { λ r. ⌜ r ≡ seekOf strategy (part (now (pool .entry)) x e) target ⌝ }
 {
-    x + partition_point(strategy, &pool[x..e], target).offset
+    partition_point(strategy, &pool[x..e], target)
 }
 
 // Algorithm 2, from place `start` of an ordered ring: the atom with the least key seeks the greatest, until all agree or one has no key left.
@@ -95,16 +101,17 @@ pub fn leapfrog_search(
     k: usize,
     start: usize,
     strategy: SeekStrategy,
-) -> Hit
+) -> Searched
     requires { ⌜ Ready (now pool) (now at) (now end) (now ring) k ⌝ }
     requires { ⌜ Ordered (now pool) (now at) (now ring) k start ⌝ }
     requires { ⌜ start < k ⌝ }
-    ensures { λ r. ⌜ Left (now (pool .entry)) (now (end .entry)) (now (ring .entry)) k (now (at .entry)) (now (at .exit)) (meet (runsIn (now (pool .entry)) (now (at .entry)) (now (end .entry)) (now (ring .entry)) k)) [] r ⌝ }
+    ensures { λ r. ⌜ Ran (now (pool .entry)) (now (end .entry)) (now (ring .entry)) k (now (at .entry)) (now (at .exit)) (searchOf (runsIn (now (pool .entry)) (now (at .entry)) (now (end .entry)) (now (ring .entry)) k) start) r ⌝ }
 {
     let mut p = start;
     let z = ring[before(start, k)];
     let y = at[z];
     let mut most = pool[y];
+    let mut seeks: u64 = 0;
     let hit: Hit = loop {
         let a = ring[p];
         let x = at[a];
@@ -112,7 +119,8 @@ pub fn leapfrog_search(
             break Hit::Key { key: most, p };
         }
         let e = end[a];
-        let q = seek_run(pool, x, e, most, strategy);
+        let q = x + seek_run(pool, x, e, most, strategy).offset;
+        seeks += 1;
         at[a] = q;
         if q == e {
             break Hit::Nothing { p };
@@ -120,7 +128,7 @@ pub fn leapfrog_search(
         most = pool[q];
         p = after(p, k);
     };
-    hit
+    Searched { hit, seeks }
 }
 
 // Algorithm 1, on a ring in atom order: sorts it, and searches from its first place.
@@ -131,7 +139,7 @@ pub fn leapfrog_init(
     ring: &mut [usize; MAX_ATOMS],
     k: usize,
     strategy: SeekStrategy,
-) -> Hit
+) -> Searched
     requires { ⌜ Ready (now pool) (now at) (now end) (now ring) k ⌝ }
     requires { ⌜ Ascends _<_ (take k (now ring)) ⌝ }
     ensures { λ r. ⌜ Begun (now (pool .entry)) (now (end .entry)) k (now (ring .entry)) (now (ring .exit)) (now (at .entry)) (now (at .exit)) r ⌝ }
@@ -149,15 +157,18 @@ pub fn leapfrog_next(
     k: usize,
     p: usize,
     strategy: SeekStrategy,
-) -> Hit
+) -> Searched
     requires { ⌜ Agreed (now pool) (now at) (now end) (now ring) k (keyOf (now pool) (now at) (getD (now ring) p 0)) p ⌝ }
-    ensures { λ r. ⌜ Left (now (pool .entry)) (now (end .entry)) (now (ring .entry)) k (now (at .entry)) (now (at .exit)) (meet (runsIn (now (pool .entry)) (now (at .entry)) (now (end .entry)) (now (ring .entry)) k)) (keyOf (now (pool .entry)) (now (at .entry)) (getD (now (ring .entry)) p 0) ∷ []) r ⌝ }
+    ensures { λ r. ⌜ Ran (now (pool .entry)) (now (end .entry)) (now (ring .entry)) k (now (at .entry)) (now (at .exit)) (nextOf (runsIn (now (pool .entry)) (now (at .entry)) (now (end .entry)) (now (ring .entry)) k) p) r ⌝ }
 {
     let a = ring[p];
     let q = at[a] + 1;
     at[a] = q;
     if q == end[a] {
-        return Hit::Nothing { p };
+        return Searched {
+            hit: Hit::Nothing { p },
+            seeks: 0,
+        };
     }
     leapfrog_search(pool, at, end, ring, k, after(p, k), strategy)
 }
@@ -172,17 +183,24 @@ pub fn leapfrog_seek(
     p: usize,
     target: u64,
     strategy: SeekStrategy,
-) -> Hit
+) -> Searched
     requires { ⌜ Agreed (now pool) (now at) (now end) (now ring) k (keyOf (now pool) (now at) (getD (now ring) p 0)) p ⌝ }
-    ensures { λ r. ⌜ Left (now (pool .entry)) (now (end .entry)) (now (ring .entry)) k (now (at .entry)) (now (at .exit)) (from target (meet (runsIn (now (pool .entry)) (now (at .entry)) (now (end .entry)) (now (ring .entry)) k))) [] r ⌝ }
+    ensures { λ r. ⌜ Ran (now (pool .entry)) (now (end .entry)) (now (ring .entry)) k (now (at .entry)) (now (at .exit)) (seekTo target (runsIn (now (pool .entry)) (now (at .entry)) (now (end .entry)) (now (ring .entry)) k) p) r ⌝ }
 {
     let a = ring[p];
     let x = at[a];
     let e = end[a];
-    let q = seek_run(pool, x, e, target, strategy);
+    let q = x + seek_run(pool, x, e, target, strategy).offset;
     at[a] = q;
     if q == e {
-        return Hit::Nothing { p };
+        return Searched {
+            hit: Hit::Nothing { p },
+            seeks: 1,
+        };
     }
-    leapfrog_search(pool, at, end, ring, k, after(p, k), strategy)
+    let s = leapfrog_search(pool, at, end, ring, k, after(p, k), strategy);
+    let hit = s.hit;
+    let after = s.seeks;
+    let seeks = after + 1;
+    Searched { hit, seeks }
 }

@@ -1,23 +1,34 @@
 -- What the opening of a depth leaves, and that a step of the leapfrog keeps the atoms opened.
-use Prim.Native.Nat.{ℕ, _<_}
+use Prim.Native.Nat.{ℕ, _+_, _≤_, _<_}
 use native.Mathlib.Omega.{arith}
 use mathlib.Core.Path.{_≡_, sym, subst, ap, _∙_}
 use mathlib.Core.Bool.{false≢true}
-use mathlib.Core.List.{List}
-use lib.ListN.{take}
+use mathlib.Core.List.{List, map}
+use lib.ListN.{getD, take}
 use Rattle.relation.specs.Order.{Row}
 use Rattle.relation.specs.Lists.{_∈_, Ascends}
 use Rattle.query.specs.Meet.{meet}
+use Rattle.relation.specs.Layers.{keysUnder}
+use Rattle.query.specs.Solve.{runs}
+use Rattle.query.specs.Descend.{standings, nobody, holders}
+use Rattle.query.proofs.Under.{standings-runs}
+use Rattle.leapfrog.specs.Search.{Went, initOf}
+use Rattle.leapfrog.specs.Walk.{capped}
+use Rattle.leapfrog.proofs.Begin.{init-none}
+use Rattle.relation.specs.Runs.{from}
+use Rattle.leapfrog_join.proofs.Laws.{agreed-from}
 use Rattle.leapfrog_join.specs.Leapfrog as leap
 use Rattle.leapfrog_join.specs.Leapfrog.{Ready, Moved}
 use Rattle.leapfrog_join.specs.declared.Hit.{Hit}
+use Rattle.leapfrog_join.specs.declared.Searched.{Searched}
 use Rattle.leapfrog_join.specs.declared.Hit.the-variants.{Key, Nothing}
-use Rattle.leapfrog_triejoin.specs.Descent.{countAt, Opens, Refuses, Standing, Placed, Opened, tableOf, IfFound, Begun}
+use Rattle.leapfrog_triejoin.specs.Descent.{countAt, Opens, Refuses, Standing, Placed, Opened, tableOf, IfFound, Begun, Stands, AgreedAt, Leapt, AtKey, groupsAt, sinceOf, Opening}
+use Rattle.leapfrog_triejoin.specs.Query.{orderOf, atomsOf}
 use Rattle.leapfrog_triejoin.specs.declared.Query.{Query}
 use Rattle.leapfrog_triejoin.specs.declared.Tables.{Tables}
-use Rattle.leapfrog_triejoin.proofs.Standing.{taker}
-use Rattle.leapfrog_triejoin.proofs.Depths.{opened, ring-takers, ring-ascends, ring-ready, ring-runs, refused-none}
-use Rattle.leapfrog_triejoin.proofs.Stepping.{first-agreed, first-keys, first-moved, first-same}
+use Rattle.leapfrog_triejoin.proofs.Standing.{taker, tables}
+use Rattle.leapfrog_triejoin.proofs.Depths.{opened, ring-takers, ring-ascends, ring-ready, ring-runs, refused-none, refused-in}
+use Rattle.leapfrog_triejoin.proofs.Stepping.{first-agreed, first-keys, first-moved, first-same, ran-leapt}
 
 -- places move forward inside their groups; atoms that take no part stay
 pub opened-moved : {pool : List ℕ} {ts : Tables} {q : Query} {plan : List ℕ} {n d : ℕ} {at at′ end fresh : List ℕ} {f : ℕ → Row} → Opened pool ts q plan n d at end fresh f → Moved end fresh (countAt plan d) at at′ → Opened pool ts q plan n d at′ end fresh f
@@ -54,12 +65,46 @@ module _ {pool plan : List ℕ} {n d : ℕ} {at₀ : List ℕ} (below : d < n) w
     alike : take (countAt plan d) ring ≡ take (countAt plan d) fresh
     alike = ring-takers (w .stands) below p ring (p .arrays .size) (p .ring-is) ∙ sym (ring-takers (w .stands) below p fresh (p .arrays .fresh-size) (p .fresh-is))
 
-    pub begun-opened : {at′ ring′ : List ℕ} {hit : Hit} → leap.Begun pool end (countAt plan d) ring ring′ at at′ hit → Begun pool plan n d at₀ at′ end ring′ fresh hit
-    begun-opened {hit = hit} b = record {
+    pub begun-opened : {at′ ring′ : List ℕ} {a : Searched} → leap.Begun pool end (countAt plan d) ring ring′ at at′ a → Begun pool plan n d at₀ at′ end ring′ fresh (a .hit)
+    begun-opened {a = a} b = record {
       agreed = first-agreed begin-ready fresh-ready alike begin-ascends b;
-      same = if-found hit (first-same begin-ready fresh-ready alike begin-ascends b);
+      same = if-found (a .hit) (first-same begin-ready fresh-ready alike begin-ascends b);
       begins = λ ts q f s. record {
         keys = sym (first-keys begin-ready fresh-ready alike begin-ascends b) ∙ ap meet (ring-runs s below p fresh (p .arrays .fresh-size) (p .fresh-is));
-        opened = if-found hit (opened-moved (opened s below p) (first-moved begin-ready fresh-ready alike begin-ascends b));
+        opened = if-found (a .hit) (opened-moved (opened s below p) (first-moved begin-ready fresh-ready alike begin-ascends b));
       };
     }
+
+-- ---- the seeks
+
+module _ {pool plan : List ℕ} {n d : ℕ} {at₀ : List ℕ} (below : d < n) where
+  runs-are : {ts : Tables} {q : Query} {f : ℕ → Row} → Stands pool ts q plan n d at₀ f → runs (getD (orderOf q) d 0) (standings f (atomsOf pool ts q)) ≡ map (λ (i : ℕ). keysUnder (f i) (getD (atomsOf pool ts q) i nobody .rows)) (holders (getD (orderOf q) d 0) (standings f (atomsOf pool ts q)))
+  runs-are {ts} {q} {f} s = standings-runs (getD (orderOf q) d 0) f (atomsOf pool ts q) (tables (s .based .accepted))
+
+  pub opening-refused : {at end ring fresh : List ℕ} {seeks : ℕ} → seeks ≤ 18446744073709551615 → Refuses plan d → Opening pool plan n d at₀ at end ring fresh seeks (record { hit = Nothing 0; seeks = seeks })
+  opening-refused {seeks = seeks} fits r = record {
+    begun = begun-refused below r;
+    starts = λ ts q f s.
+        let e = ap initOf (runs-are s) ∙ init-none (map (λ (i : ℕ). keysUnder (f i) (getD (atomsOf pool ts q) i nobody .rows)) (holders (getD (orderOf q) d 0) (standings f (atomsOf pool ts q)))) (refused-in s below r) in
+        record { leapt = record { made = 0; answers = (ap (λ (w : Went). w .stop) e, ap (λ (w : Went). w .seeks) e); sum = omega arith }; cut = tt };
+  }
+
+  pub opening-opened : (w : Standing pool plan n d at₀) {at end ring fresh : List ℕ} (p : Opens pool plan d (countAt plan d) at₀ at end ring fresh) {at′ ring′ : List ℕ} {a r : Searched} (before : ℕ) → r ≡ sinceOf before a → leap.Begun pool end (countAt plan d) ring ring′ at at′ a → Opening pool plan n d at₀ at′ end ring′ fresh before r
+  opening-opened w {at} {end} {ring} {fresh} p {at′} {ring′} {a} before e b =
+      rw e
+      (record {
+        begun = begun-opened below w p b;
+        starts = λ ts q f s. record {
+          leapt =
+              subst (λ (v : Went). Leapt v (leap.runsIn pool at′ end ring′ (countAt plan d)) before (a .hit) (capped (before + a .seeks)))
+              (ap initOf (ring-runs s below p ring (p .arrays .size) (p .ring-is) ∙ sym (runs-are s)))
+              (ran-leapt before (b .ran));
+          cut = cuts s (a .hit) (first-agreed (begin-ready below w p) (fresh-ready below w p) (alike below w p) (begin-ascends below w p) b);
+        };
+      })
+    where
+      cuts : {ts : Tables} {q : Query} {f : ℕ → Row} → Stands pool ts q plan n d at₀ f → (hit : Hit) → AgreedAt pool at′ end fresh (countAt plan d) hit → AtKey hit (λ (x : ℕ). leap.runsIn pool at′ end fresh (countAt plan d) ≡ map (from x) (groupsAt pool ts q d f))
+      cuts s (Key x _) g =
+          agreed-from (fresh-ready below w p) (first-moved (begin-ready below w p) (fresh-ready below w p) (alike below w p) (begin-ascends below w p) b) g
+          ∙ ap (map (from x)) (ring-runs s below p fresh (p .arrays .fresh-size) (p .fresh-is) ∙ sym (runs-are s))
+      cuts s (Nothing _) g = tt

@@ -1,18 +1,22 @@
 -- The steps of a depth, from the leapfrog's answers: said of the ring in atom order, whichever ring was searched.
 -- Idea: both rings have the same atoms, and what is said of runs and keys does not depend on their sequence.
-use Prim.Native.Nat.{ℕ, _<_}
-use mathlib.Core.Path.{_≡_, ap, _∙_}
-use mathlib.Core.List.{List, [], _∷_, _++_}
+use Prim.Native.Nat.{ℕ, _+_, _<_}
+use mathlib.Core.Path.{_≡_, refl, ap, _∙_}
+use mathlib.Core.Bool.{Bool, true, false}
+use mathlib.Core.List.{List, [], _++_}
 use lib.ListN.{getD, take}
 use Rattle.relation.specs.Lists.{Ascends}
 use Rattle.query.specs.Meet.{meet}
 use Rattle.leapfrog_join.specs.Ring.{keyOf, SameAtoms}
-use Rattle.leapfrog_join.specs.Leapfrog.{runsIn, Ready, Agreed, Moved, Left, leftOf, Begun}
+use Rattle.leapfrog_join.specs.Leapfrog.{runsIn, Ready, Agreed, Moved, Left, leftOf, answered, Ran, Begun}
 use Rattle.leapfrog_join.specs.declared.Hit.{Hit}
 use Rattle.leapfrog_join.specs.declared.Hit.the-variants.{Key, Nothing}
-use Rattle.leapfrog_join.proofs.Laws.{same-back, same-meet, same-agreed, same-moved, agreed-here, next-left}
-use Rattle.leapfrog_join.proofs.Beginning.{begun-same}
-use Rattle.leapfrog_triejoin.specs.Descent.{AgreedAt, Steps}
+use Rattle.leapfrog_join.specs.declared.Searched.{Searched}
+use Rattle.leapfrog.specs.Search.{Went, nextOf}
+use Rattle.leapfrog.specs.Walk.{capped}
+use Rattle.leapfrog_join.proofs.Laws.{same-back, same-meet, same-agreed, same-moved, agreed-here, went-next}
+use Rattle.leapfrog_join.proofs.Beginning.{begun-same, begun-left}
+use Rattle.leapfrog_triejoin.specs.Descent.{AgreedAt, Steps, Answers, Leapt, sinceOf, Onward}
 
 -- what a search of one ring leaves, said of another with the same atoms
 module _ {pool end ring fresh : List ℕ} {k : ℕ} (s : SameAtoms ring fresh k) {at₀ at common passed : List ℕ} where
@@ -32,13 +36,13 @@ module _ {pool at end fresh : List ℕ} {k x p : ℕ} (g : Agreed pool at end fr
     pub goes-on : Agreed pool at end ring k (keyOf pool at (getD ring p 0)) p
     goes-on = agreed-here (same-agreed s g p (g .place))
 
-    pub went-on : {at′ : List ℕ} (hit : Hit) → Left pool end ring k at at′ (meet (runsIn pool at end ring k)) (keyOf pool at (getD ring p 0) ∷ []) hit → Steps pool end fresh k at at′ x hit
-    went-on hit l =
-        let m = next-left (same-agreed s g p (g .place)) l in
+    pub went-on : {at′ : List ℕ} {r : Searched} → Ran pool end ring k at at′ (nextOf (runsIn pool at end ring k) p) r → Steps pool end fresh k at at′ x (r .hit)
+    went-on {r = r} d =
+        let m = went-next (same-agreed s g p (g .place)) d in
         let b = same-back s (g .ready) in
         record {
-          agreed = same-ended b hit m;
-          keys = same-meet s (g .ready) ∙ same-keys b hit m;
+          agreed = same-ended b (r .hit) m;
+          keys = same-meet s (g .ready) ∙ same-keys b (r .hit) m;
           moved = same-moved b (m .moved);
         }
 
@@ -52,14 +56,32 @@ module _ {pool at end fresh : List ℕ} {k x p : ℕ} (g : Agreed pool at end fr
   pub begins-anew : Agreed pool at end fresh k (keyOf pool at (getD fresh 0 0)) 0
   begins-anew = agreed-here anew
 
-  pub went-anew : {at′ : List ℕ} (hit : Hit) → Left pool end fresh k at at′ (meet (runsIn pool at end fresh k)) (keyOf pool at (getD fresh 0 0) ∷ []) hit → Steps pool end fresh k at at′ x hit
-  went-anew hit l =
-      let m = next-left anew l in
-      record { agreed = same-ended same-ring hit m; keys = same-keys same-ring hit m; moved = m .moved }
+  pub went-anew : {at′ : List ℕ} {r : Searched} → Ran pool end fresh k at at′ (nextOf (runsIn pool at end fresh k) 0) r → Steps pool end fresh k at at′ x (r .hit)
+  went-anew {r = r} d =
+      let m = went-next anew d in
+      record { agreed = same-ended same-ring (r .hit) m; keys = same-keys same-ring (r .hit) m; moved = m .moved }
+
+-- ---- the seeks
+
+-- a call that did what the definition says, its seeks added to those before
+pub ran-leapt : {pool end ring : List ℕ} {k : ℕ} {at₀ at : List ℕ} {w : Went} {r : Searched} (before : ℕ) → Ran pool end ring k at₀ at w r → Leapt w (runsIn pool at end ring k) before (r .hit) (capped (before + r .seeks))
+ran-leapt {pool} {end} {ring} {k} {at = at} {w} {r} before d = record { made = r .seeks; answers = go (r .hit) (d .same); sum = refl }
+  where
+    go : (h : Hit) → w ≡ answered (runsIn pool at end ring k) h (r .seeks) → Answers w (runsIn pool at end ring k) h (r .seeks)
+    go (Key x p) c = c
+    go (Nothing p) c = (ap (λ (v : Went). v .stop) c, ap (λ (v : Went). v .seeks) c)
+
+-- either way
+module _ {pool at end ring fresh : List ℕ} {k p : ℕ} {last : Bool} (g : Agreed pool at end fresh k (keyOf pool at (getD fresh 0 0)) p) {at′ : List ℕ} {r a : Searched} (before : ℕ) (e : a ≡ sinceOf before r) where
+  pub onward-last : last ≡ true → SameAtoms fresh ring k → Ran pool end ring k at at′ (nextOf (runsIn pool at end ring k) p) r → Onward pool end ring fresh k p last at at′ before a
+  onward-last l s d = rw (e, l) (record { steps = went-on g s d; leapt = ran-leapt before d })
+
+  pub onward-anew : last ≡ false → Ran pool end fresh k at at′ (nextOf (runsIn pool at end fresh k) 0) r → Onward pool end ring fresh k p last at at′ before a
+  onward-anew l d = rw (e, l) (record { steps = went-anew g d; leapt = ran-leapt before d })
 
 -- ---- the first key
 
-module _ {pool at end fresh ring ring′ : List ℕ} {k : ℕ} (r : Ready pool at end ring k) (f : Ready pool at end fresh k) (e : take k ring ≡ take k fresh) (asc : Ascends _<_ (take k ring)) {at′ : List ℕ} {hit : Hit} (b : Begun pool end k ring ring′ at at′ hit) where
+module _ {pool at end fresh ring ring′ : List ℕ} {k : ℕ} (r : Ready pool at end ring k) (f : Ready pool at end fresh k) (e : take k ring ≡ take k fresh) (asc : Ascends _<_ (take k ring)) {at′ : List ℕ} {a : Searched} (b : Begun pool end k ring ring′ at at′ a) where
   -- the ring in atom order, sorted and in atom order again
   both : SameAtoms fresh ring k
   both = record { size = r .size; to = λ a m. rw e m; back = λ a m. rw e at m; apart = r .apart }
@@ -70,14 +92,17 @@ module _ {pool at end fresh ring ring′ : List ℕ} {k : ℕ} (r : Ready pool a
   through : SameAtoms ring′ fresh k
   through = record { size = f .size; to = λ a m. both .back a (sorts .back a m); back = λ a m. sorts .to a (both .to a m); apart = f .apart }
 
-  pub first-agreed : AgreedAt pool at′ end fresh k hit
-  first-agreed = same-ended through hit (b .left)
+  left : Left pool end ring′ k at at′ (meet (runsIn pool at end ring k)) [] (a .hit)
+  left = begun-left r asc b
 
-  pub first-keys : meet (runsIn pool at end fresh k) ≡ leftOf (runsIn pool at′ end fresh k) hit
-  first-keys = same-meet both f ∙ same-keys through hit (b .left)
+  pub first-agreed : AgreedAt pool at′ end fresh k (a .hit)
+  first-agreed = same-ended through (a .hit) left
+
+  pub first-keys : meet (runsIn pool at end fresh k) ≡ leftOf (runsIn pool at′ end fresh k) (a .hit)
+  first-keys = same-meet both f ∙ same-keys through (a .hit) left
 
   pub first-moved : Moved end fresh k at at′
-  first-moved = same-moved through (b .left .moved)
+  first-moved = same-moved through (left .moved)
 
   pub first-same : SameAtoms fresh ring′ k
   first-same = record { size = sorts .size; to = through .back; back = through .to; apart = sorts .apart }

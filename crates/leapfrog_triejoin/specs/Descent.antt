@@ -9,18 +9,22 @@ use lib.Dec.{ltb}
 use Rattle.relation.specs.Order.{Row, pick}
 use Rattle.relation.specs.Layers.{prefixes, keysUnder}
 use Rattle.relation.specs.Layers as layers
+use Rattle.relation.specs.Runs.{from}
 use Rattle.query.specs.Meet.{meet}
-use Rattle.query.specs.Solve.{headed}
+use Rattle.query.specs.Solve.{headed, runs}
 use Rattle.query.specs.Window.{Progress}
 use Rattle.query.specs.Descend.{standings, prefixAt, nobody, holders, Joinable, Descends}
 use Rattle.column_trie.specs.Limits.{maxArity}
 use Rattle.column_trie.specs.Pool.{spot}
 use Rattle.column_trie.specs.Table.{rowsIn}
 use Rattle.column_trie.specs.declared.ColumnTrie.{ColumnTrie}
-use Rattle.leapfrog_join.specs.Ring.{maxAtoms, SameAtoms}
-use Rattle.leapfrog_join.specs.Leapfrog.{runsIn, Agreed, Moved, leftOf}
+use Rattle.leapfrog.specs.Search.{Went, out, initOf, nextOf}
+use Rattle.leapfrog.specs.Walk.{Tally, walkOf, capped}
+use Rattle.leapfrog_join.specs.Ring.{maxAtoms, keyOf, SameAtoms}
+use Rattle.leapfrog_join.specs.Leapfrog.{runsIn, Agreed, Moved, leftOf, answered}
 use Rattle.leapfrog_join.specs.declared.Hit.{Hit}
 use Rattle.leapfrog_join.specs.declared.Hit.the-variants.{Key, Nothing}
+use Rattle.leapfrog_join.specs.declared.Searched.{Searched}
 use Rattle.leapfrog_triejoin.specs.Query.{atomAt, tableAt, orderOf, varsOf, atomsOf, joinNumber}
 use Rattle.leapfrog_triejoin.specs.Plan.{depthAt, openingAt, aboveOf, layerAt, takers, Planned}
 use Rattle.leapfrog_triejoin.specs.declared.Query.{Query}
@@ -198,6 +202,54 @@ pub record Steps (pool end fresh : List ℕ) (k : ℕ) (at₀ at : List ℕ) (x 
   pub keys : meet (runsIn pool at₀ end fresh k) ≡ x ∷ leftOf (runsIn pool at end fresh k) hit
   pub moved : Moved end fresh k at₀ at
 
+-- a call that does what the definition's w does, where it leaves the runs so: all of it where it found a key, else that there is none; and its seeks n
+abbrev pub Answers : Went → List (List ℕ) → Hit → ℕ → Type 0
+Answers w runs (Key x p) n = w ≡ answered runs (Key x p) n
+Answers w runs (Nothing p) n = (w .stop ≡ out) × (w .seeks ≡ n)
+
+-- a call's answer, its seeks added to those before
+abbrev pub sinceOf : ℕ → Searched → Searched
+sinceOf before s = record { hit = s .hit; seeks = capped (before + s .seeks) }
+
+-- with its seeks added to those before
+pub record Leapt (w : Went) (runs : List (List ℕ)) (before : ℕ) (hit : Hit) (seeks : ℕ) : Type 0 where
+  pub made : ℕ
+  pub answers : Answers w runs hit made
+  pub sum : seeks ≡ capped (before + made)
+
+abbrev pub AtKey : Hit → (ℕ → Type 0) → Type 0
+AtKey (Key x p) P = P x
+AtKey (Nothing p) P = Unit {0}
+
+-- the keys under the words, of each atom that takes part, in atom order
+abbrev pub groupsAt : List ℕ → Tables → Query → ℕ → (ℕ → Row) → List (List ℕ)
+groupsAt pool ts q d f = runs (getD (orderOf q) d 0) (standings f (atomsOf pool ts q))
+
+-- of one query: the leapfrog is begun on those; where it found a key, each run is cut there
+pub record Starts (pool : List ℕ) (ts : Tables) (q : Query) (plan : List ℕ) (d : ℕ) (at end ring fresh : List ℕ) (f : ℕ → Row) (before : ℕ) (hit : Hit) (seeks : ℕ) : Type 0 where
+  pub leapt : Leapt (initOf (groupsAt pool ts q d f)) (runsIn pool at end ring (countAt plan d)) before hit seeks
+  pub cut : AtKey hit (λ (x : ℕ). runsIn pool at end fresh (countAt plan d) ≡ map (from x) (groupsAt pool ts q d f))
+
+-- the opening of a depth
+pub record Opening (pool plan : List ℕ) (n d : ℕ) (at₀ at end ring fresh : List ℕ) (before : ℕ) (r : Searched) : Type 0 where
+  pub begun : Begun pool plan n d at₀ at end ring fresh (r .hit)
+  pub starts : (ts : Tables) (q : Query) (f : ℕ → Row) → Stands pool ts q plan n d at₀ f → Starts pool ts q plan d at end ring fresh f before (r .hit) (r .seeks)
+
+-- the step to the next key: at the last depth from place p of the ring as it is, else from the first place of the ring in atom order
+pub record Onward (pool end ring fresh : List ℕ) (k p : ℕ) (last : Bool) (at₀ at : List ℕ) (before : ℕ) (r : Searched) : Type 0 where
+  pub steps : Steps pool end fresh k at₀ at (keyOf pool at₀ (getD fresh 0 0)) (r .hit)
+  pub leapt : Leapt (nextOf (runsIn pool at₀ end (pick last ring fresh) k) (pick last p 0)) (runsIn pool at end (pick last ring fresh) k) before (r .hit) (r .seeks)
+
 -- what the descent leaves: the rows that complete `found` are emitted
 pub record Descended (pool plan : List ℕ) (n d : ℕ) (at : List ℕ) (found : Row) (w₀ : List ℕ) (from : ℕ) (w : List ℕ) (rows : ℕ) (full : Bool) : Type 0 where
   pub descends : (ts : Tables) (q : Query) (f : ℕ → Row) → Stands pool ts q plan n d at f → Descends n (drop d (orderOf q)) (standings f (atomsOf pool ts q)) found (written w₀ from false) (written w rows full)
+
+-- the definition's walk leaves the window so, and these seeks
+pub record Counted (t : Tally) (s : Progress) (seeks : ℕ) : Type 0 where
+  pub window : t .progress ≡ s
+  pub count : seeks ≡ capped (t .seeks)
+
+-- besides the rows, their seeks: those of the definition's walk
+pub record Completes (pool plan : List ℕ) (n d : ℕ) (at : List ℕ) (found : Row) (w₀ : List ℕ) (from before : ℕ) (w : List ℕ) (rows : ℕ) (full : Bool) (seeks : ℕ) : Type 0 where
+  pub descended : Descended pool plan n d at found w₀ from w rows full
+  pub counts : (ts : Tables) (q : Query) (f : ℕ → Row) → Stands pool ts q plan n d at f → (m : ℕ) → before ≡ capped m → Counted (walkOf n (drop d (orderOf q)) (standings f (atomsOf pool ts q)) found (record { progress = written w₀ from false; seeks = m })) (written w rows full) seeks

@@ -5,16 +5,18 @@ ghost use Prim.Native.Nat.{_+_, _≤_, _<_};
 ghost use lib.ListN.{length, take, getD};
 ghost use Rattle.query.specs.Window.{emit};
 ghost use Rattle.column_trie.specs.Limits.{maxArity};
+ghost use Rattle.leapfrog.specs.Walk.{capped};
 ghost use Rattle.leapfrog_join.specs.Ring.{SameAtoms, keyOf};
 ghost use Rattle.leapfrog_join.specs.Leapfrog.{Agreed};
 ghost use Rattle.leapfrog_triejoin.specs.Plan.{openingWords, planWords};
-ghost use Rattle.leapfrog_triejoin.specs.Descent.{written, Fits, groupLow, groupHigh, Readable, Openable, Arrays, OpenedAll, Standing, Begun, Steps, Descended};
+ghost use Rattle.leapfrog_triejoin.specs.Descent.{written, Fits, groupLow, groupHigh, Readable, Openable, Arrays, OpenedAll, Standing, Opening, Onward, Completes, sinceOf};
 use crate::plan::DEPTH;
 use crate::plan::OPENING;
 use crate::plan::PLAN;
 use column_trie::ColumnTrie;
 use leapfrog_join::Hit;
 use leapfrog_join::MAX_ATOMS;
+use leapfrog_join::Searched;
 use leapfrog_join::leapfrog_init;
 use leapfrog_join::leapfrog_next;
 use seek::SeekStrategy;
@@ -23,6 +25,13 @@ use seek::SeekStrategy;
 pub struct Written {
     pub rows: usize,
     pub full: bool,
+}
+
+// The same, with the number of seeks that the leapfrogs have made.
+pub struct Walked {
+    pub rows: usize,
+    pub full: bool,
+    pub seeks: u64,
 }
 
 // Writes one row behind the others, by variable number, or says that it does not fit.
@@ -44,6 +53,25 @@ fn emit(window: &mut [u64], row: [u64; ColumnTrie::MAX_ARITY], n: usize, rows: u
         rows: rows + 1,
         full: false,
     }
+}
+
+// The sum; 2^64 - 1 stands for that and all above.
+fn added(a: u64, b: u64) -> u64
+    ensures { λ r. ⌜ r ≡ capped (a + b) ⌝ }
+{
+    if b <= 18446744073709551615 - a {
+        return a + b;
+    }
+    18446744073709551615
+}
+
+// A call's answer, its seeks added to those before.
+fn since(before: u64, s: Searched) -> Searched
+    ensures { λ r. ⌜ r ≡ sinceOf before s ⌝ }
+{
+    let hit = s.hit;
+    let seeks = added(s.seeks, before);
+    Searched { hit, seeks }
 }
 
 // A group of keys, as places of the pool.
@@ -118,16 +146,20 @@ fn open(
     end: &mut [usize; MAX_ATOMS],
     ring: &mut [usize; MAX_ATOMS],
     fresh: &mut [usize; MAX_ATOMS],
-) -> Hit
+    seeks: u64,
+) -> Searched
     requires { ⌜ Standing (now pool) (now plan) n depth (now at) ⌝ }
     requires { ⌜ (depth < n) × Arrays (now at) (now end) (now ring) (now fresh) ⌝ }
-    ensures { λ r. ⌜ Begun (now (pool .entry)) (now (plan .entry)) n depth (now (at .entry)) (now (at .exit)) (now (end .exit)) (now (ring .exit)) (now (fresh .exit)) r ⌝ }
+    ensures { λ r. ⌜ Opening (now (pool .entry)) (now (plan .entry)) n depth (now (at .entry)) (now (at .exit)) (now (end .exit)) (now (ring .exit)) (now (fresh .exit)) seeks r ⌝ }
 {
     if !open_all(pool, plan, depth, at, end, ring, fresh) {
-        return Hit::Nothing { p: 0 };
+        return Searched {
+            hit: Hit::Nothing { p: 0 },
+            seeks,
+        };
     }
     let k = plan[DEPTH * depth + 1];
-    leapfrog_init(pool, at, end, ring, k, strategy)
+    since(seeks, leapfrog_init(pool, at, end, ring, k, strategy))
 }
 
 // The next key of a depth. After a descent below it the ring is in atom order again and begins at its first place; at the last depth it goes on as it is.
@@ -141,15 +173,16 @@ fn onward(
     k: usize,
     p: usize,
     last: bool,
-) -> Hit
+    seeks: u64,
+) -> Searched
     requires { ⌜ Agreed (now pool) (now at) (now end) (now fresh) k (keyOf (now pool) (now at) (getD (now fresh) 0 0)) p ⌝ }
     requires { ⌜ SameAtoms (now fresh) (now ring) k ⌝ }
-    ensures { λ r. ⌜ Steps (now (pool .entry)) (now (end .entry)) (now (fresh .entry)) k (now (at .entry)) (now (at .exit)) (keyOf (now (pool .entry)) (now (at .entry)) (getD (now (fresh .entry)) 0 0)) r ⌝ }
+    ensures { λ r. ⌜ Onward (now (pool .entry)) (now (end .entry)) (now (ring .entry)) (now (fresh .entry)) k p last (now (at .entry)) (now (at .exit)) seeks r ⌝ }
 {
     if last {
-        return leapfrog_next(pool, at, end, ring, k, p, strategy);
+        return since(seeks, leapfrog_next(pool, at, end, ring, k, p, strategy));
     }
-    leapfrog_next(pool, at, end, fresh, k, 0, strategy)
+    since(seeks, leapfrog_next(pool, at, end, fresh, k, 0, strategy))
 }
 
 // Writes the rows that complete `found`, from depth `depth` on, behind the first `from`, until the window is full. The cursors' places come by value, so
@@ -164,13 +197,19 @@ pub fn descend(
     found: [u64; ColumnTrie::MAX_ARITY],
     window: &mut [u64],
     from: usize,
-) -> Written
+    before: u64,
+) -> Walked
     requires { ⌜ Standing (now pool) (now plan) n depth above ⌝ }
     requires { ⌜ Fits n (length (now window)) from ⌝ }
-    ensures { λ r. ⌜ Descended (now (pool .entry)) (now (plan .entry)) n depth above found (now (window .entry)) from (now (window .exit)) (r .rows) (r .full) ⌝ }
+    ensures { λ r. ⌜ Completes (now (pool .entry)) (now (plan .entry)) n depth above found (now (window .entry)) from before (now (window .exit)) (r .rows) (r .full) (r .seeks) ⌝ }
 {
     if depth == n {
-        return emit(window, found, n, from);
+        let w = emit(window, found, n, from);
+        return Walked {
+            rows: w.rows,
+            full: w.full,
+            seeks: before,
+        };
     }
     let v = plan[DEPTH * depth];
     let k = plan[DEPTH * depth + 1];
@@ -178,7 +217,7 @@ pub fn descend(
     let mut end = [0usize; MAX_ATOMS];
     let mut ring = [0usize; MAX_ATOMS];
     let mut fresh = [0usize; MAX_ATOMS];
-    let mut hit = open(
+    let first = open(
         strategy,
         pool,
         plan,
@@ -188,20 +227,38 @@ pub fn descend(
         &mut end,
         &mut ring,
         &mut fresh,
+        before,
     );
+    let mut hit = first.hit;
+    let mut seeks = first.seeks;
     let mut row = found;
     let mut rows = from;
     loop {
         let Hit::Key { key, p } = hit else {
-            return Written { rows, full: false };
+            return Walked {
+                rows,
+                full: false,
+                seeks,
+            };
         };
         row[v] = key;
-        let below = descend(strategy, pool, plan, n, depth + 1, at, row, window, rows);
+        let below = descend(
+            strategy,
+            pool,
+            plan,
+            n,
+            depth + 1,
+            at,
+            row,
+            window,
+            rows,
+            seeks,
+        );
         if below.full {
             return below;
         }
         rows = below.rows;
-        hit = onward(
+        let next = onward(
             strategy,
             pool,
             &mut at,
@@ -211,6 +268,9 @@ pub fn descend(
             k,
             p,
             depth + 1 == n,
+            below.seeks,
         );
+        hit = next.hit;
+        seeks = next.seeks;
     }
 }

@@ -48,10 +48,12 @@ impl Tables {
 pub struct Joined {
     pub number: u64,
     pub rows: usize,
+    pub seeks: u64,
 }
 
 // Joins the tables that the query's atoms name, and writes the rows into the window, by variable number, ascending as read in the query's order. Refuses by
-// 8, 9, 10, 11 and 6 in sequence; 12 says that more rows exist than fit the window, which then holds the first that do.
+// 8, 9, 10, 11 and 6 in sequence; 12 says that more rows exist than fit the window, which then holds the first that do. The seeks are those of the leapfrogs,
+// on 12 up to finding the first row that does not fit.
 pub fn join(
     strategy: SeekStrategy,
     pool: &[u64],
@@ -63,21 +65,27 @@ pub fn join(
 {
     let number = refusal(pool, tables, query);
     if number != 0 {
-        return Joined { number, rows: 0 };
+        return Joined {
+            number,
+            rows: 0,
+            seeks: 0,
+        };
     }
     let mut plan = [0usize; PLAN];
     make_plan(&mut plan, tables, query);
     let at = [0usize; Query::MAX_ATOMS];
     let row = [0u64; ColumnTrie::MAX_ARITY];
-    let written = descend(strategy, pool, &plan, query.n, 0, at, row, window, 0);
+    let written = descend(strategy, pool, &plan, query.n, 0, at, row, window, 0, 0);
     if written.full {
         return Joined {
             number: 12,
             rows: written.rows,
+            seeks: written.seeks,
         };
     }
     Joined {
         number: 0,
         rows: written.rows,
+        seeks: written.seeks,
     }
 }

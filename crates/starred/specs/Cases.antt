@@ -15,7 +15,7 @@ use Rattle.column_trie_insert.specs.Insert.{insertNumber, takesIn}
 use Rattle.column_trie_insert.specs.Insert as inserts
 use Rattle.column_trie_iter.specs.Cursor.{cursor, keyOf, openOf, upOf, remaining}
 use Rattle.column_trie_iter.specs.declared.ColumnTrieIter.{ColumnTrieIter}
-use Rattle.leapfrog_triejoin.specs.Outcome.{outcome}
+use Rattle.leapfrog_triejoin.specs.Outcome.{outcome, seeksOf}
 use Rattle.leapfrog_triejoin.specs.declared.Atom.{Atom}
 use Rattle.leapfrog_triejoin.specs.declared.Query.{Query}
 use Rattle.leapfrog_triejoin.specs.declared.Tables.{Tables}
@@ -44,8 +44,8 @@ pub data Comes : Type 0 where
   Key : ℕ → Bool → ColumnTrieIter → ℕ → Comes
   -- offset, probes
   Sought : ℕ → ℕ → Comes
-  -- number, rows written, window
-  Rows : ℕ → ℕ → List ℕ → Comes
+  -- number, rows written, window, seeks
+  Rows : ℕ → ℕ → List ℕ → ℕ → Comes
   Word : ℕ → Comes
 
 abbrev pub comes : Asked → Comes
@@ -55,7 +55,7 @@ comes (Insert pool t tuple) = New (insertNumber pool t tuple) (takesIn pool t tu
 comes (Open pool t it) = Run (openOf pool t it .number) (openOf pool t it .opened) (openOf pool t it .iter) (remaining pool t (openOf pool t it .iter))
 comes (Up pool t it) = Key (upOf pool t it .number) (upOf pool t it .risen) (upOf pool t it .iter) (keyOf pool t (upOf pool t it .iter) .key)
 comes (Seek s run target) = Sought (seekOf s run target .offset) (seekOf s run target .probes)
-comes (Join pool ts q window) = Rows (outcome pool ts q window .number) (outcome pool ts q window .rows) (outcome pool ts q window .words)
+comes (Join pool ts q window) = Rows (outcome pool ts q window .number) (outcome pool ts q window .rows) (outcome pool ts q window .words) (seeksOf pool ts q window)
 comes (Grade g) = Word (wordOf g)
 
 -- ---- the table
@@ -158,10 +158,10 @@ starred =
     line (Seek Binary evens 17) (Sought 8 3) ∷
     line (Seek Galloping evens 17) (Sought 8 6) ∷
     line (Seek Galloping evens 2) (Sought 0 1) ∷
-    line (Join triangle three triangleQuery (9 ∷ 9 ∷ 9 ∷ 9 ∷ 9 ∷ 9 ∷ 9 ∷ 9 ∷ 9 ∷ [])) (Rows 0 3 (1 ∷ 2 ∷ 3 ∷ 1 ∷ 3 ∷ 1 ∷ 2 ∷ 3 ∷ 1 ∷ [])) ∷
-    line (Join triangle three triangleQuery (9 ∷ 9 ∷ 9 ∷ 9 ∷ 9 ∷ 9 ∷ 9 ∷ [])) (Rows 12 2 (1 ∷ 2 ∷ 3 ∷ 1 ∷ 3 ∷ 1 ∷ 9 ∷ [])) ∷
-    line (Join pairs single (query 2 (1 ∷ 0 ∷ []) 1 (atom 0 1 0 ∷ [])) (0 ∷ 0 ∷ 0 ∷ 0 ∷ [])) (Rows 0 2 (9 ∷ 5 ∷ 2 ∷ 7 ∷ [])) ∷
-    line (Join chained single (query 3 (0 ∷ 1 ∷ 2 ∷ []) 2 (atom 0 0 1 ∷ atom 0 1 2 ∷ [])) (0 ∷ 0 ∷ 0 ∷ [])) (Rows 0 1 (1 ∷ 2 ∷ 3 ∷ [])) ∷
+    line (Join triangle three triangleQuery (9 ∷ 9 ∷ 9 ∷ 9 ∷ 9 ∷ 9 ∷ 9 ∷ 9 ∷ 9 ∷ [])) (Rows 0 3 (1 ∷ 2 ∷ 3 ∷ 1 ∷ 3 ∷ 1 ∷ 2 ∷ 3 ∷ 1 ∷ []) 4) ∷
+    line (Join triangle three triangleQuery (9 ∷ 9 ∷ 9 ∷ 9 ∷ 9 ∷ 9 ∷ 9 ∷ [])) (Rows 12 2 (1 ∷ 2 ∷ 3 ∷ 1 ∷ 3 ∷ 1 ∷ 9 ∷ []) 4) ∷
+    line (Join pairs single (query 2 (1 ∷ 0 ∷ []) 1 (atom 0 1 0 ∷ [])) (0 ∷ 0 ∷ 0 ∷ 0 ∷ [])) (Rows 0 2 (9 ∷ 5 ∷ 2 ∷ 7 ∷ []) 0) ∷
+    line (Join chained single (query 3 (0 ∷ 1 ∷ 2 ∷ []) 2 (atom 0 0 1 ∷ atom 0 1 2 ∷ [])) (0 ∷ 0 ∷ 0 ∷ [])) (Rows 0 1 (1 ∷ 2 ∷ 3 ∷ []) 2) ∷
     line (Grade (pos 0)) (Word 9223372036854775808) ∷
     line (Grade (negsuc 0)) (Word 9223372036854775807) ∷
     line (Grade (pos 9223372036854775807)) (Word 18446744073709551615) ∷

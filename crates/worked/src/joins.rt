@@ -1,4 +1,4 @@
-// Joins: behind pool and window the tables and the query; then the number, the rows and the window.
+// Joins: behind pool and window the tables and the query; then the number, the rows, the seeks and the window.
 use crate::choices::said;
 use crate::choices::within;
 use crate::headers::eight_at;
@@ -143,5 +143,6 @@ pub fn case(
     let came = join(strategy, pool, tables, query, window);
     let numbered = said(text, tally.at(posed.at), came.number);
     let counted = said(text, numbered, came.rows as u64);
-    left(text, counted, window)
+    let sought = said(text, counted, came.seeks);
+    left(text, sought, window)
 }

@@ -121,6 +121,7 @@ impl Case for Damaged {
         for v in 0..self.arity {
             (query.order[v], query.atoms[0].variables[v]) = (v as u64, v as u64);
         }
+        // The leapfrog of one atom makes no seek, which is what `model::join` says.
         for strategy in SeekStrategy::ALL {
             let (mut window, mut expected) = (vec![77; 9], vec![77; 9]);
             let answer = join(strategy, &pool, tables, query, &mut window);

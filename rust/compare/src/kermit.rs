@@ -23,10 +23,29 @@ pub fn layers(listing: &str) -> Vec<Layer> {
     lines.chunks(3).map(|lines| Layer { data: list(lines[1], "Data"), interval: list(lines[2], "Interval") }).collect()
 }
 
-pub fn join<S: SeekStrategy>(order: &[usize], atoms: &[(usize, Vec<usize>)], tries: &[ColumnTrie<S>]) -> Vec<Row> {
-    let mut rows = vec![];
+/// The rows of a join, the seeks made until each was found, and all of them.
+#[derive(Clone, Debug, PartialEq, Eq)]
+pub struct Found {
+    pub rows: Vec<Row>,
+    until: Vec<u64>,
+    all: u64,
+}
+
+impl Found {
+    /// The seeks where so many rows fit: those up to finding the first that does not, or all.
+    pub fn seeks(&self, fit: usize) -> u64 {
+        self.until.get(fit).copied().unwrap_or(self.all)
+    }
+}
+
+pub fn join<S: SeekStrategy>(order: &[usize], atoms: &[(usize, Vec<usize>)], tries: &[ColumnTrie<Counted<S>>]) -> Found {
+    let mut found = Found { rows: vec![], until: vec![], all: 0 };
+    taken();
     LeapfrogTriejoin::join_for_each(&ExecutedQuery::new(order, atoms), tries, |row| {
-        rows.push(row.iter().map(|&key| key as u64).collect());
+        found.all += taken().0 as u64;
+        found.until.push(found.all);
+        found.rows.push(row.iter().map(|&key| key as u64).collect());
     });
-    rows
+    found.all += taken().0 as u64;
+    found
 }

@@ -440,18 +440,18 @@ pub fn answers(pool: &[u64], tables: &Tables, query: &Query) -> Vec<Row> {
     rows
 }
 
-/// What a window gets of these rows.
+/// What a window gets of these rows. The seeks are left to kermit, which says them (`joins::Joins::found`).
 pub fn windowed(n: usize, rows: &[Row], window: &mut [u64]) -> Joined {
     let fit = window.len().checked_div(n).map_or(rows.len(), |fit| fit.min(rows.len()));
     for (place, row) in window.chunks_mut(n.max(1)).zip(&rows[..fit]) {
         place[..n].copy_from_slice(row);
     }
-    Joined { number: if fit < rows.len() { 12 } else { 0 }, rows: fit as u64 }
+    Joined { number: if fit < rows.len() { 12 } else { 0 }, rows: fit as u64, seeks: 0 }
 }
 
 pub fn join(pool: &[u64], tables: &Tables, query: &Query, window: &mut [u64]) -> Joined {
     match join_number(pool, tables, query) {
         0 => windowed(query.n as usize, &answers(pool, tables, query), window),
-        number => Joined { number, rows: 0 },
+        number => Joined { number, rows: 0, seeks: 0 },
     }
 }

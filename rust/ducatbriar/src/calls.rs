@@ -68,7 +68,10 @@ c_struct!(
     /// `count` headers.
     Tables { count: u64, tables: [ColumnTrie; MAX_TABLES] }
 );
-c_struct!(Joined { number: u64, rows: u64 });
+c_struct!(
+    /// The rows written, and the seeks that the leapfrogs made: 2^64 - 1 stands for that and all above; on 12 those up to the first row that does not fit.
+    Joined { number: u64, rows: u64, seeks: u64 }
+);
 
 mod c {
     use super::*;

@@ -46,6 +46,8 @@ pub struct Filled {
     pub rows: usize,
     /// More rows exist than fit (number 12).
     pub full: bool,
+    /// The seeks that the leapfrogs made, where it is full those up to finding the first row that does not fit; 2^64 - 1 stands for that and all above.
+    pub seeks: u64,
 }
 
 /// The rows of a join, in the order in which they were found.
@@ -170,7 +172,7 @@ impl Pool {
     ) -> Result<Filled, Refusal> {
         let joined = calls::join(strategy, &self.words, Self::tables(tables), query.query, window);
         match joined.number {
-            0 | 12 => Ok(Filled { rows: joined.rows as usize, full: joined.number == 12 }),
+            0 | 12 => Ok(Filled { rows: joined.rows as usize, full: joined.number == 12, seeks: joined.seeks }),
             number => Err(Refusal::new(number)),
         }
     }

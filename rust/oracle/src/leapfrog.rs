@@ -8,6 +8,10 @@ impl<I: LinearIterator> Leapfrog<I> {
     pub fn new(iterators: Vec<I>) -> Self {
         Leapfrog(LeapfrogJoinIter::new(iterators))
     }
+    /// The iterators, in the order in which they were given.
+    pub fn iterators(&self) -> &[I] {
+        &self.0.iterators
+    }
     /// Algorithm 1: whether there is a common key.
     pub fn init(&mut self) -> bool {
         self.0.leapfrog_init()

@@ -1,20 +1,22 @@
-//! record DIR: writes kermit's answers as text for the program `replay`, which asks the library the same. docs/REPLAY.md says what is recorded.
+//! record CRATES: writes kermit's answers as text for the programs `replay` and `replay_leapfrogs`, which ask the library the same, each into the data folder of its
+//! program below CRATES. docs/REPLAY.md says what is recorded.
 //!
 //! The answers are kermit's alone: nothing here asks the library. The cases are the same at every run. A reader takes the decimal numbers of the text in
 //! sequence, whatever stands between them, so no other text may hold a digit; a listing stands as it is behind its length and a newline.
 #[cfg(kermit)]
 fn main() {
-    let folder = std::env::args().nth(1).expect("record DIR");
-    for (name, cases) in [
-        ("seeks", recorded::seeks()),
-        ("tables", recorded::tables()),
-        ("cursors", recorded::cursors()),
-        ("joins", recorded::joins()),
+    let crates = std::env::args().nth(1).expect("record CRATES");
+    for (program, name, cases) in [
+        ("replay", "seeks", recorded::seeks()),
+        ("replay", "tables", recorded::tables()),
+        ("replay", "cursors", recorded::cursors()),
+        ("replay", "joins", recorded::joins()),
+        ("replay_leapfrogs", "leapfrogs", recorded::leapfrogs()),
     ] {
         let text = format!("{} {name}\n{}", cases.len(), cases.concat());
-        assert!(text.len() <= 262_144, "{name} has {} bytes, more than replay's buffer", text.len());
+        assert!(text.len() <= 262_144, "{name} has {} bytes, more than {program}'s buffer", text.len());
         println!("{name}: {} cases, {} bytes", cases.len(), text.len());
-        std::fs::write(format!("{folder}/{name}"), text).unwrap();
+        std::fs::write(format!("{crates}/{program}/data/{name}"), text).unwrap();
     }
 }
 
@@ -32,7 +34,9 @@ mod recorded {
     use compare::rng::{Keys, Rng};
     use compare::seeks::{self, Seek};
     use compare::tables::{self, all_rows, Grown};
-    use oracle::{taken, BinarySeek, Cardinality, Counted, GallopingSeek, LinearIterator, LinearSeek, Relation, TrieIterator};
+    use oracle::{
+        taken, BinarySeek, Cardinality, Counted, GallopingSeek, Leapfrog, LinearIterator, LinearSeek, Relation, TrieIterator,
+    };
     use std::fmt::{Debug, Write};
 
     fn words(words: &[u64]) -> String {
@@ -282,7 +286,95 @@ mod recorded {
     }
 
     fn joined<S: oracle::SeekStrategy>(case: &Joins) -> Vec<Row> {
-        let tries: Vec<_> = case.tables.iter().map(|(arity, rows)| kermit::trie::<S>(*arity, rows)).collect();
-        kermit::join(&case.order, &case.atoms, &tries)
+        let tries: Vec<_> = case.tables.iter().map(|(arity, rows)| kermit::trie::<Counted<S>>(*arity, rows)).collect();
+        kermit::join(&case.order, &case.atoms, &tries).rows
+    }
+
+    /// Ascending runs, and calls of a leapfrog over them behind the first one: a seek to a target, or a next.
+    struct Hops {
+        runs: Vec<Vec<u64>>,
+        calls: Vec<Option<u64>>,
+    }
+
+    /// All pairs of runs of keys below 3, with one seek each, and with nexts; larger ones of two to four runs.
+    pub fn leapfrogs() -> Vec<String> {
+        let rng = &mut rng("leapfrogs");
+        let small: Vec<Vec<u64>> = cursors::subsets(&all_rows(1, 3), 3).into_iter().map(|set| set.concat()).collect();
+        let mut cases = vec![];
+        for (a, b) in small.iter().flat_map(|a| small.iter().map(move |b| (a, b))).filter(|(a, b)| !a.is_empty() && !b.is_empty())
+        {
+            let runs = vec![a.clone(), b.clone()];
+            cases.extend((0..4).map(|target| Hops { runs: runs.clone(), calls: vec![Some(target)] }));
+            cases.push(Hops { runs, calls: vec![None; 3] });
+        }
+        cases.extend((0..150).map(|i| hops(rng, 2 + i % 3)));
+        // Where the first call finds none, the calls behind it make no difference.
+        let mut texts: Vec<String> = cases.iter().map(hopped).collect();
+        texts.dedup();
+        texts
+    }
+
+    /// Runs that share about half their keys, and calls: seeks go to keys of a run, beside them, or anywhere.
+    fn hops(rng: &mut Rng, count: usize) -> Hops {
+        let keys = rng.pick(&[Keys::Below(12), Keys::Below(12), Keys::Below(40), Keys::Whole]);
+        let mut all = rng.row(14, keys);
+        all.sort();
+        all.dedup();
+        let run = |rng: &mut Rng| -> Vec<u64> { all.iter().copied().filter(|_| rng.below(4) != 0).collect() };
+        let runs: Vec<Vec<u64>> = (0..count).map(|_| run(rng)).filter(|run| !run.is_empty()).collect();
+        let calls = (0..rng.within(1, 6)).map(|_| match rng.below(8) {
+            0..=2 => None,
+            3 => Some(rng.key(keys)),
+            _ => Some(rng.pick(&all).wrapping_add(rng.below(3) as u64).wrapping_sub(1)),
+        });
+        let calls = calls.collect();
+        Hops { runs, calls }
+    }
+
+    /// A line for each run; then one for each call, up to the first that finds none: 0 the first, 1 next, 2 seek, and its target; whether there is a key,
+    /// the key, the seeks of iterators, and where each iterator then is in its run.
+    fn hopped(case: &Hops) -> String {
+        let mut text = format!("runs {}\n", case.runs.len());
+        case.runs.iter().for_each(|run| writeln!(text, "{}: {}", run.len(), words(run)).unwrap());
+        let calls = agreed(hits::<LinearSeek>(case), hits::<BinarySeek>(case), hits::<GallopingSeek>(case));
+        text + &format!("calls {}\n{}", calls.len(), calls.concat())
+    }
+
+    /// The line of each call.
+    fn hits<S: oracle::SeekStrategy>(case: &Hops) -> Vec<String> {
+        let tries: Vec<_> = case
+            .runs
+            .iter()
+            .map(|run| kermit::trie::<Counted<S>>(1, &run.iter().map(|&key| vec![key]).collect::<Vec<_>>()))
+            .collect();
+        let opened = |trie| {
+            let mut iterator = oracle::ColumnTrieIter::new(trie);
+            assert!(iterator.open());
+            iterator
+        };
+        let mut leapfrog = Leapfrog::new(tries.iter().map(opened).collect());
+        let mut texts = vec![];
+        let places = |leapfrog: &Leapfrog<oracle::ColumnTrieIter<_>>| -> Vec<u64> {
+            let place = |(run, iterator): (&Vec<u64>, &oracle::ColumnTrieIter<_>)| {
+                iterator.key().map_or(run.len(), |key| run.binary_search(&(key as u64)).unwrap()) as u64
+            };
+            case.runs.iter().zip(leapfrog.iterators()).map(place).collect()
+        };
+        let calls = [(0, 0)].into_iter().chain(case.calls.iter().map(|call| call.map_or((1, 0), |target| (2, target))));
+        for (kind, target) in calls {
+            taken();
+            let found = match kind {
+                0 => leapfrog.init(),
+                1 => leapfrog.next_key().is_some(),
+                _ => leapfrog.seek(target as usize),
+            };
+            let (seeks, _) = taken();
+            let key = if found { leapfrog.key().unwrap() } else { 0 };
+            texts.push(format!("{kind} {target}: {} {key}, seeks {seeks}, at {}\n", found as u64, words(&places(&leapfrog))));
+            if !found {
+                break;
+            }
+        }
+        texts
     }
 }

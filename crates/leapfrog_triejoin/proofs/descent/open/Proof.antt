@@ -2,10 +2,11 @@
 use native.Mathlib.Omega.{arith}
 use mathlib.Core.Path.{subst}
 use mathlib.Core.Bool.{Bool}
+use borrow.Author.Needs.{needs}
 use borrow.Author.Tests.{not-true, not-false}
 use Rattle.leapfrog_triejoin.specs.Descent.{countAt, Opens, OpenedAll}
 use Rattle.leapfrog_triejoin.proofs.Depths.{openable}
-use Rattle.leapfrog_triejoin.proofs.Beginnings.{begun-refused, begin-ready, begin-ascends, begun-opened}
+use Rattle.leapfrog_triejoin.proofs.Beginnings.{begin-ready, begin-ascends, opening-refused, opening-opened}
 use Rattle.leapfrog_triejoin.proofs.descent.open.Statement.{statement}
 use Rattle.leapfrog_triejoin.proofs.descent.open.Tie as tie
 
@@ -23,7 +24,7 @@ returns : tie.Need-returns
 returns c =
     let s = c .before .before .before .before .before .before .before in
     let l = c .before .open-all .last .1 .1 .1 in
-    begun-refused (s .pre .1 .0) (subst (λ (r : Bool). OpenedAll r (s .args .pool .now) (s .args .plan .now) (s .args .depth) (s .args .at .now) (l .0) (l .1 .0) (l .1 .1 .0) (l .1 .1 .1 .0)) (not-true (c .before .open-all .result) (c .if1 .taken)) (c .before .open-all .ensures))
+    opening-refused (s .pre .1 .0) (search needs) (subst (λ (r : Bool). OpenedAll r (s .args .pool .now) (s .args .plan .now) (s .args .depth) (s .args .at .now) (l .0) (l .1 .0) (l .1 .1 .0) (l .1 .1 .1 .0)) (not-true (c .before .open-all .result) (c .if1 .taken)) (c .before .open-all .ensures))
 
 mul-k : tie.Need-mul-k
 mul-k c = omega (arith, openable (c .before .before .before .before .before .before .before .pre .0 .stands) (c .before .before .before .before .before .before .before .pre .1 .0))
@@ -40,8 +41,11 @@ element-copy-out-k c = omega (arith, openable (c .before .before .before .before
 leapfrog-init-requires : tie.Need-leapfrog-init-requires
 leapfrog-init-requires c κs = let s = c .before .before .before .before .before .before .before .before .before .before .before in (begin-ready (s .pre .1 .0) (s .pre .0) (all (c .before .before .before .before)), begin-ascends (s .pre .1 .0) (s .pre .0) (all (c .before .before .before .before)))
 
+since-requires : tie.Need-since-requires
+since-requires c κs = search needs
+
 returns-2 : tie.Need-returns-2
-returns-2 c = let s = c .before .before .before .before .before .before .before .before .before .before .before .before in begun-opened (s .pre .1 .0) (s .pre .0) (all (c .before .before .before .before .before)) (c .leapfrog-init .ensures)
+returns-2 c = let s = c .before .before .before .before .before .before .before .before .before .before .before .before .before in opening-opened (s .pre .1 .0) (s .pre .0) (all (c .before .before .before .before .before .before)) _ (c .since .ensures) (c .before .leapfrog-init .ensures)
 
 pub open-spec : {M : Type 1} → statement M
 open-spec =
@@ -54,4 +58,5 @@ open-spec =
     mul-k-2
     element-copy-out-k
     leapfrog-init-requires
+    since-requires
     returns-2)
