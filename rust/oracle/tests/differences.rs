@@ -29,6 +29,18 @@ mod differences {
     }
 
     #[test]
+    fn no_1_a_key_is_as_wide_as_the_machine_s_word() {
+        // On a 64-bit machine no word is cut; a word of 32 bits would keep 0 of this one.
+        const WORD: u64 = 4_294_967_296;
+        let t = trie(1, &[&[WORD as usize]]);
+        let mut iterator = ColumnTrieIter::new(&t);
+        iterator.open();
+        let key: Option<usize> = iterator.key();
+        assert_eq!(key, Some(WORD as usize));
+        assert_eq!((WORD as u32, usize::BITS), (0, 64));
+    }
+
+    #[test]
     fn no_2_binary_probes_once_more() {
         assert_eq!(seek::<BinarySeek>(&[1, 2], 3), (2, 2));
     }
@@ -38,11 +50,18 @@ mod differences {
         assert_eq!(seek::<GallopingSeek>(&[1, 2, 3, 4, 5, 6, 7], 8), (7, 6));
     }
 
+    /// As many keys 0, then 1 and 0: with target 1 the search of Rust 1.95 stops on the 1.
+    fn falling(zeros: usize) -> Vec<usize> {
+        let mut run = vec![0; zeros];
+        run.extend([1, 0]);
+        run
+    }
+
     #[test]
     fn no_4_a_falling_run() {
-        assert_eq!(seek::<LinearSeek>(&[2, 1], 2).0, 0);
-        assert_eq!(seek::<BinarySeek>(&[2, 1], 2).0, 2);
-        assert_eq!(seek::<GallopingSeek>(&[2, 1], 2).0, 0);
+        assert_eq!(seek::<LinearSeek>(&falling(3), 1).0, 3);
+        assert_eq!(seek::<BinarySeek>(&falling(3), 1).0, 3);
+        assert_eq!(seek::<GallopingSeek>(&falling(12), 1).0, 12);
     }
 
     #[test]
@@ -102,6 +121,33 @@ mod differences {
         let rows = join(&[0, 1, 2], &[(0, &[0, 1]), (1, &[1, 2]), (2, &[0, 2])], &tries);
         assert_eq!(rows, [[0usize; 0]; 0]);
         assert_eq!(taken().0, 2);
+    }
+
+    /// The next list of keys below `most`, as a number is counted up; false behind the last.
+    fn count_up(keys: &mut [usize], most: usize) -> bool {
+        for key in keys {
+            *key += 1;
+            if *key < most {
+                return true;
+            }
+            *key = 0;
+        }
+        false
+    }
+
+    #[test]
+    fn no_15_the_ring_s_sort_has_kept_the_order() {
+        for entries in 0..=8 {
+            let mut keys = vec![0; entries];
+            loop {
+                let mut ring: Vec<usize> = (0..entries).collect();
+                ring.sort_unstable_by_key(|&i| keys[i]);
+                assert!(ring.windows(2).all(|w| (keys[w[0]], w[0]) < (keys[w[1]], w[1])), "{keys:?}");
+                if !count_up(&mut keys, 4) {
+                    break;
+                }
+            }
+        }
     }
 
     #[test]

@@ -1,0 +1,30 @@
+//! This side of docs/DIFFERENCES.md, by the numbers there, where a single call shows it.
+use ducatbriar::calls::partition_point;
+use ducatbriar::{Pool, SeekStrategy};
+
+/// The offset and the probes.
+fn seek(strategy: SeekStrategy, run: &[u64], target: u64) -> (u64, u64) {
+    let sought = partition_point(strategy, run, target);
+    (sought.offset, sought.probes)
+}
+
+#[test]
+fn no_1_a_key_is_64_bits_wide() {
+    let mut pool = Pool::new();
+    let table = pool.build(1, 2, &[[1 << 32], [0]]).unwrap();
+    let text = "LAYER 0\nData: [0, 4294967296]\nInterval: [0]\n";
+    assert_eq!(pool.list(&table).unwrap(), text);
+}
+
+#[test]
+fn no_2_and_3_the_halving_rule() {
+    assert_eq!(seek(SeekStrategy::Binary, &[1, 2], 3), (2, 1));
+    assert_eq!(seek(SeekStrategy::Galloping, &[1, 2, 3, 4, 5, 6, 7], 8), (7, 5));
+}
+
+#[test]
+fn no_4_a_falling_run() {
+    assert_eq!(seek(SeekStrategy::Linear, &[0, 0, 0, 1, 0], 1).0, 3);
+    assert_eq!(seek(SeekStrategy::Binary, &[0, 0, 0, 1, 0], 1).0, 5);
+    assert_eq!(seek(SeekStrategy::Galloping, &[0, 0, 0, 0, 0, 0, 0, 0, 0, 0, 0, 0, 1, 0], 1).0, 14);
+}
