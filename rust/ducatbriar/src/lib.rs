@@ -18,6 +18,9 @@
 //! let query = Query::new(&[0, 1, 2]).atom(0, &[0, 1]).atom(1, &[1, 2]).atom(2, &[0, 2]);
 //! let rows = pool.join(SeekStrategy::Galloping, &[&r, &s, &t], &query)?;
 //! assert_eq!(rows.iter().collect::<Vec<_>>(), [[1, 2, 3], [1, 3, 1], [2, 3, 1]]);
+//! for row in &rows {
+//!     println!("{row:?}");
+//! }
 //! # Ok(())
 //! # }
 //! ```
@@ -29,6 +32,9 @@ pub mod calls;
 pub mod limits;
 
 pub use calls::{grade_of, word_of, SeekStrategy, Sought};
-pub use pool::{Cursor, Filled, Pool, Rows, Table};
+pub use pool::{Cursor, Filled, Pool, Rows, RowsIter, Table};
 pub use query::Query;
 pub use refusal::Refusal;
+
+/// That of the header and of CHANGELOG.md.
+pub const VERSION: &str = env!("CARGO_PKG_VERSION");

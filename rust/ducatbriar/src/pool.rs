@@ -1,7 +1,8 @@
 //! A pool that owns its tables' words, with cursors and joins over them.
 use crate::calls::{self, ColumnTrie, ColumnTrieIter, SeekStrategy, Tables};
-use crate::limits::{MAX_ARITY, MAX_CAPACITY, MAX_VARIABLES};
+use crate::limits::{listing, words, MAX_ARITY, MAX_CAPACITY, MAX_VARIABLES};
 use crate::{Query, Refusal};
+use std::ops::Range;
 
 /// The words of tables. It grows with every table that is built.
 #[derive(Clone, Debug, Default)]
@@ -67,9 +68,64 @@ impl Rows {
         self.count == 0
     }
 
+    /// Row i, by variable number.
+    fn row(&self, i: usize) -> &[u64] {
+        &self.words[i * self.width..(i + 1) * self.width]
+    }
+
     /// Each row, by variable number.
-    pub fn iter(&self) -> impl Iterator<Item = &[u64]> {
-        (0..self.count).map(|i| &self.words[i * self.width..(i + 1) * self.width])
+    pub fn iter(&self) -> RowsIter<'_> {
+        RowsIter { rows: self, left: 0..self.count }
+    }
+}
+
+/// The rows of [`Rows`], one after another.
+#[derive(Clone, Debug)]
+pub struct RowsIter<'a> {
+    rows: &'a Rows,
+    left: Range<usize>,
+}
+
+impl<'a> Iterator for RowsIter<'a> {
+    type Item = &'a [u64];
+
+    fn next(&mut self) -> Option<&'a [u64]> {
+        self.left.next().map(|i| self.rows.row(i))
+    }
+
+    fn size_hint(&self) -> (usize, Option<usize>) {
+        self.left.size_hint()
+    }
+}
+
+impl ExactSizeIterator for RowsIter<'_> {}
+
+/// ```
+/// # fn main() -> Result<(), ducatbriar::Refusal> {
+/// let mut pool = ducatbriar::Pool::new();
+/// let table = pool.build(2, 4, &[[1, 3], [1, 2]])?;
+/// for row in &pool.rows(&table)? {
+///     assert_eq!(row[0], 1);
+/// }
+/// # Ok(())
+/// # }
+/// ```
+impl<'a> IntoIterator for &'a Rows {
+    type Item = &'a [u64];
+    type IntoIter = RowsIter<'a>;
+
+    fn into_iter(self) -> RowsIter<'a> {
+        self.iter()
+    }
+}
+
+/// Each row in words of its own.
+impl IntoIterator for Rows {
+    type Item = Vec<u64>;
+    type IntoIter = std::vec::IntoIter<Vec<u64>>;
+
+    fn into_iter(self) -> Self::IntoIter {
+        self.iter().map(<[u64]>::to_vec).collect::<Vec<_>>().into_iter()
     }
 }
 
@@ -97,10 +153,10 @@ impl Pool {
         let start = self.words.len();
         // The library refuses any other arity or capacity before it looks at the pool.
         if (1..=MAX_ARITY).contains(&arity) && (1..=MAX_CAPACITY).contains(&capacity) {
-            self.words.resize(start + 2 * arity * capacity, 0);
+            self.words.resize(start + words(arity, capacity), 0);
         }
-        let mut words = rows.iter().flat_map(|row| row.as_ref()).copied().collect::<Vec<_>>();
-        let built = calls::build(&mut words, &mut self.words, start as u64, arity as u64, capacity as u64);
+        let mut given = rows.iter().flat_map(|row| row.as_ref()).copied().collect::<Vec<_>>();
+        let built = calls::build(&mut given, &mut self.words, start as u64, arity as u64, capacity as u64);
         // Rows of other lengths could make up whole rows between them.
         let whole = rows.iter().all(|row| row.as_ref().len() == arity);
         let number = if whole || (1..=3).contains(&built.number) { built.number } else { 4 };
@@ -139,21 +195,32 @@ impl Pool {
     /// # }
     /// ```
     pub fn list(&self, table: &Table) -> Result<String, Refusal> {
-        let mut text = vec![0; 256];
-        loop {
-            let listed = calls::list(&self.words, table.header, &mut text);
-            if listed.number != 14 {
-                text.truncate(listed.len as usize);
-                let text = String::from_utf8(text).expect("a listing is plain ASCII");
-                return Refusal::check(listed.number).map(|()| text);
-            }
-            text.resize(4 * text.len(), 0);
-        }
+        // As if the table were at capacity: no layer has more keys than there are rows.
+        let mut text = vec![0; listing(table.arity(), table.len().max(1))];
+        let listed = calls::list(&self.words, table.header, &mut text);
+        Refusal::check(listed.number)?;
+        text.truncate(listed.len as usize);
+        Ok(String::from_utf8(text).expect("a listing is plain ASCII"))
+    }
+
+    /// The table's rows, ascending.
+    ///
+    /// ```
+    /// # fn main() -> Result<(), ducatbriar::Refusal> {
+    /// let mut pool = ducatbriar::Pool::new();
+    /// let table = pool.build(2, 4, &[[2, 4], [1, 3], [1, 2]])?;
+    /// assert_eq!(pool.rows(&table)?.iter().collect::<Vec<_>>(), [[1, 2], [1, 3], [2, 4]]);
+    /// # Ok(())
+    /// # }
+    /// ```
+    pub fn rows(&self, table: &Table) -> Result<Rows, Refusal> {
+        let columns: Vec<usize> = (0..table.arity()).collect();
+        self.join(SeekStrategy::default(), &[table], &Query::new(&columns).atom(0, &columns))
     }
 
     /// A cursor at the table's root.
     pub fn cursor<'a>(&'a self, table: &'a Table, strategy: SeekStrategy) -> Cursor<'a> {
-        Cursor { words: &self.words, header: &table.header, strategy, iter: ColumnTrieIter::new() }
+        Cursor { words: &self.words, header: &table.header, strategy, iter: ColumnTrieIter::new(), probes: 0 }
     }
 
     fn tables(tables: &[&Table]) -> Tables {
@@ -171,10 +238,11 @@ impl Pool {
         window: &mut [u64],
     ) -> Result<Filled, Refusal> {
         let joined = calls::join(strategy, &self.words, Self::tables(tables), query.query, window);
-        match joined.number {
-            0 | 12 => Ok(Filled { rows: joined.rows as usize, full: joined.number == 12, seeks: joined.seeks }),
-            number => Err(Refusal::new(number)),
+        let full = joined.number == Refusal::Full.number();
+        if !full {
+            Refusal::check(joined.number)?;
         }
+        Ok(Filled { rows: joined.rows as usize, full, seeks: joined.seeks })
     }
 
     /// All rows of the query, each by variable number, ascending as read in the query's order.
@@ -201,6 +269,7 @@ impl Pool {
 /// let mut cursor = pool.cursor(&table, ducatbriar::SeekStrategy::Galloping);
 /// assert!(cursor.open()?);
 /// assert!(cursor.seek(11)?);
+/// assert_eq!(cursor.probes(), 2);
 /// assert_eq!(cursor.key()?, Some(20));
 /// assert!(cursor.open()?);
 /// assert_eq!(cursor.key()?, Some(3));
@@ -216,12 +285,18 @@ pub struct Cursor<'a> {
     header: &'a ColumnTrie,
     strategy: SeekStrategy,
     iter: ColumnTrieIter,
+    probes: u64,
 }
 
 impl Cursor<'_> {
     /// 0 at the root.
     pub fn depth(&self) -> usize {
         self.iter.depth as usize
+    }
+
+    /// How many keys its seeks have looked at so far.
+    pub fn probes(&self) -> u64 {
+        self.probes
     }
 
     /// The key it stands on, if there is one.
@@ -241,6 +316,7 @@ impl Cursor<'_> {
     pub fn seek(&mut self, target: u64) -> Result<bool, Refusal> {
         let answer = self.iter.seek(self.words, *self.header, self.strategy, target);
         self.iter = answer.iter;
+        self.probes += answer.probes;
         Refusal::check(answer.number).map(|()| answer.found)
     }
 

@@ -1,66 +1,117 @@
-//! A refusal: its number, and what it means.
+//! A refusal: its number, its name, and what it means.
 use crate::limits::{MAX_ARITY, MAX_ATOMS, MAX_CAPACITY, MAX_TABLES, MAX_VARIABLES};
 use std::error::Error;
 use std::fmt;
 
-/// Why a call did nothing: the number that document 01 gives it.
-///
-/// ```
-/// let refusal = ducatbriar::Pool::new().build(9, 1, &[[0u64; 9]]).unwrap_err();
-/// assert_eq!(refusal.number(), 1);
-/// assert_eq!(refusal.to_string(), "refused with 1: the arity is 0 or over 8");
-/// ```
-#[derive(Clone, Copy, Debug, PartialEq, Eq, Hash)]
-pub struct Refusal(u64);
+/// Declares the refusals, with the way back from their numbers.
+macro_rules! refusals {
+    ($($(#[$doc:meta])* $name:ident = $number:literal),+ $(,)?) => {
+        /// Why a call did nothing: named as in include/ducatbriar.h, with the number that document 01 gives it.
+        ///
+        /// ```
+        /// use ducatbriar::{Pool, Refusal};
+        /// let refusal = Pool::new().build(9, 1, &[[0u64; 9]]).unwrap_err();
+        /// assert_eq!(refusal, Refusal::BadArity);
+        /// assert_eq!(refusal.number(), 1);
+        /// assert_eq!(refusal.to_string(), "refused with 1: the arity is 0 or over 8");
+        /// ```
+        #[derive(Clone, Copy, Debug, PartialEq, Eq, Hash)]
+        #[repr(u64)]
+        pub enum Refusal { $($(#[$doc])* $name = $number),+ }
+
+        impl Refusal {
+            pub const ALL: &[Refusal] = &[$(Refusal::$name),+];
+
+            /// That of a number in an answer of [`calls`](crate::calls); none for 0, and for a number that no call gives.
+            pub fn of(number: u64) -> Option<Refusal> {
+                match number {
+                    $($number => Some(Refusal::$name),)+
+                    _ => None,
+                }
+            }
+        }
+    };
+}
+
+refusals!(
+    /// By a build.
+    BadArity = 1,
+    /// By a build.
+    BadCapacity = 2,
+    /// By a build; never by that of a [`Pool`](crate::Pool), which makes room.
+    OutsidePool = 3,
+    /// By a build or an insert.
+    BadLength = 4,
+    /// By a build or an insert.
+    NoRoom = 5,
+    /// By an insert, a listing, a cursor or a join.
+    Damaged = 6,
+    /// By a cursor.
+    BadCursor = 7,
+    /// By a join.
+    BadOrder = 8,
+    /// By a join.
+    BadAtoms = 9,
+    /// By a join.
+    BadList = 10,
+    /// By a join.
+    FreeVariable = 11,
+    /// By a join, whose window holds the rows that fit. [`Pool::join_into`](crate::Pool::join_into) says it as [`Filled::full`](crate::Filled::full).
+    Full = 12,
+    /// By a listing; never by that of a [`Pool`](crate::Pool), which makes room.
+    LongText = 14,
+);
 
 impl Refusal {
     /// `Ok` for number 0, which no refusal has.
     pub(crate) fn check(number: u64) -> Result<(), Refusal> {
         if number == 0 {
-            Ok(())
-        } else {
-            Err(Refusal(number))
+            return Ok(());
         }
-    }
-
-    pub(crate) fn new(number: u64) -> Refusal {
-        Refusal(number)
+        Err(Refusal::of(number).unwrap_or_else(|| unreachable!("no call gives {number}")))
     }
 
     pub fn number(self) -> u64 {
-        self.0
+        self as u64
     }
 
+    /// The text that ducatbriar_meaning of include/ducatbriar.h gives.
     pub fn meaning(self) -> String {
-        match self.0 {
-            1 => format!("the arity is 0 or over {MAX_ARITY}"),
-            2 => format!("the capacity is 0 or over {MAX_CAPACITY}"),
-            8 => format!("the order is not a permutation of the variables, or there are over {MAX_VARIABLES} of them"),
-            9 => format!("there are over {MAX_ATOMS} atoms or {MAX_TABLES} tables, or an atom names no table"),
-            number => Self::plain(number).into(),
+        match self {
+            Refusal::BadArity => format!("the arity is 0 or over {MAX_ARITY}"),
+            Refusal::BadCapacity => format!("the capacity is 0 or over {MAX_CAPACITY}"),
+            Refusal::BadOrder => {
+                format!("the order is not a permutation of the variables, or there are over {MAX_VARIABLES} of them")
+            }
+            Refusal::BadAtoms => format!("there are over {MAX_ATOMS} atoms or {MAX_TABLES} tables, or an atom names no table"),
+            refusal => refusal.plain().into(),
         }
     }
 
-    /// Of the numbers that speak of no limit.
-    fn plain(number: u64) -> &'static str {
-        match number {
-            3 => "the table's words do not lie in the pool",
-            4 => "the words are not whole rows, or the tuple is not as long as the arity",
-            5 => "there are more rows than the capacity",
-            6 => "the table is damaged, or the pool is not its own",
-            7 => "the cursor does not stand in the table",
-            10 => "an atom's list is not as long as its table's arity, or does not strictly follow the order",
-            11 => "some variable is in no atom",
-            12 => "more rows exist than fit the window",
-            14 => "the text is longer than its destination",
-            _ => "a number that no call gives",
+    /// Of the refusals that speak of no limit; empty for the others.
+    fn plain(self) -> &'static str {
+        match self {
+            Refusal::OutsidePool => "the table's words do not lie in the pool",
+            Refusal::BadLength => "the words are not whole rows, or the tuple is not as long as the arity",
+            Refusal::NoRoom => {
+                "there are more rows than the capacity, duplicates counted, or the tuple is new and the table full"
+            }
+            Refusal::Damaged => "the table is damaged, or the pool is not its own",
+            Refusal::BadCursor => "the cursor does not stand in the table",
+            Refusal::BadList => {
+                "an atom's list is not as long as its table's arity, holds a number that is no variable, or does not strictly follow the order"
+            }
+            Refusal::FreeVariable => "some variable is in no atom",
+            Refusal::Full => "more rows exist than fit the window",
+            Refusal::LongText => "the text is longer than its destination",
+            Refusal::BadArity | Refusal::BadCapacity | Refusal::BadOrder | Refusal::BadAtoms => "",
         }
     }
 }
 
 impl fmt::Display for Refusal {
     fn fmt(&self, f: &mut fmt::Formatter) -> fmt::Result {
-        write!(f, "refused with {}: {}", self.0, self.meaning())
+        write!(f, "refused with {}: {}", self.number(), self.meaning())
     }
 }
 

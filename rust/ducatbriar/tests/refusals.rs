@@ -2,6 +2,29 @@
 use ducatbriar::limits::MAX_CAPACITY;
 use ducatbriar::{calls, Pool, Query, Refusal, SeekStrategy, Table};
 
+const HEADER: &str = include_str!("../../../include/ducatbriar.h");
+
+/// The name in capitals, as the header has it.
+fn in_capitals(refusal: Refusal) -> String {
+    let name = format!("{refusal:?}");
+    let spaced = name.chars().flat_map(|c| ['_', c].into_iter().skip(usize::from(c.is_lowercase())));
+    format!("DUCATBRIAR{}", spaced.collect::<String>().to_uppercase())
+}
+
+#[test]
+fn names_numbers_and_texts_are_the_header_s() {
+    for &refusal in Refusal::ALL {
+        let name = in_capitals(refusal);
+        assert!(HEADER.contains(&format!("    {name} = {}", refusal.number())), "{name}");
+        let text = format!("    case {name}:\n        return \"{}\";", refusal.meaning());
+        assert!(HEADER.contains(&text), "{text}");
+        assert_eq!(Refusal::of(refusal.number()), Some(refusal));
+    }
+    // One more is for what is done.
+    assert_eq!(HEADER.matches("    case DUCATBRIAR_").count(), Refusal::ALL.len() + 1);
+    assert_eq!([0, 13, 15].map(Refusal::of), [None; 3]);
+}
+
 const NO_ROWS: &[[u64; 2]] = &[];
 
 fn number<T: std::fmt::Debug>(answer: Result<T, Refusal>) -> u64 {
@@ -62,6 +85,19 @@ fn joins() {
     assert_eq!(number(join(&nine)), 9);
     assert_eq!(number(join(&Query::new(&[0, 1]).atom(0, &[1, 0]))), 10);
     assert_eq!(number(join(&Query::new(&[0, 1, 2]).atom(0, &[0, 1]))), 11);
+}
+
+#[test]
+fn rows() {
+    let (mut pool, mut table) = pairs();
+    assert_eq!(pool.rows(&table).unwrap().into_iter().collect::<Vec<_>>(), [[1, 2], [2, 3]]);
+    let empty = pool.build(8, 1, &[[0u64; 8]; 0]).unwrap();
+    assert!(pool.rows(&empty).unwrap().is_empty());
+    assert_eq!(Pool::new().rows(&table), Err(Refusal::Damaged));
+    assert_eq!(pool.insert(&mut table, &[3, 4]), Err(Refusal::NoRoom));
+    // The empty row of a query without variables is a row.
+    let rows = pool.join(SeekStrategy::Linear, &[], &Query::new(&[])).unwrap();
+    assert_eq!((&rows).into_iter().len(), 1);
 }
 
 #[test]
