@@ -4,41 +4,36 @@
  * the layers of the friction table. */
 #include <inttypes.h>
 #include <stdio.h>
+#include <stdlib.h>
 
 #include "ducatbriar.h"
 
-enum { DRY = 1, WET = 2, CAPACITY = 16 };
+enum { DRY = 1, WET = 2, CAPACITY = 16, ROAD = DUCATBRIAR_WORDS(2, CAPACITY), FRICTION = DUCATBRIAR_WORDS(3, CAPACITY) };
 
 #define COUNT(list) (sizeof(list) / sizeof((list)[0]))
 
-/* Says what was refused; the program then ends with status 1. */
-static int refused(const char *call, uint64_t number)
+/* Where a call was refused, says why and ends the program. */
+static void done(uint64_t number)
 {
-    printf("%s was refused with %" PRIu64 "\n", call, number);
-    return 1;
+    if (number != DUCATBRIAR_DONE) {
+        puts(ducatbriar_meaning(number));
+        exit(1);
+    }
 }
 
 int main(void)
 {
-    /* Two words for each key: a key and an interval. */
-    static uint64_t pool[2 * CAPACITY * (2 + 3)];
+    static uint64_t pool[ROAD + FRICTION];
     uint64_t road[] = {12, WET, 10, DRY, 11, WET};
     uint64_t friction[] = {WET, 1, 310, DRY, 1, 780, WET, 0, 420};
+    const uint64_t row[] = {DRY, 0, 820};
 
     ducatbriar_built r = ducatbriar_build(road, COUNT(road), pool, COUNT(pool), 0, 2, CAPACITY);
-    if (r.number != 0) {
-        return refused("the road", r.number);
-    }
-    ducatbriar_built f = ducatbriar_build(friction, COUNT(friction), pool, COUNT(pool), 2 * CAPACITY * 2, 3, CAPACITY);
-    if (f.number != 0) {
-        return refused("the friction", f.number);
-    }
-
-    const uint64_t row[] = {DRY, 0, 820};
+    done(r.number);
+    ducatbriar_built f = ducatbriar_build(friction, COUNT(friction), pool, COUNT(pool), ROAD, 3, CAPACITY);
+    done(f.number);
     ducatbriar_inserted inserted = ducatbriar_insert(pool, COUNT(pool), f.table, row, COUNT(row));
-    if (inserted.number != 0) {
-        return refused("the row", inserted.number);
-    }
+    done(inserted.number);
     printf("inserted, %s\n", inserted.is_new ? "new" : "not new");
 
     /* Variables: 0 stretch, 1 surface, 2 band, 3 friction. */
@@ -49,21 +44,16 @@ int main(void)
         .atom_count = 2,
         .atoms = {{.table = 0, .len = 2, .variables = {0, 1}}, {.table = 1, .len = 3, .variables = {1, 2, 3}}},
     };
-    uint64_t window[4 * 16];
+    uint64_t window[4 * CAPACITY];
     ducatbriar_joined joined = ducatbriar_join(DUCATBRIAR_GALLOPING, pool, COUNT(pool), tables, query, window, COUNT(window));
-    if (joined.number != 0) {
-        return refused("the join", joined.number);
-    }
-    for (uint64_t i = 0; i < joined.rows; i++) {
-        const uint64_t *at = &window[4 * i];
+    done(joined.number);
+    for (const uint64_t *at = window; at < window + 4 * joined.rows; at += 4) {
         printf("stretch %" PRIu64 ", surface %" PRIu64 ", band %" PRIu64 ": %" PRIu64 " thousandths\n", at[0], at[1], at[2], at[3]);
     }
 
-    uint8_t text[512];
+    uint8_t text[DUCATBRIAR_LISTING(3, CAPACITY)];
     ducatbriar_listed listed = ducatbriar_list(pool, COUNT(pool), inserted.table, text, COUNT(text));
-    if (listed.number != 0) {
-        return refused("the listing", listed.number);
-    }
+    done(listed.number);
     fwrite(text, 1, listed.len, stdout);
     return 0;
 }

@@ -1,0 +1,154 @@
+/* Uses every call once or more, over keys that need more than 32 bits: a lesson's stretches of road and their grades, walked by a cursor, joined with the
+ * friction of their surfaces into a window that is too small, and then into one that isn't.
+ *
+ * Road: (surface, stretch). Grades: (grade, stretch), a grade as its word. Friction: (surface, thousandths). Each check that fails ends the program. */
+#include <inttypes.h>
+#include <stdio.h>
+#include <stdlib.h>
+
+#include "ducatbriar.h"
+
+#define COUNT(list) (sizeof(list) / sizeof((list)[0]))
+#define KIND(kind, code) (((uint64_t)(kind) << 32) + (code))
+
+/* Cut to 32 bits both would be 5. */
+#define WET_COBBLES KIND(7, 5)
+#define ICY_COBBLES KIND(9, 5)
+
+enum { CAPACITY = 4, WORDS = DUCATBRIAR_WORDS(2, CAPACITY), STRETCHES = 3 };
+
+/* Where each table starts. */
+enum { ROAD = 0, GRADES = WORDS, FRICTION = 2 * WORDS };
+
+static uint64_t pool[3 * WORDS];
+
+/* Goes on only where the call did what was asked. */
+static void done(const char *what, uint64_t number)
+{
+    if (number != DUCATBRIAR_DONE) {
+        printf("%s: refused with %" PRIu64 ", %s\n", what, number, ducatbriar_meaning(number));
+        exit(1);
+    }
+}
+
+static ducatbriar_table built(const char *what, uint64_t *rows, uint64_t len, uint64_t start)
+{
+    ducatbriar_built answer = ducatbriar_build(rows, len, pool, COUNT(pool), start, 2, CAPACITY);
+    done(what, answer.number);
+    return answer.table;
+}
+
+static ducatbriar_table road(void)
+{
+    uint64_t rows[] = {ICY_COBBLES, 12, WET_COBBLES, 11, WET_COBBLES, 10};
+    return built("the road", rows, COUNT(rows), ROAD);
+}
+
+/* In thousandths: stretch 10 falls, 11 is level, 12 rises. Words ascend as grades do. */
+static ducatbriar_table grades(void)
+{
+    const int64_t of[STRETCHES] = {-60, 0, 45};
+    uint64_t rows[2 * STRETCHES];
+    for (uint64_t i = 0; i < STRETCHES; i++) {
+        rows[2 * i] = ducatbriar_word_of(of[i]);
+        rows[2 * i + 1] = 10 + i;
+    }
+    return built("the grades", rows, COUNT(rows), GRADES);
+}
+
+/* From no rows, row by row. */
+static ducatbriar_table friction(void)
+{
+    const uint64_t rows[][2] = {{WET_COBBLES, 470}, {ICY_COBBLES, 160}, {WET_COBBLES, 470}};
+    ducatbriar_table table = ducatbriar_empty(FRICTION, 2, CAPACITY);
+    for (uint64_t i = 0; i < COUNT(rows); i++) {
+        ducatbriar_inserted answer = ducatbriar_insert(pool, COUNT(pool), table, rows[i], 2);
+        done("a friction", answer.number);
+        printf("friction %" PRIu64 ": %s\n", rows[i][1], answer.is_new ? "new" : "there already");
+        table = answer.table;
+    }
+    return table;
+}
+
+/* A text that is never too short for a table of this size. */
+static void list(ducatbriar_table table)
+{
+    uint8_t text[DUCATBRIAR_LISTING(2, CAPACITY)];
+    ducatbriar_listed listed = ducatbriar_list(pool, COUNT(pool), table, text, 8);
+    printf("in 8 bytes: %s\n", ducatbriar_meaning(listed.number));
+    listed = ducatbriar_list(pool, COUNT(pool), table, text, COUNT(text));
+    done("the listing", listed.number);
+    fwrite(text, 1, listed.len, stdout);
+}
+
+/* The stretches below a surface's key, from the one it stands on. */
+static void print_stretches(ducatbriar_table table, ducatbriar_cursor at)
+{
+    ducatbriar_key_answer key = ducatbriar_key(pool, COUNT(pool), table, at);
+    while (key.found) {
+        printf("  stretch %" PRIu64 "\n", key.key);
+        ducatbriar_next_answer next = ducatbriar_next(pool, COUNT(pool), table, at);
+        done("next", next.number);
+        at = next.cursor;
+        key = ducatbriar_key(pool, COUNT(pool), table, at);
+    }
+    printf("  at the end: %s\n", ducatbriar_at_end(pool, COUNT(pool), table, at).at_end ? "yes" : "no");
+}
+
+/* Opens the road, seeks the icy cobbles, opens them, and goes up again. */
+static void walk(ducatbriar_table table)
+{
+    ducatbriar_cursor root = {0, 0, 0};
+    ducatbriar_open_answer top = ducatbriar_open(pool, COUNT(pool), table, root);
+    done("open", top.number);
+    ducatbriar_seek_answer icy = ducatbriar_seek(pool, COUNT(pool), table, top.cursor, DUCATBRIAR_BINARY, ICY_COBBLES);
+    done("seek", icy.number);
+    printf("icy cobbles: %s, probes %" PRIu64 "\n", icy.found ? "found" : "not found", icy.probes);
+    ducatbriar_open_answer below = ducatbriar_open(pool, COUNT(pool), table, icy.cursor);
+    done("open", below.number);
+    print_stretches(table, below.cursor);
+    ducatbriar_up_answer up = ducatbriar_up(pool, COUNT(pool), table, below.cursor);
+    done("up", up.number);
+    printf("back on %" PRIu64 "\n", ducatbriar_key(pool, COUNT(pool), table, up.cursor).key);
+    ducatbriar_cursor nowhere = {1, 7, 0};
+    printf("a cursor that is none: %s\n", ducatbriar_meaning(ducatbriar_key(pool, COUNT(pool), table, nowhere).number));
+}
+
+/* Variables: 0 grade, 1 stretch, 2 surface, 3 friction, bound as 2 0 1 3: by surface, then by grade. */
+static void join(ducatbriar_tables tables)
+{
+    const ducatbriar_query query = {
+        .n = 4,
+        .order = {2, 0, 1, 3},
+        .atom_count = 3,
+        .atoms = {{.table = 0, .len = 2, .variables = {2, 1}},
+                  {.table = 1, .len = 2, .variables = {0, 1}},
+                  {.table = 2, .len = 2, .variables = {2, 3}}},
+    };
+    uint64_t window[4 * STRETCHES];
+    ducatbriar_joined answer = ducatbriar_join(DUCATBRIAR_GALLOPING, pool, COUNT(pool), tables, query, window, 4);
+    printf("in 4 words: %" PRIu64 " row, %s\n", answer.rows, ducatbriar_meaning(answer.number));
+    answer = ducatbriar_join(DUCATBRIAR_GALLOPING, pool, COUNT(pool), tables, query, window, COUNT(window));
+    done("the join", answer.number);
+    for (uint64_t i = 0; i < answer.rows; i++) {
+        const uint64_t *row = &window[4 * i];
+        printf("surface %" PRIu64 ", grade %" PRId64 ", stretch %" PRIu64 ": 0.%03" PRIu64 "\n", row[2], ducatbriar_grade_of(row[0]), row[1], row[3]);
+    }
+    printf("seeks: %" PRIu64 "\n", answer.seeks);
+}
+
+int main(void)
+{
+    const uint64_t run[] = {2, 4, 6, 8, 10, 12, 14, 16};
+    ducatbriar_sought sought = ducatbriar_partition_point(DUCATBRIAR_GALLOPING, run, COUNT(run), 7);
+    printf("version " DUCATBRIAR_VERSION "\n7 in 2 4 .. 16: offset %" PRIu64 ", probes %" PRIu64 "\n", sought.offset, sought.probes);
+
+    ducatbriar_tables tables = {.count = 3, .tables = {road(), grades(), friction()}};
+    list(tables.tables[0]);
+    walk(tables.tables[0]);
+    join(tables);
+
+    pool[ROAD] = WET_COBBLES + ICY_COBBLES;
+    printf("with a word of the road changed: %s\n", ducatbriar_undamaged(pool, COUNT(pool), tables.tables[0]) ? "undamaged" : "damaged");
+    return 0;
+}
