@@ -78,7 +78,7 @@ unless n refused answer = pick (eqb n 0) answer (refused n)
 
 -- ---- the calls
 
--- a list's first key, if it has one
+-- whether a list has a key, and its first, 0 where it has none
 abbrev pub some : List ℕ → Bool
 some [] = false
 some (k ∷ ks) = true

@@ -1,4 +1,4 @@
--- Document 01's listing, and the numbers at both ends of a word, by computation.
+-- The digits at both ends of a word, and the text of a layer without keys, by computation.
 use mathlib.Core.Path.{_≡_, refl}
 use mathlib.Core.List.{[], _∷_}
 use Rattle.column_trie_listing.specs.Text.{decimalIn, decimal, others, numbers, lists, layerText, textFrom, text}

@@ -22,7 +22,8 @@ use seek::partition_point;
 // How many atoms there may be.
 pub const MAX_ATOMS: usize = 8;
 
-// How a search ends: with the key on which all stand, or with none, the atom at p having no key left. p is where the ring goes on.
+// How a search ends: with the key on which all stand, p being the place from which `leapfrog_next` or `leapfrog_seek` goes on, or with none, p being the place of
+// the atom that has no key left, from where nothing goes on.
 pub enum Hit {
     Key { key: u64, p: usize },
     Nothing { p: usize },

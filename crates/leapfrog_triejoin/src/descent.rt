@@ -135,7 +135,8 @@ fn open_all(
     true
 }
 
-// Opens a depth and finds its first key: the atoms that take part are opened in atom order, and the leapfrog over their groups is begun.
+// Opens a depth and finds its first key: the atoms that take part are opened in atom order, and the leapfrog over their groups is begun. Where a table without
+// rows refuses, nothing is searched, and the place that comes with no key says nothing.
 fn open(
     strategy: SeekStrategy,
     pool: &[u64],

@@ -20,7 +20,7 @@ unfoldable pub prefixes : ℕ → List Row → List Row
 unfolding asSet
 prefixes d rows = asSet (map (take d) rows)
 
--- the longer rows that go on from p
+-- the rows that begin with p, one that is p itself among them
 unfoldable pub under : Row → List Row → List Row
 unfolding same
 under p [] = []

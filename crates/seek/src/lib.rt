@@ -103,7 +103,7 @@ fn galloping(run: &[u64], target: u64) -> Sought
     halve(run, target, bound / 2 + 1, len, probes)
 }
 
-// The offset in `remaining` at which `strategy` ends for `target`, and its probes. The strategy is chosen here, once for a call.
+// The offset in `remaining` at which `strategy` ends for `target`, and its probes. The strategy is chosen here, once for a seek.
 pub fn partition_point(strategy: SeekStrategy, remaining: &[u64], target: u64) -> Sought
     ensures { λ r. ⌜ r ≡ seekOf strategy (now (remaining .entry)) target ⌝ }
 {
