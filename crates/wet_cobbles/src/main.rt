@@ -29,6 +29,16 @@ const SUMMER: u64 = 17179869205;
 // A row of the answer: surface, tyre, band, friction.
 const ROW: usize = 4;
 
+// Says that a call was refused, and by which number; nothing where it was not. A refused build's table is all zeros, so the join is then refused too.
+fn told(what: &[u8], refusal: u64) {
+    if refusal != 0 {
+        text(what);
+        text(b": refused with ");
+        number(refusal);
+        text(b"\n");
+    }
+}
+
 // ---- the tables, in one pool; over cut keys where `cut` says so
 
 fn key(packed: u64, cut: bool) -> u64 {
@@ -39,6 +49,7 @@ fn key(packed: u64, cut: bool) -> u64 {
 fn surfaces(cut: bool, pool: &mut [u64]) -> ColumnTrie {
     let mut rows = [key(WET_COBBLES, cut)];
     let built = build(&mut rows, pool, 0, 1, 8);
+    told(b"the surfaces", built.number);
     built.table
 }
 
@@ -46,6 +57,7 @@ fn surfaces(cut: bool, pool: &mut [u64]) -> ColumnTrie {
 fn tyres(cut: bool, pool: &mut [u64]) -> ColumnTrie {
     let mut rows = [key(ALL_SEASON, cut)];
     let built = build(&mut rows, pool, 16, 1, 8);
+    told(b"the tyres", built.number);
     built.table
 }
 
@@ -55,6 +67,7 @@ fn bands(cut: bool, pool: &mut [u64]) -> ColumnTrie {
     let icy = key(ICY_COBBLES, cut);
     let mut rows = [wet, 20, wet, 40, wet, 60, icy, 20, icy, 40, icy, 60];
     let built = build(&mut rows, pool, 32, 2, 8);
+    told(b"the bands", built.number);
     built.table
 }
 
@@ -103,6 +116,7 @@ fn frictions(cut: bool, pool: &mut [u64]) -> ColumnTrie {
         130,
     ];
     let built = build(&mut rows, pool, 64, 4, 10);
+    told(b"the frictions", built.number);
     built.table
 }
 
@@ -151,6 +165,7 @@ fn joined(cut: bool, window: &mut [u64]) -> usize {
     let mut pool = [0u64; 144];
     let given = tables(cut, &mut pool);
     let came = join(SeekStrategy::Galloping, &pool, given, lesson(), window);
+    told(b"the join", came.number);
     came.rows
 }
 
@@ -189,6 +204,20 @@ fn tyre_name(tyre: u64) {
     }
 }
 
+// Thousandths, as a number with three digits behind the point.
+fn thousandths(n: u64) {
+    number(n / 1000);
+    text(b".");
+    let rest = n % 1000;
+    if rest < 100 {
+        text(b"0");
+    }
+    if rest < 10 {
+        text(b"0");
+    }
+    number(rest);
+}
+
 // A row, and the friction that cut keys would have chosen.
 fn line(surface: u64, tyre: u64, band: u64, right: u64, chosen: u64) {
     surface_name(surface);
@@ -196,10 +225,10 @@ fn line(surface: u64, tyre: u64, band: u64, right: u64, chosen: u64) {
     tyre_name(tyre);
     text(b" |         ");
     number(band);
-    text(b" |    0.");
-    number(right);
-    text(b" | 0.");
-    number(chosen);
+    text(b" |    ");
+    thousandths(right);
+    text(b" | ");
+    thousandths(chosen);
     if chosen == right {
         text(b"\n");
     } else {
