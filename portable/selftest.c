@@ -1,0 +1,510 @@
+/* Holds a build of the library to what the proved one answers, on any machine with a C library.
+ *
+ *     selftest [ROUNDS [FOLDER]]
+ *
+ * It replays the recorded answers in FOLDER (crates/replay/data), if there is one, printing the lines of crates/replay/stdout. Then it makes calls on
+ * drawn words, sound and damaged ones, and prints how often each number of refusal came and one checksum over every number and word that came back: it is
+ * the same for each build and machine. Compiled with -DSELFTEST_SMALL it leaves out the tables of 65,536 rows, which need 3 MB, and has another checksum.
+ *
+ * Each draw stands in a statement of its own or behind a sequence point, so that no compiler may exchange two. */
+#include "ducatbriar.h"
+#include <inttypes.h>
+#include <stdio.h>
+#include <stdlib.h>
+#include <string.h>
+
+#define COUNT(a) (sizeof(a) / sizeof *(a))
+
+/* ---- recorded answers */
+
+static char text[262144];
+static const char *at;
+static uint64_t compared, wrong;
+
+static uint64_t number(void)
+{
+    uint64_t n = 0;
+    while (*at && (*at < '0' || *at > '9'))
+        at++;
+    if (!*at) {
+        wrong++;
+        return 0;
+    }
+    while (*at >= '0' && *at <= '9')
+        n = n * 10 + (uint64_t)(*at++ - '0');
+    return n;
+}
+
+static uint64_t numbers(uint64_t *words, size_t room, uint64_t n)
+{
+    if (n > room)
+        exit(2);
+    for (uint64_t i = 0; i < n; i++)
+        words[i] = number();
+    return n;
+}
+
+static void same(bool yes)
+{
+    compared++;
+    wrong += !yes;
+}
+
+static void seeks(void)
+{
+    uint64_t run[1024], n = numbers(run, COUNT(run), number());
+    for (uint64_t left = number(); left > 0; left--) {
+        uint64_t target = number(), offset = number(), probes = number();
+        for (uint64_t strategy = 0; strategy < 3; strategy++) {
+            ducatbriar_sought s = ducatbriar_partition_point(strategy, run, n, target);
+            same(s.offset == offset);
+            if (strategy == 0)
+                same(s.probes == probes);
+        }
+    }
+}
+
+static ducatbriar_table table_of(uint64_t *pool, uint64_t len, uint64_t start)
+{
+    uint64_t rows[512], arity = number(), capacity = number(), n = numbers(rows, COUNT(rows), number());
+    ducatbriar_built b = ducatbriar_build(rows, n, pool, len, start, arity, capacity);
+    wrong += b.number != 0;
+    return b.table;
+}
+
+static void told(const uint64_t *pool, uint64_t len, ducatbriar_table t)
+{
+    static uint8_t bytes[4096];
+    uint64_t count = number(), length = number();
+    ducatbriar_listed l = ducatbriar_list(pool, len, t, bytes, sizeof bytes);
+    at++;
+    same(t.tuple_count == count);
+    same(l.number == 0 && l.len == length && memcmp(at, bytes, (size_t)length) == 0);
+    at += length;
+}
+
+static void tables(void)
+{
+    uint64_t pool[1024] = {0};
+    ducatbriar_table t = table_of(pool, COUNT(pool), 0);
+    told(pool, COUNT(pool), t);
+    for (uint64_t left = number(); left > 0; left--) {
+        uint64_t tuple[8], n = numbers(tuple, 8, t.arity), is_new = number();
+        ducatbriar_inserted i = ducatbriar_insert(pool, COUNT(pool), t, tuple, n);
+        t = i.table;
+        same(i.number == 0 && i.is_new == is_new);
+        told(pool, COUNT(pool), t);
+    }
+}
+
+static void cursors(void)
+{
+    uint64_t pool[512] = {0};
+    ducatbriar_table t = table_of(pool, COUNT(pool), 0);
+    const char *start = at;
+    for (uint64_t strategy = 0; strategy < 3; strategy++) {
+        ducatbriar_cursor c = {0, 0, 0};
+        at = start;
+        for (uint64_t left = number(); left > 0; left--) {
+            uint64_t kind = number(), yes = number(), found = number(), key = number(), end = number();
+            if (kind == 0) {
+                ducatbriar_next_answer a = ducatbriar_next(pool, COUNT(pool), t, c);
+                same(a.number == 0 && a.found == yes && a.key == key);
+                c = a.cursor;
+            } else if (kind == 1) {
+                ducatbriar_open_answer a = ducatbriar_open(pool, COUNT(pool), t, c);
+                same(a.number == 0 && a.opened == yes);
+                c = a.cursor;
+            } else if (kind == 2) {
+                ducatbriar_up_answer a = ducatbriar_up(pool, COUNT(pool), t, c);
+                same(a.number == 0 && a.risen == yes);
+                c = a.cursor;
+            } else {
+                uint64_t target = number(), probes = number();
+                ducatbriar_seek_answer a = ducatbriar_seek(pool, COUNT(pool), t, c, strategy, target);
+                same(a.number == 0 && a.found == yes && (strategy != 0 || a.probes == probes));
+                c = a.cursor;
+            }
+            ducatbriar_key_answer k = ducatbriar_key(pool, COUNT(pool), t, c);
+            ducatbriar_end_answer e = ducatbriar_at_end(pool, COUNT(pool), t, c);
+            same(k.number == 0 && k.found == found && k.key == key);
+            same(e.number == 0 && e.at_end == end);
+        }
+    }
+}
+
+static void joins(void)
+{
+    static uint64_t pool[4096], rows[1024], window[1024];
+    const uint64_t mark = UINT64_C(1234567890123456789);
+    ducatbriar_tables ts = {0};
+    ducatbriar_query q = {0};
+    memset(pool, 0, sizeof pool);
+    ts.count = number();
+    for (uint64_t i = 0; i < ts.count && i < 8; i++)
+        ts.tables[i] = table_of(pool, COUNT(pool), i * 512);
+    q.n = numbers(q.order, 8, number());
+    q.atom_count = number();
+    for (uint64_t i = 0; i < q.atom_count && i < 8; i++) {
+        q.atoms[i].table = number();
+        q.atoms[i].len = numbers(q.atoms[i].variables, 8, number());
+    }
+    uint64_t count = number(), words = numbers(rows, COUNT(rows), number());
+    uint64_t least = count == 0 ? words : words - q.n, most = words < COUNT(window) ? words + 1 : words;
+    for (uint64_t strategy = 0; strategy < 3; strategy++)
+        for (uint64_t size = most + 1; size-- > least;) {
+            bool fits = words <= size, holds = true;
+            for (size_t i = 0; i < COUNT(window); i++)
+                window[i] = mark;
+            ducatbriar_joined j = ducatbriar_join(strategy, pool, COUNT(pool), ts, q, window, size);
+            same(j.number == (fits ? 0 : 12) && j.rows == (fits ? count : count - 1));
+            for (size_t i = 0; i < COUNT(window); i++)
+                holds = holds && window[i] == (i < (fits ? words : least) ? rows[i] : mark);
+            same(holds);
+        }
+}
+
+static void replay(const char *folder, const char *name, void (*one)(void))
+{
+    char path[512];
+    snprintf(path, sizeof path, "%s/%s", folder, name);
+    FILE *f = fopen(path, "rb");
+    if (!f) {
+        perror(path);
+        exit(2);
+    }
+    text[fread(text, 1, sizeof text - 1, f)] = 0;
+    fclose(f);
+    at = text;
+    compared = wrong = 0;
+    uint64_t cases = number();
+    for (uint64_t left = cases; left > 0; left--)
+        one();
+    while (*at)
+        wrong += *at >= '0' && *at <= '9', at++;
+    printf("%s: %" PRIu64 " cases, %" PRIu64 " compared, %" PRIu64 " wrong\n", name, cases, compared, wrong);
+}
+
+/* ---- drawn calls */
+
+static uint64_t state = UINT64_C(88172645463325252), sum = UINT64_C(14695981039346656037), calls, refusals[16];
+
+static uint64_t draw(uint64_t below)
+{
+    state ^= state << 13;
+    state ^= state >> 7;
+    state ^= state << 17;
+    return (state >> 11) % below;
+}
+
+static uint64_t key(void)
+{
+    uint64_t kind = draw(8), low = draw(6);
+    return kind == 0 ? UINT64_MAX - low : kind == 1 ? UINT64_C(0x7fffffffffffffff) + low : kind == 2 ? (low << 32) + low % 2 : low;
+}
+
+static void add(uint64_t word)
+{
+    sum = (sum ^ word) * UINT64_C(1099511628211);
+    sum ^= sum >> 29;
+}
+
+/* An answer's number: each answer has one. */
+static void add_number(uint64_t number)
+{
+    calls++;
+    add(number);
+    refusals[number < COUNT(refusals) ? number : 0]++;
+}
+
+static void add_words(const uint64_t *words, uint64_t n)
+{
+    for (uint64_t i = 0; i < n; i++)
+        add(words[i]);
+}
+
+static void add_table(ducatbriar_table t)
+{
+    add(t.start), add(t.arity), add(t.capacity);
+    add_words(t.data_len, 8);
+    add_words(t.interval_len, 8);
+    add(t.tuple_count);
+}
+
+static void add_cursor(ducatbriar_cursor c)
+{
+    add(c.depth), add(c.interval_i), add(c.slice_offset);
+}
+
+static ducatbriar_table damaged(ducatbriar_table t, uint64_t *pool, uint64_t len)
+{
+    uint64_t which = draw(8); /* of a list */
+    switch (draw(8)) {
+    case 0: t.data_len[which] = draw(40); break;
+    case 1: t.interval_len[which] = draw(40); break;
+    case 2: t.tuple_count = key(); break;
+    case 3: t.start = key(); break;
+    case 4: t.arity = draw(2) ? draw(10) : key(); break;
+    case 5: t.capacity = draw(2) ? draw(40) : key(); break;
+    default:
+        for (int i = 0; i < 4; i++) {
+            uint64_t at_word = t.start + draw(256), flipped = draw(2) ? 1 : draw(64);
+            pool[at_word % len] ^= flipped;
+        }
+    }
+    return t;
+}
+
+static void walk(const uint64_t *pool, uint64_t len, ducatbriar_table t)
+{
+    ducatbriar_cursor c = {0, 0, 0};
+    if (draw(6) == 0) {
+        c.depth = draw(5);
+        c.interval_i = draw(12);
+        c.slice_offset = draw(2) ? draw(12) : key();
+    }
+    for (int i = 0; i < 24; i++) {
+        uint64_t kind = draw(5);
+        if (kind == 0) {
+            ducatbriar_next_answer a = ducatbriar_next(pool, len, t, c);
+            add_number(a.number), add(a.found), add(a.key), add_cursor(c = a.cursor);
+        } else if (kind <= 2) {
+            ducatbriar_open_answer a = ducatbriar_open(pool, len, t, c);
+            add_number(a.number), add(a.opened), add_cursor(c = a.cursor);
+        } else if (kind == 3) {
+            ducatbriar_up_answer a = ducatbriar_up(pool, len, t, c);
+            add_number(a.number), add(a.risen), add_cursor(c = a.cursor);
+        } else {
+            uint64_t strategy = draw(4), target = key();
+            ducatbriar_seek_answer a = ducatbriar_seek(pool, len, t, c, strategy, target);
+            add_number(a.number), add(a.found), add(a.probes), add_cursor(c = a.cursor);
+        }
+        ducatbriar_key_answer k = ducatbriar_key(pool, len, t, c);
+        ducatbriar_end_answer e = ducatbriar_at_end(pool, len, t, c);
+        add_number(k.number), add(k.found), add(k.key), add_number(e.number), add(e.at_end);
+    }
+}
+
+/* A query that follows the order drawn, over tables of these arities. */
+static ducatbriar_query query_over(const ducatbriar_tables *ts)
+{
+    ducatbriar_query q = {0};
+    q.n = draw(4) ? 1 + draw(4) : 1 + draw(8);
+    for (uint64_t i = 0; i < q.n; i++)
+        q.order[i] = i;
+    for (uint64_t i = q.n; i > 1; i--) {
+        uint64_t j = draw(i), kept = q.order[j];
+        q.order[j] = q.order[i - 1], q.order[i - 1] = kept;
+    }
+    q.atom_count = draw(4) ? 1 + draw(4) : 1 + draw(8);
+    for (uint64_t i = 0; i < q.atom_count; i++) {
+        ducatbriar_atom *a = &q.atoms[i];
+        a->table = draw(ts->count);
+        uint64_t arity = ts->tables[a->table].arity, gap = arity <= q.n ? q.n - arity : 0;
+        for (uint64_t v = 0; v < q.n && a->len < arity && a->len < 8; v++)
+            if (gap > 0 && draw(2) == 0)
+                gap--;
+            else
+                a->variables[a->len++] = q.order[v];
+    }
+    return q;
+}
+
+static void query(const uint64_t *pool, uint64_t len, ducatbriar_tables ts)
+{
+    uint64_t window[256];
+    ducatbriar_query q = query_over(&ts);
+    uint64_t word = key(), where = draw(8);
+    if (draw(12) == 0)
+        q.order[where] = word;
+    if (draw(12) == 0)
+        q.atoms[where % q.atom_count].variables[draw(8)] = word;
+    if (draw(24) == 0)
+        q.atoms[where % q.atom_count].table = word;
+    if (draw(24) == 0)
+        q.atom_count = key();
+    if (draw(24) == 0)
+        ts.count = key();
+    uint64_t strategy = draw(4), size = draw(3) ? COUNT(window) : draw(12);
+    for (size_t i = 0; i < COUNT(window); i++)
+        window[i] = i;
+    ducatbriar_joined j = ducatbriar_join(strategy, pool, len, ts, q, window, size);
+    add_number(j.number), add(j.rows), add(j.seeks);
+    add_words(window, COUNT(window));
+}
+
+static ducatbriar_table drawn_table(uint64_t *pool, uint64_t len, uint64_t from)
+{
+    uint64_t rows[128], arity = draw(20) ? 1 + draw(3) : draw(10), start = draw(40) ? from : key();
+    uint64_t capacity = arity > 4 ? 16 : 32, n = draw(20) * (arity < 9 ? arity : 1);
+    if (draw(20) == 0)
+        capacity = key();
+    n = n > COUNT(rows) ? COUNT(rows) / arity * arity : n;
+    if (draw(20) == 0)
+        n = draw(64);
+    for (uint64_t w = 0; w < n; w++)
+        rows[w] = key();
+    ducatbriar_built b = ducatbriar_build(n ? rows : NULL, n, pool, len, start, arity, capacity);
+    add_number(b.number), add_table(b.table), add_words(rows, n);
+    ducatbriar_table t = b.number == 0 ? b.table : ducatbriar_empty(start, arity, capacity);
+    for (uint64_t left = draw(8); left > 0; left--) {
+        uint64_t tuple[8], size = draw(30) ? arity % 9 : draw(9);
+        for (uint64_t w = 0; w < size; w++)
+            tuple[w] = key();
+        ducatbriar_inserted in = ducatbriar_insert(pool, len, t, size ? tuple : NULL, size);
+        add_number(in.number), add(in.is_new), add_table(t = in.table);
+    }
+    return t;
+}
+
+static void round_of_calls(void)
+{
+    static uint64_t pool[2048];
+    static uint8_t bytes[8192];
+    ducatbriar_tables ts = {0};
+    ts.count = draw(4) ? 4 : 8;
+    for (uint64_t i = 0; i < ts.count; i++) {
+        ts.tables[i] = drawn_table(pool, COUNT(pool), i * 256);
+        if (draw(4) == 0)
+            ts.tables[i] = damaged(ts.tables[i], pool, COUNT(pool));
+        add(ducatbriar_undamaged(pool, COUNT(pool), ts.tables[i]));
+        memset(bytes, 7, sizeof bytes);
+        uint64_t room = draw(4) ? sizeof bytes : draw(64);
+        ducatbriar_listed l = ducatbriar_list(pool, COUNT(pool), ts.tables[i], bytes, room);
+        add_number(l.number), add(l.len);
+        for (size_t w = 0; w < 512; w++)
+            add(bytes[w]);
+        walk(pool, COUNT(pool), ts.tables[i]);
+    }
+    for (int i = 0; i < 8; i++)
+        query(pool, COUNT(pool), ts);
+    add_words(pool, COUNT(pool));
+    for (uint64_t strategy = 0; strategy < 4; strategy++, calls += 3) {
+        uint64_t word = key(), from = draw(COUNT(pool)), len = draw(COUNT(pool) - from);
+        ducatbriar_sought s = ducatbriar_partition_point(strategy, len ? pool + from : NULL, len, word);
+        add(s.offset), add(s.probes);
+        int64_t grade = ducatbriar_grade_of(word);
+        add((uint64_t)grade), add(grade < 0), add(ducatbriar_word_of(grade));
+    }
+}
+
+/* ---- the sort's heap: rows that part badly each time, so that the sort falls back to it. They are found by sorting numbers of rows whose keys are
+   settled only when they are compared (M. D. McIlroy, A Killer Adversary for Quicksort). */
+
+#define ROWS 600
+static uint64_t keys[ROWS], settled, place_of[ROWS];
+static const uint64_t open_key = UINT64_MAX;
+
+static bool below(uint64_t x, uint64_t y, uint64_t settles)
+{
+    if (keys[x] == open_key && keys[y] == open_key)
+        keys[settles] = settled++;
+    return keys[x] < keys[y];
+}
+
+static void swap(uint64_t *rows, uint64_t i, uint64_t j)
+{
+    uint64_t kept = rows[i];
+    rows[i] = rows[j], rows[j] = kept;
+}
+
+static uint64_t median(const uint64_t *rows, uint64_t x, uint64_t y, uint64_t z)
+{
+    bool xy = below(rows[x], rows[y], rows[x]), yz = below(rows[y], rows[z], rows[y]);
+    if (xy == yz)
+        return y;
+    return xy == below(rows[x], rows[z], rows[x]) ? z : x;
+}
+
+/* The steps of crates/sort, on rows whose keys are open: as many partings as it makes before it takes the heap. */
+static void part_badly(uint64_t *rows, uint64_t n, uint64_t partings)
+{
+    bool ascends = true;
+    for (uint64_t i = 1; i < n && ascends; i++)
+        ascends = !below(rows[i], rows[i - 1], rows[i]);
+    if (n <= 16 || ascends || partings == 0)
+        return;
+    uint64_t q = n / 4, i = 0;
+    swap(rows, 0, median(rows, q, 2 * q, 3 * q));
+    for (uint64_t j = 1; j < n; j++) {
+        bool less = below(rows[j], rows[0], rows[0]);
+        swap(rows, i + 1, j);
+        i += less;
+    }
+    swap(rows, 0, i);
+    part_badly(rows, i, partings - 1);
+    part_badly(rows + i + 1, n - i - 1, partings - 1);
+}
+
+static void heap(uint64_t arity)
+{
+    static uint64_t rows[3 * ROWS], pool[6 * ROWS];
+    settled = 0;
+    for (uint64_t i = 0; i < ROWS; i++)
+        keys[i] = open_key, place_of[i] = i;
+    part_badly(place_of, ROWS, 32);
+    for (uint64_t i = 0; i < ROWS; i++) {
+        uint64_t other = settled + draw(ROWS / 2);
+        for (uint64_t c = 0; c < arity; c++)
+            rows[arity * i + c] = c + 1 < arity ? 5 : keys[i] == open_key ? other : keys[i];
+    }
+    ducatbriar_built b = ducatbriar_build(rows, arity * ROWS, pool, COUNT(pool), 0, arity, ROWS);
+    add_number(b.number), add_table(b.table), add_words(rows, arity * ROWS), add_words(pool, COUNT(pool));
+    b = ducatbriar_build(rows, arity * ROWS, pool, COUNT(pool), 0, arity, ROWS); /* once more, now that they ascend */
+    add_number(b.number), add_table(b.table), add_words(rows, arity * ROWS), add_words(pool, COUNT(pool));
+}
+
+/* ---- tables at the limit of the capacity */
+
+#ifndef SELFTEST_SMALL
+static void limits(void)
+{
+    static uint64_t rows[2 * 65536], pool[4 * 65536], window[64];
+    for (uint64_t i = 0; i < COUNT(rows); i++)
+        rows[i] = i % 2 ? draw(UINT64_C(1) << 40) : draw(300);
+    ducatbriar_built over = ducatbriar_build(rows, COUNT(rows), pool, COUNT(pool), 0, 2, 65537);
+    ducatbriar_built built = ducatbriar_build(rows, COUNT(rows), pool, COUNT(pool), 0, 2, 65536);
+    ducatbriar_table t = built.table;
+    add_number(over.number), add_number(built.number), add_table(t);
+    add(ducatbriar_undamaged(pool, COUNT(pool), t));
+    for (int i = 0; i < 40; i++) {
+        uint64_t tuple[2] = {draw(400), i % 4 ? draw(UINT64_C(1) << 40) : rows[1]};
+        ducatbriar_inserted in = ducatbriar_insert(pool, COUNT(pool), t, tuple, 2);
+        add_number(in.number), add(in.is_new), add_table(t = in.table);
+    }
+    add_words(rows, COUNT(rows)), add_words(pool, COUNT(pool));
+    walk(pool, COUNT(pool), t);
+    for (uint64_t strategy = 0; strategy < 3; strategy++) {
+        ducatbriar_tables ts = {1, {t}};
+        ducatbriar_query q = {3, {0, 1, 2}, 2, {{0, 2, {0, 2}}, {0, 2, {1, 2}}}};
+        uint64_t from = draw(1000), target = draw(UINT64_C(1) << 40);
+        ducatbriar_joined j = ducatbriar_join(strategy, pool, COUNT(pool), ts, q, window, COUNT(window));
+        add_number(j.number), add(j.rows), add(j.seeks), add_words(window, COUNT(window));
+        ducatbriar_sought s = ducatbriar_partition_point(strategy, pool + from, COUNT(pool) - from, target);
+        add(s.offset), add(s.probes);
+    }
+}
+#endif
+
+int main(int argc, char **argv)
+{
+    long rounds = argc > 1 ? atol(argv[1]) : 1000;
+    if (argc > 2) {
+        replay(argv[2], "seeks", seeks);
+        replay(argv[2], "tables", tables);
+        replay(argv[2], "cursors", cursors);
+        replay(argv[2], "joins", joins);
+    }
+    for (long i = 0; i < rounds; i++)
+        round_of_calls();
+    for (uint64_t arity = 1; arity <= 3; arity++)
+        heap(arity);
+#ifndef SELFTEST_SMALL
+    limits();
+#endif
+    printf("refusals:");
+    for (size_t i = 1; i < 15; i++)
+        printf(" %" PRIu64, refusals[i]);
+    printf("\n%ld rounds, %" PRIu64 " calls, checksum %016" PRIx64 "\n", rounds, calls, sum);
+    return 0;
+}
