@@ -106,10 +106,7 @@ fn function(words: &[&str]) -> Code {
                 depth += 1;
             }
             "}" => depth -= 1,
-            "let" if inside => {
-                let name = if words[at + 1] == "mut" { words[at + 2] } else { words[at + 1] };
-                lets.push(name.to_string());
-            }
+            "let" if inside => lets.extend(bound(&words[at + 1..])),
             ";" if !inside && depth == 0 => break,
             _ => {}
         }
@@ -118,4 +115,15 @@ fn function(words: &[&str]) -> Code {
         }
     }
     Code { params, lets }
+}
+
+/// The names that a let binds, from the words behind it: one, or those in the brackets of its pattern.
+fn bound(words: &[&str]) -> Vec<String> {
+    let pattern = words.split(|word| *word == "=").next().unwrap_or_default();
+    let inner = match pattern.iter().position(|word| *word == "{" || *word == "(") {
+        Some(open) => &pattern[open + 1..],
+        None => pattern.split(|word| *word == ":").next().unwrap_or_default(),
+    };
+    let is_name = |word: &&&str| **word != "mut" && word.starts_with(|c: char| c.is_ascii_alphabetic() || c == '_');
+    inner.iter().filter(is_name).map(|word| (*word).to_string()).collect()
 }
