@@ -99,13 +99,14 @@ fn function(words: &[&str]) -> Code {
     let Some(open) = words.iter().position(|word| *word == "(") else { return Code::default() };
     let params = labels(&words[open + 1..]);
     let (mut depth, mut inside, mut lets) = (0, false, Vec::new());
-    for (at, word) in words.iter().enumerate().skip(open + 1) {
+    for (at, word) in words.iter().enumerate().skip(open) {
         match *word {
+            "(" | "[" => depth += 1,
             "{" => {
                 inside |= depth == 0 && !["requires", "ensures"].contains(&words[at - 1]);
                 depth += 1;
             }
-            "}" => depth -= 1,
+            ")" | "]" | "}" => depth -= 1,
             "let" if inside => lets.extend(bound(&words[at + 1..])),
             ";" if !inside && depth == 0 => break,
             _ => {}
