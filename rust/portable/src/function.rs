@@ -95,12 +95,12 @@ pub fn head(callee: &Callee, names: &[String], types: &mut Types) -> Made<String
         return Ok(format!("{} {}({})", call.result, callee.name, params.join(", ")));
     }
     let mut params = Vec::new();
-    for i in 1..=callee.function.params {
+    for (i, name) in names.iter().enumerate().take(callee.function.params + 1).skip(1) {
         let ty = &callee.function.locals[i].ty;
         params.push(match callee.passing[i] {
-            Passing::Value => types.declare(ty, &names[i])?,
-            Passing::Lent => format!("const {} *{}", types.c(ty)?, names[i]),
-            Passing::Copied => format!("const {} *{}_given", types.c(ty)?, names[i]),
+            Passing::Value => types.declare(ty, name)?,
+            Passing::Lent => format!("const {} *{name}", types.c(ty)?),
+            Passing::Copied => format!("const {} *{name}_given", types.c(ty)?),
         });
     }
     let params = if params.is_empty() { "void".to_string() } else { params.join(", ") };
@@ -117,23 +117,23 @@ pub fn enter(callee: &Callee, call: &Prototype, names: &mut [String], types: &mu
     let differs = || Refused::new("the header's parameters are not the MIR's", &function.symbol);
     types.meet(&call.result, None, &function.locals[0].ty)?;
     let (mut rest, mut lines) = (call.params.iter(), Vec::new());
-    for i in 1..=function.params {
+    for (i, local) in names.iter_mut().enumerate().take(function.params + 1).skip(1) {
         let ty = &function.locals[i].ty;
         let Param { kind, name } = rest.next().ok_or_else(differs)?;
-        names[i] = name.clone();
+        *local = name.clone();
         if let Ty::Slice { mutable, of } = ty {
             let count = rest.next().filter(|count| count.kind == "uint64_t").ok_or_else(differs)?;
             if *kind != types.c(&Ty::Ref { mutable: *mutable, to: of.clone() })? {
                 return Err(differs());
             }
-            names[i] += "_list";
-            lines.push(format!("{} {} = {{{name}, {}}};", types.c(ty)?, names[i], count.name));
+            *local += "_list";
+            lines.push(format!("{} {local} = {{{name}, {}}};", types.c(ty)?, count.name));
             continue;
         }
         types.meet(kind, None, ty)?;
         if kind == "int64_t" {
-            names[i] += "_bits";
-            lines.push(format!("uint64_t {} = (uint64_t){name};", names[i]));
+            *local += "_bits";
+            lines.push(format!("uint64_t {local} = (uint64_t){name};"));
         }
     }
     if rest.next().is_some() {

@@ -73,7 +73,7 @@ pub fn free(name: &str, used: &[String]) -> String {
 }
 
 fn numbered(name: &str) -> bool {
-    name.strip_prefix(['v', 'f', 'a']).is_some_and(|rest| !rest.is_empty() && rest.bytes().all(|b| b.is_ascii_digit()))
+    name.strip_prefix('v').is_some_and(|rest| !rest.is_empty() && rest.bytes().all(|b| b.is_ascii_digit()))
 }
 
 /// The names before a colon, up to the closing brace or bracket.

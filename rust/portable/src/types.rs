@@ -155,7 +155,7 @@ impl<'a> Types<'a> {
     /// The struct of a declared type, behind those that it holds.
     pub fn define(&mut self, ty: &Ty, done: &mut BTreeSet<String>, out: &mut Vec<String>) -> Made<()> {
         let one = if let Ty::Array(of, _) = ty { of } else { ty };
-        let name = self.c(one)?;
+        let name = self.c(ty)?;
         if !matches!(one, Ty::Named(_)) || self.header.structs.contains_key(&name) || !done.insert(name.clone()) {
             return Ok(());
         }
