@@ -87,9 +87,10 @@ impl<'w, 'a> Writer<'w, 'a> {
     /// The place's text and type, not noted as read.
     fn place(&mut self, place: &Place) -> Made<(String, Ty)> {
         let Some(local) = self.callee.function.locals.get(place.local) else { return self.refused("local", place) };
-        self.mentioned[place.local] = true;
-        let (mut text, mut ty) = (self.names[place.local].clone(), local.ty.clone());
-        if self.callee.passing[place.local] == Passing::Lent && !matches!(ty, Ty::Array(..)) {
+        let root = self.callee.uses.root(place.local);
+        self.mentioned[root] = true;
+        let (mut text, mut ty) = (self.names[root].clone(), local.ty.clone());
+        if self.is_lent(root) && !matches!(ty, Ty::Array(..)) {
             text = format!("(*{text})");
         }
         let mut steps = place.steps.iter();
@@ -104,6 +105,14 @@ impl<'w, 'a> Writer<'w, 'a> {
             };
         }
         Ok((bare(arrow(text)), ty))
+    }
+
+    fn is_lent(&self, local: usize) -> bool {
+        self.callee.passing[local] == Passing::Lent
+    }
+
+    fn note_read(&mut self, place: &Place) {
+        self.read[self.callee.uses.root(place.local)] = true;
     }
 
     fn deref(&mut self, text: String, ty: &Ty, to: &Ty) -> Made<(String, Ty)> {
@@ -138,7 +147,7 @@ impl<'w, 'a> Writer<'w, 'a> {
     fn target(&mut self, place: &Place) -> Made<(String, Ty)> {
         let found = self.place(place)?;
         if !place.steps.is_empty() {
-            self.read[place.local] = true;
+            self.note_read(place);
         }
         Ok(found)
     }
@@ -149,7 +158,7 @@ impl<'w, 'a> Writer<'w, 'a> {
         match operand {
             Operand::Copy(place) => {
                 let found = self.place(place)?;
-                self.read[place.local] = true;
+                self.note_read(place);
                 Ok(found)
             }
             Operand::Int(bits, n) => Ok((literal(*n), Ty::Int(*bits))),
@@ -259,10 +268,11 @@ impl<'w, 'a> Writer<'w, 'a> {
             }
             _ => {
                 let (text, ty) = self.place(place)?;
-                (if matches!(ty, Ty::Array(..)) { text } else { format!("&{text}") }, ty, false)
+                let lent = lies_within(place) && self.is_lent(self.callee.uses.root(place.local));
+                (if matches!(ty, Ty::Array(..)) { text } else { format!("&{text}") }, ty, lent)
             }
         };
-        self.read[place.local] = true;
+        self.note_read(place);
         let plain = match to {
             Ty::Ptr => !constant,
             Ty::Ref { mutable, to } => self.types.c(to)? == self.types.c(&kind)? && !(*mutable && constant),
@@ -274,6 +284,9 @@ impl<'w, 'a> Writer<'w, 'a> {
     // ---- statements
 
     fn assign(&mut self, to: &Place, value: &Value) -> Made<()> {
+        if self.callee.uses.root(to.local) != to.local {
+            return self.same_type(to, value);
+        }
         let (text, ty) = self.target(to)?;
         match (value, &ty) {
             (Value::Operand(Operand::Unit), Ty::Unit) => {}
@@ -299,6 +312,12 @@ impl<'w, 'a> Writer<'w, 'a> {
             }
         }
         Ok(())
+    }
+
+    /// The copy of a parameter that never changes is the parameter: nothing is written.
+    fn same_type(&mut self, to: &Place, value: &Value) -> Made<()> {
+        let (_, ty) = self.place(to)?;
+        self.value(value, &ty).map(|_| ())
     }
 
     fn variant(&mut self, text: &str, ty: &Ty, parts: &[Operand]) -> Made<()> {

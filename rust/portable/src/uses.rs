@@ -1,10 +1,16 @@
-//! What a function does with its locals: which it writes, which have their address taken, and which functions it calls.
-use crate::mir::{Body, Function, Operand, Place, Step, Ty, Value};
+//! What a function does with its locals: which it writes, which may change through a pointer, and which are but copies of a parameter.
+use crate::mir::{Body, Function, Op2, Operand, Place, Step, Ty, Value};
+use std::collections::BTreeSet;
 
 #[derive(Clone, Debug, Default)]
 pub struct Uses {
-    pub written: Vec<bool>,
-    pub addressed: Vec<bool>,
+    /// How many statements write the local or a part of it, by its name.
+    writes: Vec<usize>,
+    addressed: Vec<bool>,
+    /// Whether it may be written through a pointer, as far as can be told: a pointer to it is written through, stored or handed to a call.
+    changed: Vec<bool>,
+    /// The parameter that a local is only ever a copy of.
+    copies: Vec<Option<usize>>,
     pub calls: Vec<String>,
     /// The locals in the sequence of their first writes in the text.
     pub firsts: Vec<usize>,
@@ -15,59 +21,160 @@ pub fn lies_within(place: &Place) -> bool {
     !place.steps.iter().any(|step| matches!(step, Step::Deref(_)))
 }
 
+/// An assignment or a call, wherever it stands in a body.
+enum Act<'a> {
+    Assign(&'a Place, &'a Value),
+    Call(&'a str, &'a [Operand], &'a Place),
+}
+
+fn acts<'a>(body: &'a Body, out: &mut Vec<Act<'a>>) {
+    match body {
+        Body::Skip | Body::Exit(_) | Body::Return => {}
+        Body::Seq(parts) => parts.iter().for_each(|part| acts(part, out)),
+        Body::Assign(to, value) => out.push(Act::Assign(to, value)),
+        Body::Block(inner) | Body::Loop(inner) => acts(inner, out),
+        Body::If(_, yes, no) => {
+            acts(yes, out);
+            acts(no, out);
+        }
+        Body::Switch(_, arms, other) => {
+            arms.iter().for_each(|(_, arm)| acts(arm, out));
+            other.iter().for_each(|arm| acts(arm, out));
+        }
+        Body::Call(symbol, given, to) => out.push(Act::Call(symbol, given, to)),
+    }
+}
+
 impl Uses {
     pub fn of(function: &Function) -> Self {
-        let none = vec![false; function.locals.len()];
-        let mut uses = Uses { written: none.clone(), addressed: none, ..Uses::default() };
-        uses.see(&function.body);
+        let mut found = Vec::new();
+        acts(&function.body, &mut found);
+        let count = function.locals.len();
+        let mut uses = Uses {
+            writes: vec![0; count],
+            addressed: vec![false; count],
+            changed: vec![false; count],
+            copies: vec![None; count],
+            ..Uses::default()
+        };
+        for act in &found {
+            match act {
+                Act::Assign(to, value) => {
+                    uses.write(to);
+                    uses.take_address(value);
+                }
+                Act::Call(symbol, _, to) => {
+                    uses.write(to);
+                    uses.calls.push((*symbol).to_string());
+                }
+            }
+        }
+        uses.find_changed(function, &found);
+        uses.find_copies(function, &found);
         uses
     }
 
-    fn see(&mut self, body: &Body) {
-        match body {
-            Body::Skip | Body::Exit(_) | Body::Return => {}
-            Body::Seq(parts) => parts.iter().for_each(|part| self.see(part)),
-            Body::Assign(to, value) => {
-                self.write(to);
-                if let Value::AddrOf(place) = value {
-                    mark(&mut self.addressed, place);
-                }
-            }
-            Body::Block(inner) | Body::Loop(inner) => self.see(inner),
-            Body::If(_, yes, no) => {
-                self.see(yes);
-                self.see(no);
-            }
-            Body::Switch(_, arms, other) => {
-                arms.iter().for_each(|(_, arm)| self.see(arm));
-                other.iter().for_each(|arm| self.see(arm));
-            }
-            Body::Call(symbol, _, to) => {
-                self.write(to);
-                self.calls.push(symbol.clone());
-            }
-        }
-    }
-
     fn write(&mut self, to: &Place) {
-        mark(&mut self.written, to);
+        if let (true, Some(writes)) = (lies_within(to), self.writes.get_mut(to.local)) {
+            *writes += 1;
+        }
         if to.steps.is_empty() && !self.firsts.contains(&to.local) {
             self.firsts.push(to.local);
         }
     }
 
+    fn take_address(&mut self, value: &Value) {
+        if let Value::AddrOf(place) = value {
+            if let (true, Some(addressed)) = (lies_within(place), self.addressed.get_mut(place.local)) {
+                *addressed = true;
+            }
+        }
+    }
+
+    /// For each local the others that it may hold a pointer into, whatever the sequence; then what is done with these pointers.
+    fn find_changed(&mut self, function: &Function, found: &[Act]) {
+        let mut into = vec![BTreeSet::new(); self.writes.len()];
+        let is_number = |local: usize| matches!(function.locals.get(local).map(|local| &local.ty), Some(Ty::Int(_) | Ty::Bool));
+        loop {
+            let before: usize = into.iter().map(BTreeSet::len).sum();
+            for act in found {
+                if let Act::Assign(to, value) = act {
+                    let more = pointers(value, &into);
+                    if let (false, Some(known)) = (is_number(to.local), into.get_mut(to.local)) {
+                        known.extend(more);
+                    }
+                }
+            }
+            if into.iter().map(BTreeSet::len).sum::<usize>() == before {
+                break;
+            }
+        }
+        for act in found {
+            let (to, loose) = match act {
+                Act::Assign(to, value) => (to, if lies_within(to) { BTreeSet::new() } else { pointers(value, &into) }),
+                Act::Call(_, given, to) => (to, given.iter().flat_map(|one| held(one, &into)).collect()),
+            };
+            let through = if lies_within(to) { BTreeSet::new() } else { into.get(to.local).cloned().unwrap_or_default() };
+            loose.union(&through).for_each(|&local| self.changed[local] = true);
+        }
+    }
+
+    /// A local that is written with nothing but one parameter, which never changes, is that parameter.
+    fn find_copies(&mut self, function: &Function, found: &[Act]) {
+        let mut sources: Vec<Vec<usize>> = vec![Vec::new(); self.writes.len()];
+        for act in found {
+            if let Act::Assign(to, Value::Operand(Operand::Copy(from))) = act {
+                if to.steps.is_empty() && from.steps.is_empty() && to.local < sources.len() {
+                    sources[to.local].push(from.local);
+                }
+            }
+        }
+        // A copy of a copy stands behind it in the text, and has a higher number.
+        for (local, from) in sources.iter().enumerate().skip(function.params + 1) {
+            let is_large = matches!(function.locals[local].ty, Ty::Array(..) | Ty::Named(_));
+            let Some(root) = from.first().map(|&first| self.root(first)) else { continue };
+            let only = from.len() == self.writes[local] && from.iter().all(|&one| self.root(one) == root);
+            if is_large && only && !self.changed[local] && (1..=function.params).contains(&root) && self.never_changes(root) {
+                self.copies[local] = Some(root);
+            }
+        }
+    }
+
+    fn never_changes(&self, local: usize) -> bool {
+        self.writes[local] == 0 && !self.changed[local]
+    }
+
+    /// The parameter that the local is a copy of, or itself.
+    pub fn root(&self, local: usize) -> usize {
+        self.copies.get(local).copied().flatten().unwrap_or(local)
+    }
+
     /// Whether a call may read this operand where it stands: nothing that the call writes can be a part of it.
     pub fn may_lend(&self, operand: &Operand) -> bool {
         match operand {
-            Operand::Copy(place) => lies_within(place) && self.addressed.get(place.local) == Some(&false),
+            Operand::Copy(place) => lies_within(place) && self.changed.get(place.local) == Some(&false),
             Operand::Int(..) | Operand::Bool(_) | Operand::Unit => false,
         }
     }
 }
 
-fn mark(marks: &mut [bool], place: &Place) {
-    if let (true, Some(mark)) = (lies_within(place), marks.get_mut(place.local)) {
-        *mark = true;
+/// The locals that an operand may hold a pointer into. No pointer lies where a pointer leads: `Types::layout` refuses that.
+fn held(operand: &Operand, into: &[BTreeSet<usize>]) -> BTreeSet<usize> {
+    match operand {
+        Operand::Copy(place) if !lies_within(place) => BTreeSet::new(),
+        Operand::Copy(place) => into.get(place.local).cloned().unwrap_or_default(),
+        Operand::Int(..) | Operand::Bool(_) | Operand::Unit => BTreeSet::new(),
+    }
+}
+
+/// The locals that a value may hold a pointer into.
+fn pointers(value: &Value, into: &[BTreeSet<usize>]) -> BTreeSet<usize> {
+    match value {
+        Value::AddrOf(place) if lies_within(place) => BTreeSet::from([place.local]),
+        Value::AddrOf(place) => into.get(place.local).cloned().unwrap_or_default(),
+        Value::Operand(one) | Value::Op2(Op2::Offset, one, _) | Value::Repeat(one, _) => held(one, into),
+        Value::Aggregate(parts) => parts.iter().flat_map(|one| held(one, into)).collect(),
+        Value::Op2(..) | Value::Op1(..) => BTreeSet::new(),
     }
 }
 
@@ -82,7 +189,7 @@ pub enum Passing {
 }
 
 pub fn passing(ty: &Ty, local: usize, uses: &Uses, is_large: bool) -> Passing {
-    let only_read = !uses.written[local] && !uses.addressed[local];
+    let only_read = uses.never_changes(local) && !uses.addressed[local];
     match ty {
         Ty::Array(..) if only_read => Passing::Lent,
         Ty::Array(..) => Passing::Copied,

@@ -37,11 +37,68 @@ fn a_struct_that_is_written_is_copied() {
     assert!(text.contains("result = k_g(v2);"), "{text}");
 }
 
+/// Takes the address of local 2, a Wide, in local 3, and then writes through it.
+fn changes_by_pointer() -> String {
+    let address = assign(3, &format!("(addrOf {})", at(2)));
+    seq(&[&address, "(assign (place 3 (lcons (deref (tyInt 64)) lnil)) (rvOpd (int 64 1)))"])
+}
+
 #[test]
-fn what_a_pointer_may_lead_to_is_copied_before_it_is_lent() {
-    let body = seq(&[&assign(3, &format!("(addrOf {})", at(2))), &call("k::g", &[copy(2)], 0), "return"]);
+fn what_a_pointer_may_change_is_copied_before_it_is_lent() {
+    let body = seq(&[&changes_by_pointer(), &call("k::g", &[copy(2)], 0), "return"]);
     let text = with_wide(&[WIDE, "tyPtr"], &body, &reads());
     assert!(text.contains("const k_Wide given1 = v2;\n        result = k_g(&given1);"), "{text}");
+}
+
+#[test]
+fn what_a_pointer_only_reads_is_lent() {
+    let address = assign(3, &format!("(addrOf {})", at(2)));
+    let text = with_wide(&[WIDE, "tyPtr"], &seq(&[&address, &call("k::g", &[copy(2)], 0), "return"]), &reads());
+    assert!(text.contains("result = k_g(&v2);"), "{text}");
+}
+
+/// The C of `g` over a Wide that it copies to local 2, with a pointer in local 3, whose body behind the copy is given.
+fn copying(rest: &str) -> String {
+    let body = seq(&[&assign(2, &format!("(rvOpd {})", copy(1))), rest, "return"]);
+    let functions = [
+        function("k::g", 1, &[U64, WIDE, WIDE, "tyPtr"], &body),
+        function("k::f", 1, &[U64, U64, WIDE], &seq(&[&call("k::g", &[copy(2)], 0), "return"])),
+    ];
+    c("uint64_t f(uint64_t n);", &functions).unwrap()
+}
+
+#[test]
+fn a_copy_of_a_parameter_that_never_changes_is_the_parameter() {
+    let text = copying(&assign(0, "(rvOpd (copy (place 2 (lcons (field 0) lnil))))"));
+    assert!(text.contains("result = a1->f1;") && !text.contains("v2 = *a1;"), "{text}");
+    let text = copying(&assign(3, "(addrOf (place 2 (lcons (field 1) lnil)))"));
+    assert!(text.contains("v3 = (void *)a1->f2;"), "{text}");
+}
+
+#[test]
+fn a_copy_that_changes_is_one() {
+    let text = copying("(assign (place 2 (lcons (field 0) lnil)) (rvOpd (int 64 1)))");
+    assert!(text.contains("v2 = *a1;"), "{text}");
+    let text = copying(&changes_by_pointer());
+    assert!(text.contains("v2 = *a1;"), "{text}");
+    let steps = assign(3, &format!("(op2 offset {} (int 64 8))", copy(3)));
+    let text = copying(&seq(&[&changes_by_pointer(), &steps]));
+    assert!(text.contains("v2 = *a1;"), "{text}");
+}
+
+#[test]
+fn a_copy_whose_address_goes_to_a_call_is_one() {
+    let takes = function("k::h", 1, &["tyUnit", "tyPtr"], "return");
+    let body = seq(&[
+        &assign(2, &format!("(rvOpd {})", copy(1))),
+        &assign(3, &format!("(addrOf {})", at(2))),
+        &call("k::h", &[copy(3)], 4),
+        "return",
+    ]);
+    let g = function("k::g", 1, &[U64, WIDE, WIDE, "tyPtr", "tyUnit"], &body);
+    let f = function("k::f", 1, &[U64, U64, WIDE], &seq(&[&call("k::g", &[copy(2)], 0), "return"]));
+    let text = c("uint64_t f(uint64_t n);", &[takes, g, f]).unwrap();
+    assert!(text.contains("v2 = *a1;"), "{text}");
 }
 
 #[test]
