@@ -4,7 +4,8 @@
  *
  * It replays the recorded answers in FOLDER (crates/replay/data), if there is one, printing the lines of crates/replay/stdout. Then it makes calls on
  * drawn words, sound and damaged ones, and prints how often each number of refusal came and one checksum over every number and word that came back: it is
- * the same for each build and machine. Compiled with -DSELFTEST_SMALL it leaves out the tables of 65,536 rows, which need 3 MB, and has another checksum.
+ * the same for each build and machine. Compiled with -DSELFTEST_SMALL it has no replay, no tables of 65,536 rows and fewer rounds, and so other numbers:
+ * it needs 0.1 MB of memory, and the whole one 3.5 MB.
  *
  * Each draw stands in a statement of its own or behind a sequence point, so that no compiler may exchange two. */
 #include "ducatbriar.h"
@@ -15,7 +16,15 @@
 
 #define COUNT(a) (sizeof(a) / sizeof *(a))
 
+#ifdef SELFTEST_SMALL
+#define ROUNDS 100
+#else
+#define ROUNDS 1000
+#endif
+
 /* ---- recorded answers */
+
+#ifndef SELFTEST_SMALL
 
 static char text[262144];
 static const char *at;
@@ -184,6 +193,8 @@ static void replay(const char *folder, const char *name, void (*one)(void))
         wrong += *at >= '0' && *at <= '9', at++;
     printf("%s: %" PRIu64 " cases, %" PRIu64 " compared, %" PRIu64 " wrong\n", name, cases, compared, wrong);
 }
+
+#endif
 
 /* ---- drawn calls */
 
@@ -391,8 +402,8 @@ static void round_of_calls(void)
 /* ---- the sort's heap: rows that part badly each time, so that the sort falls back to it. They are found by sorting numbers of rows whose keys are
    settled only when they are compared (M. D. McIlroy, A Killer Adversary for Quicksort). */
 
-#define ROWS 600
-static uint64_t keys[ROWS], settled, place_of[ROWS];
+#define HEAP_ROWS 600
+static uint64_t keys[HEAP_ROWS], settled, place_of[HEAP_ROWS];
 static const uint64_t open_key = UINT64_MAX;
 
 static bool below(uint64_t x, uint64_t y, uint64_t settles)
@@ -438,20 +449,20 @@ static void part_badly(uint64_t *rows, uint64_t n, uint64_t partings)
 
 static void heap(uint64_t arity)
 {
-    static uint64_t rows[3 * ROWS], pool[6 * ROWS];
+    static uint64_t rows[3 * HEAP_ROWS], pool[6 * HEAP_ROWS];
     settled = 0;
-    for (uint64_t i = 0; i < ROWS; i++)
+    for (uint64_t i = 0; i < HEAP_ROWS; i++)
         keys[i] = open_key, place_of[i] = i;
-    part_badly(place_of, ROWS, 32);
-    for (uint64_t i = 0; i < ROWS; i++) {
-        uint64_t other = settled + draw(ROWS / 2);
+    part_badly(place_of, HEAP_ROWS, 32);
+    for (uint64_t i = 0; i < HEAP_ROWS; i++) {
+        uint64_t other = settled + draw(HEAP_ROWS / 2);
         for (uint64_t c = 0; c < arity; c++)
             rows[arity * i + c] = c + 1 < arity ? 5 : keys[i] == open_key ? other : keys[i];
     }
-    ducatbriar_built b = ducatbriar_build(rows, arity * ROWS, pool, COUNT(pool), 0, arity, ROWS);
-    add_number(b.number), add_table(b.table), add_words(rows, arity * ROWS), add_words(pool, COUNT(pool));
-    b = ducatbriar_build(rows, arity * ROWS, pool, COUNT(pool), 0, arity, ROWS); /* once more, now that they ascend */
-    add_number(b.number), add_table(b.table), add_words(rows, arity * ROWS), add_words(pool, COUNT(pool));
+    ducatbriar_built b = ducatbriar_build(rows, arity * HEAP_ROWS, pool, COUNT(pool), 0, arity, HEAP_ROWS);
+    add_number(b.number), add_table(b.table), add_words(rows, arity * HEAP_ROWS), add_words(pool, COUNT(pool));
+    b = ducatbriar_build(rows, arity * HEAP_ROWS, pool, COUNT(pool), 0, arity, HEAP_ROWS); /* once more, now that they ascend */
+    add_number(b.number), add_table(b.table), add_words(rows, arity * HEAP_ROWS), add_words(pool, COUNT(pool));
 }
 
 /* ---- tables at the limit of the capacity */
@@ -468,7 +479,7 @@ static void limits(void)
     add_number(over.number), add_number(built.number), add_table(t);
     add(ducatbriar_undamaged(pool, COUNT(pool), t));
     for (int i = 0; i < 40; i++) {
-        uint64_t tuple[2] = {draw(400), i % 4 ? draw(UINT64_C(1) << 40) : rows[1]};
+        uint64_t first = draw(400), second = i % 4 ? draw(UINT64_C(1) << 40) : rows[1], tuple[2] = {first, second};
         ducatbriar_inserted in = ducatbriar_insert(pool, COUNT(pool), t, tuple, 2);
         add_number(in.number), add(in.is_new), add_table(t = in.table);
     }
@@ -488,13 +499,15 @@ static void limits(void)
 
 int main(int argc, char **argv)
 {
-    long rounds = argc > 1 ? atol(argv[1]) : 1000;
+    long rounds = argc > 1 ? atol(argv[1]) : ROUNDS;
+#ifndef SELFTEST_SMALL
     if (argc > 2) {
         replay(argv[2], "seeks", seeks);
         replay(argv[2], "tables", tables);
         replay(argv[2], "cursors", cursors);
         replay(argv[2], "joins", joins);
     }
+#endif
     for (long i = 0; i < rounds; i++)
         round_of_calls();
     for (uint64_t arity = 1; arity <= 3; arity++)
