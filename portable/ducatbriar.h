@@ -1,8 +1,8 @@
 /* Ducatbriar: a column trie and the leapfrog triejoin over it, with 64-bit keys on every machine.
  *
- * Link with libducatbriar.a, which `rt staticlib ducatbriar` makes for x86-64 Linux; of the C library it needs memcpy, memmove and memset alone. The
- * calls keep nothing between them, allocate nothing, write nothing but what is said here, and may be used from several threads on words that no other
- * thread changes.
+ * Link with libducatbriar.a, which `rt staticlib ducatbriar` makes for x86-64 Linux, or compile portable/ducatbriar.c, C99 made from what is proved, for
+ * any machine (docs/PEDAL-UNIT.md). Of the C library both need memcpy, memmove and memset alone. The calls keep nothing between them, allocate nothing,
+ * write nothing but what is said here, and may be used from several threads on words that no other thread changes.
  *
  * A lent list is a pointer and then the number of its words (or bytes), which must really be there. Where that number is 0 the pointer may be null.
  * Lists that one call may change must not overlap any other list of that call. Everything else may be any words at all: a bad header, cursor, query or

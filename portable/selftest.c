@@ -296,6 +296,22 @@ static void walk(const uint64_t *pool, uint64_t len, ducatbriar_table t)
     }
 }
 
+/* From below, in a table whose header is sound, over words of intervals that are not. */
+static void rise(uint64_t *pool, uint64_t len, ducatbriar_table t)
+{
+    uint64_t layer = draw(2);
+    if (!ducatbriar_undamaged(pool, len, t) || t.arity < layer + 2 || t.interval_len[layer] == 0)
+        return;
+    uint64_t *word = pool + t.start + 2 * t.capacity * layer + t.capacity + draw(t.interval_len[layer]), kept = *word;
+    for (int i = 0; i < 6; i++) {
+        *word = draw(2) ? draw(8) : key();
+        ducatbriar_cursor c = {layer + 2, draw(t.interval_len[layer + 1] + 1), 0};
+        ducatbriar_up_answer a = ducatbriar_up(pool, len, t, c);
+        add_number(a.number), add(a.risen), add_cursor(a.cursor);
+    }
+    *word = kept;
+}
+
 /* A query that follows the order drawn, over tables of these arities. */
 static ducatbriar_query query_over(const ducatbriar_tables *ts)
 {
@@ -332,6 +348,10 @@ static void query(const uint64_t *pool, uint64_t len, ducatbriar_tables ts)
         q.atoms[where % q.atom_count].variables[draw(8)] = word;
     if (draw(24) == 0)
         q.atoms[where % q.atom_count].table = word;
+    if (draw(24) == 0)
+        q.atoms[where % q.atom_count].len = word;
+    if (draw(24) == 0)
+        q.n = word;
     if (draw(24) == 0)
         q.atom_count = key();
     if (draw(24) == 0)
@@ -386,6 +406,7 @@ static void round_of_calls(void)
         for (size_t w = 0; w < 512; w++)
             add(bytes[w]);
         walk(pool, COUNT(pool), ts.tables[i]);
+        rise(pool, COUNT(pool), ts.tables[i]);
     }
     for (int i = 0; i < 8; i++)
         query(pool, COUNT(pool), ts);
