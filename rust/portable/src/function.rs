@@ -89,6 +89,7 @@ fn copied_params(function: &Function) -> Vec<usize> {
     from
 }
 
+/// The function's head. Those that are not exported are `inline`: gcc at -O2 would else not see the sort's rows of two words as such, and take twice the time.
 pub fn head(callee: &Callee, names: &[String], types: &mut Types) -> Made<String> {
     if let Some(call) = callee.exported {
         let params: Vec<String> = call.params.iter().map(declared).collect();
@@ -104,7 +105,7 @@ pub fn head(callee: &Callee, names: &[String], types: &mut Types) -> Made<String
         });
     }
     let params = if params.is_empty() { "void".to_string() } else { params.join(", ") };
-    Ok(format!("static {}({params})", types.declare(&callee.function.locals[0].ty, &callee.name)?))
+    Ok(format!("static inline {}({params})", types.declare(&callee.function.locals[0].ty, &callee.name)?))
 }
 
 fn declared(param: &Param) -> String {

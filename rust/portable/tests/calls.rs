@@ -25,7 +25,7 @@ fn writes() -> String {
 #[test]
 fn a_struct_that_is_only_read_is_lent() {
     let text = with_wide(&[WIDE], &seq(&[&call("k::g", &[copy(2)], 0), "return"]), &reads());
-    assert!(text.contains("static uint64_t k_g(const k_Wide *a1)"), "{text}");
+    assert!(text.contains("static inline uint64_t k_g(const k_Wide *a1)"), "{text}");
     assert!(text.contains("result = a1->f1;"), "{text}");
     assert!(text.contains("result = k_g(&v2);"), "{text}");
 }
@@ -33,7 +33,7 @@ fn a_struct_that_is_only_read_is_lent() {
 #[test]
 fn a_struct_that_is_written_is_copied() {
     let text = with_wide(&[WIDE], &seq(&[&call("k::g", &[copy(2)], 0), "return"]), &writes());
-    assert!(text.contains("static uint64_t k_g(k_Wide a1)"), "{text}");
+    assert!(text.contains("static inline uint64_t k_g(k_Wide a1)"), "{text}");
     assert!(text.contains("result = k_g(v2);"), "{text}");
 }
 
@@ -138,6 +138,6 @@ fn a_call_without_a_result() {
         function("k::f", 1, &[U64, U64, "tyUnit"], &seq(&[&call("k::g", &[copy(1)], 2), "return"])),
     ];
     let text = c("uint64_t f(uint64_t n);", &functions).unwrap();
-    assert!(text.contains("static void k_g(uint64_t a1)"), "{text}");
+    assert!(text.contains("static inline void k_g(uint64_t a1)"), "{text}");
     assert!(text.contains("    k_g(n);"), "{text}");
 }
