@@ -33,40 +33,51 @@ pub fn translate(mir: &str, header: &str, names: &Names) -> Made<String> {
     let program = mir::read(mir)?;
     let header = header::read(header)?;
     let mut types = Types::new(&program.shapes, &header, names);
-    let exported = exported(&program, &header)?;
-    let kept = reached(&program, &exported)?;
-    let mut callees = Callees::new();
-    for function in program.functions.iter().filter(|function| kept.contains(&function.symbol)) {
-        let call = exported.get(&function.symbol).and_then(|name| header.calls.get(name));
-        callees.insert(function.symbol.clone(), callee(function, call, &types)?);
-    }
-    distinct(&callees)?;
+    let callees = callees(&program, &header, &types)?;
     let ordered: Vec<&Callee> = program.functions.iter().filter_map(|function| callees.get(&function.symbol)).collect();
-    let mut locals: Vec<Vec<String>> = ordered.iter().map(|callee| local_names(callee, names)).collect();
-    let mut entries = Vec::new();
-    for (callee, names) in ordered.iter().zip(&mut locals) {
-        entries.push(callee.exported.map_or(Ok(Vec::new()), |call| enter(callee, call, names, &mut types))?);
+    // The header's types name the MIR's before any function is written.
+    let mut written = Vec::new();
+    for callee in &ordered {
+        let mut locals = local_names(callee, names);
+        let entry = callee.exported.map_or(Ok(Vec::new()), |call| enter(callee, call, &mut locals, &mut types))?;
+        written.push((callee, locals, entry));
     }
     let (mut heads, mut texts, mut defined, mut done) = (Vec::new(), Vec::new(), Vec::new(), BTreeSet::new());
-    for ((callee, names), entry) in ordered.iter().zip(&locals).zip(&entries) {
+    for (callee, locals, entry) in &written {
         if callee.exported.is_none() {
-            heads.push(head(callee, names, &mut types)? + ";");
+            heads.push(head(callee, locals, &mut types)? + ";");
         }
-        texts.push(text(callee, entry, names, &mut types, &callees)?);
+        texts.push(text(callee, entry, locals, &mut types, &callees)?);
         for local in &callee.function.locals {
             types.define(&local.ty, &mut done, &mut defined)?;
         }
     }
-    let mut parts = vec![preamble(mir, ordered.len())];
-    parts.extend(types.slice_definitions());
-    parts.extend(defined);
-    parts.push("/* Offsets count bytes: these sizes must be the same on every machine. */".to_string());
-    parts.extend(types.size_assertions()?);
-    parts.push(HELPERS.to_string());
-    parts.extend(heads);
-    parts.push(String::new());
-    parts.extend(texts);
-    Ok(parts.join("\n"))
+    let sizes = "/* Offsets count bytes: these sizes must be the same on every machine. */".to_string();
+    let parts = [
+        vec![preamble(mir, ordered.len())],
+        types.slice_definitions(),
+        defined,
+        vec![sizes],
+        types.size_assertions()?,
+        vec![HELPERS.to_string()],
+        heads,
+        vec![String::new()],
+        texts,
+    ];
+    Ok(parts.concat().join("\n"))
+}
+
+/// What is exported and all that it reaches, by symbol.
+fn callees<'a>(program: &'a Program, header: &'a Header, types: &Types) -> Made<Callees<'a>> {
+    let exported = exported(program, header)?;
+    let kept = reached(program, &exported)?;
+    let mut callees = Callees::new();
+    for function in program.functions.iter().filter(|function| kept.contains(&function.symbol)) {
+        let call = exported.get(&function.symbol).and_then(|name| header.calls.get(name));
+        callees.insert(function.symbol.clone(), callee(function, call, types)?);
+    }
+    distinct(&callees)?;
+    Ok(callees)
 }
 
 fn preamble(mir: &str, functions: usize) -> String {
