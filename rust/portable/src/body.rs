@@ -5,6 +5,7 @@ use crate::types::Types;
 use crate::uses::{lies_within, Passing};
 use crate::words::is_name;
 use crate::Refused;
+use std::collections::BTreeMap;
 
 type Made<T> = Result<T, Refused>;
 
@@ -27,6 +28,8 @@ pub struct Writer<'w, 'a> {
     /// Each with the number of its label, and whether some goto needs that.
     frames: Vec<(Frame, usize, bool)>,
     labels: usize,
+    /// The originals of copies that the next call reads in their place.
+    passed: BTreeMap<usize, Operand>,
     mentioned: Vec<bool>,
     read: Vec<bool>,
 }
@@ -66,7 +69,19 @@ impl<'w, 'a> Writer<'w, 'a> {
     pub fn new(callee: &'w Callee<'a>, names: &'w [String], types: &'w mut Types<'a>, callees: &'w Callees<'a>) -> Self {
         let none = vec![false; names.len()];
         let (mentioned, read) = (none.clone(), none);
-        Writer { callee, names, types, callees, lines: Vec::new(), depth: 1, frames: Vec::new(), labels: 0, mentioned, read }
+        Writer {
+            callee,
+            names,
+            types,
+            callees,
+            lines: Vec::new(),
+            depth: 1,
+            frames: Vec::new(),
+            labels: 0,
+            passed: BTreeMap::new(),
+            mentioned,
+            read,
+        }
     }
 
     /// The lines; which locals stand in them; and which of those are read.
@@ -380,15 +395,16 @@ impl<'w, 'a> Writer<'w, 'a> {
         if given.len() != callee.function.params {
             return self.refused("number of arguments", given);
         }
+        let given: Vec<Operand> = given.iter().map(|operand| self.passed_on(operand)).collect();
         let (mut before, mut texts) = (Vec::new(), Vec::new());
         for (i, operand) in given.iter().enumerate() {
             let (text, kind) = self.operand(operand)?;
             self.fits(&kind, &callee.function.locals[i + 1].ty)?;
             let lent = callee.passing[i + 1] == Passing::Lent;
             let is_array = matches!(kind, Ty::Array(..));
-            if !lent || (is_array && self.callee.uses.may_lend(operand)) {
+            if !lent || (is_array && self.callee.uses.may_lend(operand, &given)) {
                 texts.push(text);
-            } else if self.callee.uses.may_lend(operand) {
+            } else if self.callee.uses.may_lend(operand, &given) {
                 texts.push(text.strip_prefix('*').map_or_else(|| format!("&{text}"), str::to_string));
             } else if is_array {
                 return self.refused("an array that may change while it is lent", operand);
@@ -403,6 +419,24 @@ impl<'w, 'a> Writer<'w, 'a> {
         let result = if ty == Ty::Unit { String::new() } else { format!("{text} = ") };
         self.with(&before, &format!("{result}{}({});", callee.name, texts.join(", ")));
         Ok(())
+    }
+
+    /// A copy that is made for a call alone, which only reads it: the local and the original.
+    fn lendable(&self, parts: &[Body]) -> Option<(usize, Operand)> {
+        let (local, original) = self.callee.uses.passes_on(parts)?;
+        let call =
+            parts.iter().find_map(|part| if let Body::Call(symbol, given, _) = part { Some((symbol, given)) } else { None });
+        let (symbol, given) = call?;
+        let at = given.iter().position(|one| matches!(one, Operand::Copy(place) if place.local == local))?;
+        let lent = self.callees.get(symbol)?.passing.get(at + 1) == Some(&Passing::Lent);
+        lent.then(|| (local, original.clone()))
+    }
+
+    fn passed_on(&mut self, operand: &Operand) -> Operand {
+        match operand {
+            Operand::Copy(place) if place.steps.is_empty() => self.passed.remove(&place.local).unwrap_or_else(|| operand.clone()),
+            _ => operand.clone(),
+        }
     }
 
     /// A statement behind the declarations that it needs.
@@ -421,7 +455,13 @@ impl<'w, 'a> Writer<'w, 'a> {
     pub fn run(&mut self, body: &Body) -> Made<()> {
         match body {
             Body::Skip => Ok(()),
-            Body::Seq(parts) => parts.iter().try_for_each(|part| self.run(part)),
+            Body::Seq(parts) => (0..parts.len()).try_for_each(|at| match self.lendable(&parts[at..]) {
+                Some((local, original)) => {
+                    self.passed.insert(local, original);
+                    Ok(())
+                }
+                None => self.run(&parts[at]),
+            }),
             Body::Assign(to, value) => self.assign(to, value),
             Body::Call(symbol, given, to) => self.call(symbol, given, to),
             Body::Return => {

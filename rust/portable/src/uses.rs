@@ -9,6 +9,10 @@ pub struct Uses {
     addressed: Vec<bool>,
     /// Whether it may be written through a pointer, as far as can be told: a pointer to it is written through, stored or handed to a call.
     changed: Vec<bool>,
+    /// How often the local stands in the body.
+    mentions: Vec<usize>,
+    /// The locals that this one may hold a pointer into.
+    into: Vec<BTreeSet<usize>>,
     /// The parameter that a local is only ever a copy of.
     copies: Vec<Option<usize>>,
     pub calls: Vec<String>,
@@ -25,6 +29,7 @@ pub fn lies_within(place: &Place) -> bool {
 enum Act<'a> {
     Assign(&'a Place, &'a Value),
     Call(&'a str, &'a [Operand], &'a Place),
+    Test(&'a Operand),
 }
 
 fn acts<'a>(body: &'a Body, out: &mut Vec<Act<'a>>) {
@@ -33,11 +38,13 @@ fn acts<'a>(body: &'a Body, out: &mut Vec<Act<'a>>) {
         Body::Seq(parts) => parts.iter().for_each(|part| acts(part, out)),
         Body::Assign(to, value) => out.push(Act::Assign(to, value)),
         Body::Block(inner) | Body::Loop(inner) => acts(inner, out),
-        Body::If(_, yes, no) => {
+        Body::If(test, yes, no) => {
+            out.push(Act::Test(test));
             acts(yes, out);
             acts(no, out);
         }
-        Body::Switch(_, arms, other) => {
+        Body::Switch(on, arms, other) => {
+            out.push(Act::Test(on));
             arms.iter().for_each(|(_, arm)| acts(arm, out));
             other.iter().for_each(|arm| acts(arm, out));
         }
@@ -55,6 +62,8 @@ impl Uses {
             addressed: vec![false; count],
             changed: vec![false; count],
             copies: vec![None; count],
+            mentions: vec![0; count],
+            into: vec![BTreeSet::new(); count],
             ..Uses::default()
         };
         for act in &found {
@@ -67,7 +76,9 @@ impl Uses {
                     uses.write(to);
                     uses.calls.push((*symbol).to_string());
                 }
+                Act::Test(_) => {}
             }
+            places(act).into_iter().for_each(|place| uses.mention(place));
         }
         uses.find_changed(function, &found);
         uses.find_copies(function, &found);
@@ -80,6 +91,12 @@ impl Uses {
         }
         if to.steps.is_empty() && !self.firsts.contains(&to.local) {
             self.firsts.push(to.local);
+        }
+    }
+
+    fn mention(&mut self, place: &Place) {
+        if let Some(mentions) = self.mentions.get_mut(place.local) {
+            *mentions += 1;
         }
     }
 
@@ -113,10 +130,12 @@ impl Uses {
             let (to, loose) = match act {
                 Act::Assign(to, value) => (to, if lies_within(to) { BTreeSet::new() } else { pointers(value, &into) }),
                 Act::Call(_, given, to) => (to, given.iter().flat_map(|one| held(one, &into)).collect()),
+                Act::Test(_) => continue,
             };
             let through = if lies_within(to) { BTreeSet::new() } else { into.get(to.local).cloned().unwrap_or_default() };
             loose.union(&through).for_each(|&local| self.changed[local] = true);
         }
+        self.into = into;
     }
 
     /// A local that is written with nothing but one parameter, which never changes, is that parameter.
@@ -149,11 +168,46 @@ impl Uses {
         self.copies.get(local).copied().flatten().unwrap_or(local)
     }
 
-    /// Whether a call may read this operand where it stands: nothing that the call writes can be a part of it.
-    pub fn may_lend(&self, operand: &Operand) -> bool {
+    /// Whether a call may read this operand where it stands: a call reaches nothing but what its arguments lead to, and none leads there.
+    pub fn may_lend(&self, operand: &Operand, given: &[Operand]) -> bool {
         match operand {
-            Operand::Copy(place) => lies_within(place) && self.changed.get(place.local) == Some(&false),
+            Operand::Copy(place) => lies_within(place) && !given.iter().any(|one| held(one, &self.into).contains(&place.local)),
             Operand::Int(..) | Operand::Bool(_) | Operand::Unit => false,
+        }
+    }
+
+    /// Of statements in sequence, where the first copies something to a local that a later call alone reads, with nothing between that could write the
+    /// original: the local and the original.
+    pub fn passes_on<'a>(&self, parts: &'a [Body]) -> Option<(usize, &'a Operand)> {
+        let (Body::Assign(to, Value::Operand(from @ Operand::Copy(place))), rest) = parts.split_first()? else { return None };
+        let whole = to.steps.is_empty() && lies_within(place) && place.local != to.local;
+        if !whole || self.mentions.get(to.local) != Some(&2) || self.root(to.local) != to.local {
+            return None;
+        }
+        let harmless = |part: &&Body| matches!(part, Body::Assign(other, _) if lies_within(other) && other.local != place.local);
+        let between = rest.iter().take_while(harmless).count();
+        let reads = |one: &Operand| matches!(one, Operand::Copy(read) if read.local == to.local && read.steps.is_empty());
+        match rest.get(between) {
+            Some(Body::Call(_, given, _)) if given.iter().any(reads) && self.may_lend(from, given) => Some((to.local, from)),
+            _ => None,
+        }
+    }
+}
+
+fn places<'a>(act: &Act<'a>) -> Vec<&'a Place> {
+    let of = |operand: &'a Operand| if let Operand::Copy(place) = operand { Some(place) } else { None };
+    match act {
+        Act::Test(operand) => of(operand).into_iter().collect(),
+        Act::Call(_, given, to) => given.iter().filter_map(of).chain([*to]).collect(),
+        Act::Assign(to, value) => {
+            let mut all = vec![*to];
+            match value {
+                Value::Operand(one) | Value::Op1(_, one) | Value::Repeat(one, _) => all.extend(of(one)),
+                Value::Op2(_, one, other) => all.extend(of(one).into_iter().chain(of(other))),
+                Value::AddrOf(place) => all.push(place),
+                Value::Aggregate(parts) => all.extend(parts.iter().filter_map(of)),
+            }
+            all
         }
     }
 }

@@ -43,11 +43,48 @@ fn changes_by_pointer() -> String {
     seq(&[&address, "(assign (place 3 (lcons (deref (tyInt 64)) lnil)) (rvOpd (int 64 1)))"])
 }
 
+/// The C of `f`, which hands its local 2, a Wide, and a pointer to a function that only reads the Wide.
+fn with_pointer(before: &str) -> String {
+    let body = seq(&[before, &call("k::g", &[copy(2), copy(3)], 0), "return"]);
+    let functions =
+        [function("k::g", 2, &[U64, WIDE, "tyPtr"], &reads()), function("k::f", 1, &[U64, U64, WIDE, "tyPtr", WIDE], &body)];
+    c("uint64_t f(uint64_t n);", &functions).unwrap()
+}
+
 #[test]
-fn what_a_pointer_may_change_is_copied_before_it_is_lent() {
-    let body = seq(&[&changes_by_pointer(), &call("k::g", &[copy(2)], 0), "return"]);
-    let text = with_wide(&[WIDE, "tyPtr"], &body, &reads());
-    assert!(text.contains("const k_Wide given1 = v2;\n        result = k_g(&given1);"), "{text}");
+fn what_another_argument_leads_to_is_copied_before_it_is_lent() {
+    let text = with_pointer(&assign(3, &format!("(addrOf {})", at(2))));
+    assert!(text.contains("const k_Wide given1 = v2;\n        result = k_g(&given1, v3);"), "{text}");
+    let moved = assign(3, &format!("(op2 offset {} (int 64 8))", copy(3)));
+    let text = with_pointer(&seq(&[&assign(3, &format!("(addrOf {})", at(2))), &moved]));
+    assert!(text.contains("const k_Wide given1 = v2;"), "{text}");
+    let text = with_pointer(&assign(3, &format!("(addrOf {})", at(4))));
+    assert!(text.contains("result = k_g(&v2, v3);"), "{text}");
+}
+
+/// The C of `f`, which copies its local 2, a Wide, to local 3 and hands that on, with a statement between.
+fn with_copy(between: &str) -> String {
+    let copied = assign(3, &format!("(rvOpd {})", copy(2)));
+    with_wide(&[WIDE, WIDE, U64], &seq(&[&copied, between, &call("k::g", &[copy(3)], 0), "return"]), &reads())
+}
+
+#[test]
+fn a_copy_for_a_call_that_only_reads_it_is_left_out() {
+    let text = with_copy(&assign(4, "(rvOpd (int 64 1))"));
+    assert!(text.contains("result = k_g(&v2);") && !text.contains("v3"), "{text}");
+}
+
+#[test]
+fn a_copy_stays_where_the_original_may_change_before_the_call_or_it_is_read_again() {
+    for between in [
+        "(assign (place 2 (lcons (field 0) lnil)) (rvOpd (int 64 1)))".to_string(),
+        assign(4, "(rvOpd (copy (place 3 (lcons (field 0) lnil))))"),
+        call("k::g", &[copy(2)], 2).replace("(place 2 lnil))", "(place 4 lnil))").replace("copy (place 4", "copy (place 2"),
+        "(if true skip skip)".to_string(),
+    ] {
+        let text = with_copy(&between);
+        assert!(text.contains("v3 = v2;") && text.contains("result = k_g(&v3);"), "{text}");
+    }
 }
 
 #[test]
