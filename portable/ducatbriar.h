@@ -10,22 +10,9 @@
  *
  * Every number is 64 bits wide, whatever size_t is.
  *
- * In every answer `number` is 0 or that of the refusal. A refusal other than 12 changes no lent word; the answer's other numbers are 0, each yes or
- * no is a no, and a header or cursor comes back as it was handed in (that of a refused build is all zeros).
- *
- *    1  arity 0 or over DUCATBRIAR_MAX_ARITY
- *    2  capacity 0 or over DUCATBRIAR_MAX_CAPACITY
- *    3  the table's words do not lie in the pool
- *    4  the words are not whole rows; the tuple is not as long as the arity
- *    5  more rows than the capacity, duplicates counted; a new tuple when the count is the capacity
- *    6  damaged table, or words of a damaged table that stop a cursor
- *    7  the cursor does not stand in the table
- *    8  the order is not a permutation of 0 to n - 1, or n is over DUCATBRIAR_MAX_VARIABLES
- *    9  over DUCATBRIAR_MAX_ATOMS atoms or DUCATBRIAR_MAX_TABLES tables, or an atom names no table
- *   10  an atom's list is not as long as its table's arity, holds a number from n up, or does not strictly follow the order
- *   11  some variable is in no atom
- *   12  more rows exist than fit the window
- *   14  the text is longer than its destination
+ * In every answer `number` is DUCATBRIAR_DONE or that of the refusal, for which ducatbriar_meaning has a text. A refusal other than DUCATBRIAR_FULL changes
+ * no lent word; the answer's other numbers are 0, each yes or no is a no, and a header or cursor comes back as it was handed in (that of a refused build is
+ * all zeros).
  */
 #ifndef DUCATBRIAR_H
 #define DUCATBRIAR_H
@@ -37,12 +24,88 @@
 extern "C" {
 #endif
 
+#define DUCATBRIAR_VERSION "0.1.0" /* CHANGELOG.md says what each version changed */
+
 /* The limits: the one place where a caller finds them. */
 #define DUCATBRIAR_MAX_ARITY 8        /* columns of a table */
 #define DUCATBRIAR_MAX_CAPACITY 65536 /* rows of a table */
 #define DUCATBRIAR_MAX_TABLES 8       /* of a join */
 #define DUCATBRIAR_MAX_ATOMS 8        /* of a query */
 #define DUCATBRIAR_MAX_VARIABLES 8    /* of a query */
+
+/* How many words of the pool a table takes. */
+#define DUCATBRIAR_WORDS(arity, capacity) ((uint64_t)2 * (arity) * (capacity))
+
+/* How many bytes the listing of a table takes at most, for an arity and a capacity inside the limits: a table reaches it whose rows all start with different
+ * keys and whose keys all have 20 digits. Of each layer these are the 30 bytes around its two lists, and `capacity` keys of 20 digits with 2 bytes between
+ * any two; of layer 0 the interval 0; of each other layer the intervals 0 to capacity - 1, with 2 bytes between any two. */
+#define DUCATBRIAR_LISTING(arity, capacity)                                                                                                              \
+    ((uint64_t)(arity) * (28 + (uint64_t)22 * (capacity)) + 1 +                                                                                           \
+     ((uint64_t)(arity) - 1) * (DUCATBRIAR_DIGITS(capacity) + (uint64_t)2 * (capacity) - 2))
+
+/* How many digits the numbers from 0 to capacity - 1 have together: each has one, and one more from each power of ten up. */
+#define DUCATBRIAR_DIGITS(capacity)                                                                                                                      \
+    ((uint64_t)(capacity) + DUCATBRIAR_FROM(10, capacity) + DUCATBRIAR_FROM(100, capacity) + DUCATBRIAR_FROM(1000, capacity) +                            \
+     DUCATBRIAR_FROM(10000, capacity))
+#define DUCATBRIAR_FROM(power, capacity) ((capacity) > (power) ? (uint64_t)(capacity) - (power) : 0)
+
+/* ---- numbers of refusal */
+
+enum {
+    DUCATBRIAR_DONE = 0,
+    DUCATBRIAR_BAD_ARITY = 1,
+    DUCATBRIAR_BAD_CAPACITY = 2,
+    DUCATBRIAR_OUTSIDE_POOL = 3,
+    DUCATBRIAR_BAD_LENGTH = 4,
+    DUCATBRIAR_NO_ROOM = 5,
+    DUCATBRIAR_DAMAGED = 6,
+    DUCATBRIAR_BAD_CURSOR = 7,
+    DUCATBRIAR_BAD_ORDER = 8,
+    DUCATBRIAR_BAD_ATOMS = 9,
+    DUCATBRIAR_BAD_LIST = 10,
+    DUCATBRIAR_FREE_VARIABLE = 11,
+    DUCATBRIAR_FULL = 12,
+    DUCATBRIAR_LONG_TEXT = 14
+};
+
+/* What a number means, in one line. It is here and not in the archive. */
+static inline const char *ducatbriar_meaning(uint64_t number)
+{
+    switch (number) {
+    case DUCATBRIAR_DONE:
+        return "done";
+    case DUCATBRIAR_BAD_ARITY:
+        return "the arity is 0 or over 8";
+    case DUCATBRIAR_BAD_CAPACITY:
+        return "the capacity is 0 or over 65536";
+    case DUCATBRIAR_OUTSIDE_POOL:
+        return "the table's words do not lie in the pool";
+    case DUCATBRIAR_BAD_LENGTH:
+        return "the words are not whole rows, or the tuple is not as long as the arity";
+    case DUCATBRIAR_NO_ROOM:
+        return "there are more rows than the capacity, duplicates counted, or the tuple is new and the table full";
+    case DUCATBRIAR_DAMAGED:
+        return "the table is damaged, or the pool is not its own";
+    case DUCATBRIAR_BAD_CURSOR:
+        return "the cursor does not stand in the table";
+    case DUCATBRIAR_BAD_ORDER:
+        return "the order is not a permutation of the variables, or there are over 8 of them";
+    case DUCATBRIAR_BAD_ATOMS:
+        return "there are over 8 atoms or 8 tables, or an atom names no table";
+    case DUCATBRIAR_BAD_LIST:
+        return "an atom's list is not as long as its table's arity, holds a number that is no variable, or does not strictly follow the order";
+    case DUCATBRIAR_FREE_VARIABLE:
+        return "some variable is in no atom";
+    case DUCATBRIAR_FULL:
+        return "more rows exist than fit the window";
+    case DUCATBRIAR_LONG_TEXT:
+        return "the text is longer than its destination";
+    default:
+        return "a number that no call gives";
+    }
+}
+
+/* ---- strategies */
 
 /* How a run is searched. A number that is none of these counts as galloping. */
 #define DUCATBRIAR_LINEAR 0    /* key by key from the front */
@@ -68,7 +131,7 @@ int64_t ducatbriar_grade_of(uint64_t word);
 
 /* ---- tables */
 
-/* A table's header. Its words are pool[start] to pool[start + 2 * arity * capacity - 1]: layer by layer, `capacity` words of data, then `capacity` words
+/* A table's header. Its words are the DUCATBRIAR_WORDS(arity, capacity) from pool[start] on: layer by layer, `capacity` words of data, then `capacity` words
  * of intervals. Words past a list's length keep what they held. */
 typedef struct {
     uint64_t start, arity, capacity;
@@ -93,7 +156,8 @@ typedef struct {
     uint64_t len;
 } ducatbriar_listed;
 
-/* The header of a table without rows. It is as good as a build over no rows where its words lie in the pool. Never refuses. */
+/* The header of a table without rows: that of a build over no rows with the same three numbers, where such a build is not refused. Elsewhere (an arity or a
+ * capacity outside the limits, words that do not lie in the pool) the calls take it for a damaged table. Never refuses. */
 ducatbriar_table ducatbriar_empty(uint64_t start, uint64_t arity, uint64_t capacity);
 
 /* Whether the table is undamaged: the header fits limits and pool, and the words are the layers of a set of rows. Both are only read. */
@@ -108,8 +172,8 @@ ducatbriar_built ducatbriar_build(uint64_t *rows, uint64_t rows_len, uint64_t *p
  * nothing, also in a table at capacity. Refusals 6, 4, 5, in that sequence. Pool words that are not in a list of the table's stay. */
 ducatbriar_inserted ducatbriar_insert(uint64_t *pool, uint64_t len, ducatbriar_table table, const uint64_t *tuple, uint64_t tuple_len);
 
-/* Writes the table's layers as text at the front of `text`, without a 0 behind it, and answers its length. Refusals 6, 14, in that sequence. The bytes
- * behind the text stay, and the pool is only read. */
+/* Writes the table's layers as text at the front of `text`, without a 0 behind it, and answers its length. Refusals 6, 14, in that sequence; a text of
+ * DUCATBRIAR_LISTING(arity, capacity) bytes is never too short. The bytes behind the listing stay, and the pool is only read. */
 ducatbriar_listed ducatbriar_list(const uint64_t *pool, uint64_t len, ducatbriar_table table, uint8_t *text, uint64_t text_len);
 
 /* ---- cursors: a trie iterator over a table. Pool and header are only read. */
