@@ -30,14 +30,19 @@ pub struct Header {
     pub calls: BTreeMap<String, Prototype>,
 }
 
-/// Takes typedefs of structs and prototypes; anything else is refused. What stands between `#ifdef __cplusplus` and `#endif` is left out.
+/// Takes typedefs of structs and prototypes; anything else is refused, but for macros, enums and inline functions, which the C file doesn't have. What stands between
+/// `#ifdef __cplusplus` and `#endif` is left out.
 pub fn read(text: &str) -> Result<Header, Refused> {
     let mut numbers = BTreeMap::new();
     let mut code = String::new();
-    let mut cpp = false;
-    for line in without_comments(text).lines() {
+    let (mut cpp, mut inline) = (false, false);
+    // a macro's lines are one line
+    for line in without_comments(text).replace("\\\n", " ").lines() {
         let parts: Vec<&str> = line.split_whitespace().collect();
         match parts.as_slice() {
+            ["static", "inline", ..] => inline = true,
+            ["}"] if inline && line == "}" => inline = false,
+            _ if inline => {}
             ["#ifdef", "__cplusplus"] => cpp = true,
             ["#endif"] => cpp = false,
             ["#define", name, number] => {
@@ -75,6 +80,7 @@ fn declarations(words: &[Word], numbers: &BTreeMap<String, u64>) -> Result<Heade
                 header.structs.insert((*name).to_string(), struct_fields(fields, numbers)?);
                 rest = behind;
             }
+            (["enum", "{", ..], ["}", ";", behind @ ..]) => rest = behind,
             ([result, name, "(", params @ ..], [")", ";", behind @ ..]) => {
                 let params = params.split(|w| *w == ",").map(param).collect::<Result<_, _>>()?;
                 header.calls.insert((*name).to_string(), Prototype { result: (*result).to_string(), params });
