@@ -1,15 +1,61 @@
-//! The limits and the sizes that follow from them, by the names that include/ducatbriar.h gives them: tests/limits.rs holds them to its text.
+//! The limits and the sizes that follow from them, by the names that include/ducatbriar.h gives them. The numbers are the header's: they are read from its text
+//! when this is compiled.
 
 /// Columns of a table.
-pub const MAX_ARITY: usize = 8;
+pub const MAX_ARITY: usize = defined("MAX_ARITY");
 /// Rows of a table.
-pub const MAX_CAPACITY: usize = 65_536;
+pub const MAX_CAPACITY: usize = defined("MAX_CAPACITY");
 /// Tables of a join.
-pub const MAX_TABLES: usize = 8;
+pub const MAX_TABLES: usize = defined("MAX_TABLES");
 /// Atoms of a query.
-pub const MAX_ATOMS: usize = 8;
+pub const MAX_ATOMS: usize = defined("MAX_ATOMS");
 /// Variables of a query.
-pub const MAX_VARIABLES: usize = 8;
+pub const MAX_VARIABLES: usize = defined("MAX_VARIABLES");
+
+const HEADER: &[u8] = include_bytes!("../../../include/ducatbriar.h");
+
+/// The number behind `#define DUCATBRIAR_NAME` in the header.
+const fn defined(name: &str) -> usize {
+    let mut line = 0;
+    while line < HEADER.len() {
+        let prefixed = behind(line, b"#define DUCATBRIAR_");
+        let named = behind(prefixed, name.as_bytes());
+        let number = behind(named, b" ");
+        if number < HEADER.len() {
+            return decimal(number);
+        }
+        line = next_line(line);
+    }
+    panic!("the header lacks a limit")
+}
+
+/// The place behind `text` where it stands at place `at`, else the header's end.
+const fn behind(at: usize, text: &[u8]) -> usize {
+    let mut i = 0;
+    while i < text.len() {
+        if at + i >= HEADER.len() || HEADER[at + i] != text[i] {
+            return HEADER.len();
+        }
+        i += 1;
+    }
+    at + text.len()
+}
+
+const fn next_line(mut at: usize) -> usize {
+    while at < HEADER.len() && HEADER[at] != b'\n' {
+        at += 1;
+    }
+    at + 1
+}
+
+const fn decimal(mut at: usize) -> usize {
+    let mut number = 0;
+    while HEADER[at].is_ascii_digit() {
+        number = 10 * number + (HEADER[at] - b'0') as usize;
+        at += 1;
+    }
+    number
+}
 
 /// How many words of the pool a table takes.
 pub const fn words(arity: usize, capacity: usize) -> usize {

@@ -4,22 +4,11 @@ use ducatbriar::{calls, Pool, Query, SeekStrategy, Table};
 
 const HEADER: &str = include_str!("../../../include/ducatbriar.h");
 
-/// The number behind `#define NAME` in the header's text.
-fn defined(name: &str) -> usize {
-    let number =
-        |line: &str| line.strip_prefix("#define ")?.strip_prefix(name)?.strip_prefix(' ')?.split(' ').next()?.parse().ok();
-    HEADER.lines().find_map(number).unwrap_or_else(|| panic!("no {name} in the header"))
-}
-
 #[test]
-fn they_are_the_header_s() {
-    assert_eq!(defined("DUCATBRIAR_MAX_ARITY"), MAX_ARITY);
-    assert_eq!(defined("DUCATBRIAR_MAX_CAPACITY"), MAX_CAPACITY);
-    assert_eq!(defined("DUCATBRIAR_MAX_TABLES"), MAX_TABLES);
-    assert_eq!(defined("DUCATBRIAR_MAX_ATOMS"), MAX_ATOMS);
-    assert_eq!(defined("DUCATBRIAR_MAX_VARIABLES"), MAX_VARIABLES);
-    let limits = HEADER.lines().filter(|line| line.starts_with("#define DUCATBRIAR_MAX_")).count();
-    assert_eq!(limits, 5, "a limit of the header that the binding lacks");
+fn none_of_the_header_s_is_missing() {
+    let named: Vec<_> =
+        HEADER.lines().filter_map(|line| line.strip_prefix("#define DUCATBRIAR_MAX_")?.split(' ').next()).collect();
+    assert_eq!(named, ["ARITY", "CAPACITY", "TABLES", "ATOMS", "VARIABLES"], "a limit of the header that the binding lacks");
 }
 
 #[test]
