@@ -3,7 +3,12 @@
 PREFIX ?= /usr/local
 INCLUDEDIR ?= $(PREFIX)/include
 LIBDIR ?= $(PREFIX)/lib
+# The kit compiles for x86-64; elsewhere the archive is made of portable/ducatbriar.c.
+ifeq ($(shell uname -m),x86_64)
 DUCATBRIAR_LIB ?= target/staticlib/libducatbriar.a
+else
+DUCATBRIAR_LIB ?= target/portable/libducatbriar.a
+endif
 
 VERSION := $(shell sed -n 's/^.define DUCATBRIAR_VERSION "\(.*\)".*/\1/p' include/ducatbriar.h)
 
@@ -13,6 +18,9 @@ all: $(DUCATBRIAR_LIB)
 
 target/staticlib/libducatbriar.a:
 	rt staticlib ducatbriar
+
+target/portable/libducatbriar.a: portable/ducatbriar.c
+	CC="$(CC)" portable/archive $@
 
 test: all
 	DUCATBRIAR_LIB=$(abspath $(DUCATBRIAR_LIB)) examples/c/test
