@@ -1,4 +1,4 @@
--- A column that holds the words of grades.
+-- Of theorems: a column that holds the words of grades.
 use Prim.Native.Nat.{ℕ, _<_}
 use mathlib.Core.Path.{_≡_}
 use mathlib.Core.List.{List}

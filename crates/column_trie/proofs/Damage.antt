@@ -44,7 +44,7 @@ module _ (pool : List ℕ) {t : ColumnTrie} (o : Whole t) (p : InPool (length po
   layers-test =
       let a : eqb (length (layersIn pool t)) (t .arity) ≡ true = eq-eqb (length (layersIn pool t)) (t .arity) (layers-length pool t o (p .few)) in
       let r : rooms (t .capacity) (layersIn pool t) ≡ true = T-true (rooms (t .capacity) (layersIn pool t)) (layer-laws.→rooms (t .capacity) (layersIn pool t) roomy) in
-      let n : dataLen t (t .arity - 1) ≡ length (layer (layersIn pool t) (t .arity - 1) .keys) = sym (keys-length (t .arity - 1) (omega (arith, p .some))) in
+      let n : dataLen t (t .arity - 1) ≡ length (layer (layersIn pool t) (t .arity - 1) .keys) = sym (keys-length (t .arity - 1) (omega (arith, p .positive))) in
       cc
 
 -- what the test tells, and back
@@ -56,7 +56,7 @@ undamaged-told pool t e =
     let p = header-told (length pool) t (and-left (headerSound (length pool) t) (past && inner) e) in
     let f = and-right (headerSound (length pool) t) (past && inner) e in
     record {
-      arity = (p .some, p .few);
+      arity = (p .positive, p .few);
       capacity = (p .roomy, p .small);
       fits = p .fits;
       within = p .within;
@@ -77,7 +77,7 @@ told-undamaged pool t u =
     let past = every maxArity (pastAt t) in
     let inner = layers.undamaged (t .arity) (t .capacity) (layersIn pool t) (t .«tuple_count») in
     and-true (headerSound (length pool) t) (past && inner)
-    (told-header (length pool) t (record { some = u .arity .0; few = u .arity .1; roomy = u .capacity .0; small = u .capacity .1; fits = u .fits; within = u .within }))
+    (told-header (length pool) t (record { positive = u .arity .0; few = u .arity .1; roomy = u .capacity .0; small = u .capacity .1; fits = u .fits; within = u .within }))
     (and-true past inner (every-all (pastAt t) maxArity (λ d h. past-told t d (side d h (ltb d (t .arity)) refl))) (T-true inner (layer-laws.→undamaged (u .layers))))
   where
     side : (d : ℕ) → d < maxArity → (b : Bool) → ltb d (t .arity) ≡ b → (d < t .arity) ⊎ ((dataLen t d ≡ 0) × (intervalLen t d ≡ 0))

@@ -63,7 +63,7 @@ layer-inside start a c d h =
 
 -- what a sound header tells
 pub record InPool (len : ℕ) (t : ColumnTrie) : Type 0 where
-  pub some : 0 < t .arity
+  pub positive : 0 < t .arity
   pub few : t .arity ≤ maxArity
   pub roomy : 0 < t .capacity
   pub small : t .capacity ≤ maxCapacity
@@ -80,7 +80,7 @@ header-told len t e =
     let a = arity-told (t .arity) (and-left (arityOk (t .arity)) (k && (l && w)) e) in
     let c = capacity-told (t .capacity) (and-left k (l && w) e₁) in
     record {
-      some = a .0;
+      positive = a .0;
       few = a .1;
       roomy = c .0;
       small = c .1;
@@ -134,6 +134,6 @@ pub told-header : (len : ℕ) (t : ColumnTrie) → InPool len t → headerSound 
 told-header len t p =
     let w = every maxArity (withinAt t) in
     let l = liesIn len (t .start) (t .arity) (t .capacity) in
-    and-true (arityOk (t .arity)) (capacityOk (t .capacity) && (l && w)) (and-true (ltb 0 (t .arity)) (leb (t .arity) maxArity) (lt-ltb 0 (t .arity) (p .some)) (le-leb (t .arity) maxArity (p .few)))
+    and-true (arityOk (t .arity)) (capacityOk (t .capacity) && (l && w)) (and-true (ltb 0 (t .arity)) (leb (t .arity) maxArity) (lt-ltb 0 (t .arity) (p .positive)) (le-leb (t .arity) maxArity (p .few)))
     (and-true (capacityOk (t .capacity)) (l && w) (and-true (ltb 0 (t .capacity)) (leb (t .capacity) maxCapacity) (lt-ltb 0 (t .capacity) (p .roomy)) (le-leb (t .capacity) maxCapacity (p .small)))
     (and-true l w (le-leb (t .start + 2 * t .arity * t .capacity) len (p .fits)) (every-all (withinAt t) maxArity (λ d h. within-told t d (p .within d h .0) (p .within d h .1)))))

@@ -113,12 +113,12 @@ module _ (pool : List ℕ) {t : ColumnTrie} (o : Whole t) (p : InPool (length po
 
   pub linking-start : (above : ℕ) → (dataLen t 0 ≡ 0 → above ≡ 0) → ((dataLen t 0 ≡ 0 → ⊥) → above ≡ 1) → Linking pool t above 0
   linking-start above f g =
-      let n : length (layer (layersIn pool t) 0 .keys) ≡ dataLen t 0 = ap (λ (l : Layer). length (l .keys)) (layers-at pool t o (p .few) 0 (p .some)) ∙ key-count 0 (p .some) in
+      let n : length (layer (layersIn pool t) 0 .keys) ≡ dataLen t 0 = ap (λ (l : Layer). length (l .keys)) (layers-at pool t o (p .few) 0 (p .positive)) ∙ key-count 0 (p .positive) in
       record {
         inside = omega arith;
         goes =
             ap (λ (m : ℕ). chain m (layersIn pool t)) (top (eqb (dataLen t 0) 0) refl ∙ ap topOf (sym n))
-            ∙ sym (one-shape (layersIn pool t) (omega (arith, layers-length pool t o (p .few), p .some)));
+            ∙ sym (one-shape (layersIn pool t) (omega (arith, layers-length pool t o (p .few), p .positive)));
       }
     where
       top : (b : Bool) → eqb (dataLen t 0) 0 ≡ b → above ≡ topOf (dataLen t 0)

@@ -1,9 +1,9 @@
-mod Counting
-mod Counts
 pub mod Damage
+pub mod Groups
 pub mod Header
 pub mod Kept
 pub mod Layers
+pub mod Lengths
 pub mod Pool
 pub mod Stored
 pub mod Tables

@@ -1,58 +1,24 @@
 -- Layers stored in the pool under the header that describes them: they are read back, the table is undamaged if they are, and every undamaged table
 -- is of this kind: its own layers stored over its own pool.
-use Prim.Native.Nat.{ℕ, zero, suc, _+_, _*_, _-_, _≤_, _<_}
+use Prim.Native.Nat.{ℕ, _+_, _*_, _≤_, _<_}
 use mathlib.Core.Path.{_≡_, refl, sym, ap, ap₂, _∙_, subst}
-use mathlib.Core.List.{List, [], _∷_, _++_, map}
+use mathlib.Core.List.{List, map}
 use native.Mathlib.Omega.{arith}
 use native.Mathlib.Decide.{decLt}
 use native.Mathlib.Nat.{mul-comm, mul-assoc}
-use lib.ListN.{length, take, drop, getD, set, replicate, length-set, length-append, length-replicate, length-map, getD-replicate, List·getD-eq-default, List·getD-append, List·getD-map}
-use lib.Seq.{getD-append-add, getD-take, ext-getD, length-take-le}
+use lib.ListN.{length, take, drop, getD, length-map, List·getD-map}
+use lib.Seq.{getD-take, ext-getD, length-take-le}
 use Rattle.relation.specs.Layers.{Layer, layer, noLayer}
 use Rattle.relation.specs.Undamaged as layers
 use Rattle.column_trie.specs.Limits.{maxArity, maxCapacity}
 use Rattle.column_trie.specs.Pool.{store, spot}
-use Rattle.column_trie.specs.Table.{dataLen, intervalLen, padded, header, layersIn, layerIn, Undamaged}
+use Rattle.column_trie.specs.Table.{relengthed, dataLen, intervalLen, padded, header, layersIn, layerIn, Undamaged}
 use Rattle.column_trie.specs.declared.ColumnTrie.{ColumnTrie}
 use Rattle.column_trie.proofs.Pool.{Room, spot-is, store-length, store-keys, store-intervals, store-own}
 use Rattle.column_trie.proofs.Header.{InPool}
 use Rattle.column_trie.proofs.Layers.{Whole, layers-length, layers-at}
+use Rattle.column_trie.proofs.Lengths.{padded-long, padded-past, padded-own, keys-at, intervals-at}
 use Rattle.column_trie.proofs.Damage.{keys-length, intervals-length, roomy}
-
--- ---- the header's lists of lengths
-
-zeros-long : (n : ℕ) → length {A = ℕ} (replicate n 0) ≡ n
-zeros-long n = length-replicate n 0
-
-zeros-at : (n i : ℕ) → getD {A = ℕ} (replicate n 0) i 0 ≡ 0
-zeros-at n i = go (decLt i n)
-  where
-    go : Dec (i < n) → getD {A = ℕ} (replicate n 0) i 0 ≡ 0
-    go (yes l) = getD-replicate n i 0 0 l
-    go (no l) = List·getD-eq-default (replicate n 0) 0 {n = i} (omega (arith, zeros-long n))
-
-padded-long : (ns : List ℕ) → length ns ≤ maxArity → length (padded ns) ≡ maxArity
-padded-long ns h = omega (arith, length-append ns (replicate (maxArity - length ns) 0), zeros-long (maxArity - length ns))
-
-padded-at : (ns : List ℕ) (d : ℕ) → d < length ns → getD (padded ns) d 0 ≡ getD ns d 0
-padded-at ns d h = List·getD-append ns (replicate (maxArity - length ns) 0) 0 d h
-
-padded-past : (ns : List ℕ) (d : ℕ) → length ns ≤ d → getD (padded ns) d 0 ≡ 0
-padded-past ns d h =
-    let e : length ns + (d - length ns) ≡ d = omega arith in
-    ap (λ (n : ℕ). getD (padded ns) n 0) (sym e) ∙ getD-append-add ns (replicate (maxArity - length ns) 0) (d - length ns) 0 ∙ zeros-at (maxArity - length ns) (d - length ns)
-
--- a list of maxArity lengths whose entries from a on are 0 is its first a entries, padded
-padded-own : (ns : List ℕ) (a : ℕ) → length ns ≡ maxArity → a ≤ maxArity → ((d : ℕ) → a ≤ d → d < maxArity → getD ns d 0 ≡ 0) → ns ≡ padded (take a ns)
-padded-own ns a e h z =
-    ext-getD 0 ns (padded (take a ns)) (e ∙ sym (padded-long (take a ns) (omega (arith, l)))) (λ d k. go d k (decLt d a))
-  where
-    l : length (take a ns) ≡ a
-    l = length-take-le a ns (omega arith)
-
-    go : (d : ℕ) → d < length ns → Dec (d < a) → getD ns d 0 ≡ getD (padded (take a ns)) d 0
-    go d k (yes b) = sym (padded-at (take a ns) d (omega (arith, l)) ∙ getD-take a ns d 0 b)
-    go d k (no b) = z d (omega arith) (omega arith) ∙ sym (padded-past (take a ns) d (omega (arith, l)))
 
 -- where the table ends
 pub spot-end : (start a c : ℕ) → spot start c a ≡ start + 2 * a * c
@@ -69,10 +35,10 @@ module _ (start a c : ℕ) (ls : List Layer) (n : ℕ) (long : length ls ≡ a) 
       }
 
   pub header-keys : (d : ℕ) → d < a → dataLen (header start a c ls n) d ≡ length (layer ls d .keys)
-  header-keys d h = padded-at (map (λ l. length (l .keys)) ls) d (omega (arith, length-map ls (λ l. length (l .keys)))) ∙ List·getD-map (λ l. length (l .keys)) ls d noLayer
+  header-keys d h = keys-at ls d (omega arith)
 
   pub header-intervals : (d : ℕ) → d < a → intervalLen (header start a c ls n) d ≡ length (layer ls d .intervals)
-  header-intervals d h = padded-at (map (λ l. length (l .intervals)) ls) d (omega (arith, length-map ls (λ l. length (l .intervals)))) ∙ List·getD-map (λ l. length (l .intervals)) ls d noLayer
+  header-intervals d h = intervals-at ls d (omega arith)
 
   pub header-past : (d : ℕ) → a ≤ d → (dataLen (header start a c ls n) d ≡ 0) × (intervalLen (header start a c ls n) d ≡ 0)
   header-past d h = (
@@ -123,7 +89,7 @@ stored-undamaged start a c ls n pool a₀ a₁ c₀ c₁ fits u =
 -- ---- an undamaged table is its own layers, stored over its own pool, with the header that describes them
 
 pub in-pool : {pool : List ℕ} {t : ColumnTrie} → Undamaged pool t → InPool (length pool) t
-in-pool u = record { some = u .arity .0; few = u .arity .1; roomy = u .capacity .0; small = u .capacity .1; fits = u .fits; within = u .within }
+in-pool u = record { positive = u .arity .0; few = u .arity .1; roomy = u .capacity .0; small = u .capacity .1; fits = u .fits; within = u .within }
 
 module _ {pool : List ℕ} {t : ColumnTrie} (o : Whole t) (u : Undamaged pool t) where
   pub own-store : store (t .start) (t .capacity) (layersIn pool t) pool ≡ pool
@@ -144,7 +110,7 @@ module _ {pool : List ℕ} {t : ColumnTrie} (o : Whole t) (u : Undamaged pool t)
   pub own-header : t ≡ header (t .start) (t .arity) (t .capacity) (layersIn pool t) (t .«tuple_count»)
   own-header =
       ap₂ {C = ColumnTrie}
-      (λ ds is. record { start = t .start; arity = t .arity; capacity = t .capacity; «data_len» = ds; «interval_len» = is; «tuple_count» = t .«tuple_count» })
+      (λ ds is. relengthed t ds is (t .«tuple_count»))
       (padded-own (t .«data_len») (t .arity) (o .data-long) (u .arity .1) (λ d h b. u .past d h b .0)
       ∙ ap padded (lens (λ l. length (l .keys)) refl (t .«data_len») (o .data-long) (λ d h. keys-length pool o (in-pool u) d h)))
       (padded-own (t .«interval_len») (t .arity) (o .interval-long) (u .arity .1) (λ d h b. u .past d h b .1)
@@ -159,21 +125,3 @@ module _ {pool : List ℕ} {t : ColumnTrie} (o : Whole t) (u : Undamaged pool t)
         where
           l : length (take (t .arity) ns) ≡ t .arity
           l = length-take-le (t .arity) ns (omega (arith, u .arity))
-
--- ---- one layer changed in the header
-
-map-set : (f : Layer → ℕ) (ls : List Layer) (d : ℕ) (l : Layer) → map f (set ls d l) ≡ set (map f ls) d (f l)
-map-set f [] d l = refl
-map-set f (m ∷ ls) zero l = refl
-map-set f (m ∷ ls) (suc d) l = ap (λ (ns : List ℕ). f m ∷ ns) (map-set f ls d l)
-
-append-set : (ns ms : List ℕ) (d x : ℕ) → d < length ns → set ns d x ++ ms ≡ set (ns ++ ms) d x
-append-set [] ms d x h = absurd (omega arith)
-append-set (n ∷ ns) ms zero x h = refl
-append-set (n ∷ ns) ms (suc d) x h = ap (λ (l : List ℕ). n ∷ l) (append-set ns ms d x (omega arith))
-
-pub padded-set : (f : Layer → ℕ) (ls : List Layer) (d : ℕ) (l : Layer) → d < length ls → padded (map f (set ls d l)) ≡ set (padded (map f ls)) d (f l)
-padded-set f ls d l h =
-    ap padded (map-set f ls d l)
-    ∙ ap (λ (n : ℕ). set (map f ls) d (f l) ++ replicate (maxArity - n) 0) (length-set (map f ls) d (f l))
-    ∙ append-set (map f ls) (replicate (maxArity - length (map f ls)) 0) d (f l) (omega (arith, length-map ls f))

@@ -43,6 +43,7 @@ holds {pool} {t} o u =
 -- what a build of the relation leaves, over any pool
 pub record Stored (start a c : ℕ) (rows : List Row) (pool : List ℕ) : Type 0 where
   pub undamaged : Undamaged (store start c (layersOf a rows) pool) (tableOf start a c rows)
+  pub layers-back : layersIn (store start c (layersOf a rows) pool) (tableOf start a c rows) ≡ layersOf a rows
   pub rows-back : rowsIn (store start c (layersOf a rows) pool) (tableOf start a c rows) ≡ rows
 
 pub stored :
@@ -50,9 +51,9 @@ pub stored :
     Stored start a c rows pool
 stored start a c rows pool a₀ a₁ c₀ c₁ fits s w r =
     let u = layers-undamaged c a₀ s w r in
+    let back = stored-layers start a c (layersOf a rows) (length rows) (u .arity) a₁ pool (λ d h. u .room d (omega (arith, u .arity))) fits in
     record {
       undamaged = stored-undamaged start a c (layersOf a rows) (length rows) pool a₀ a₁ c₀ c₁ fits u;
-      rows-back =
-          ap rowsOf (stored-layers start a c (layersOf a rows) (length rows) (u .arity) a₁ pool (λ d h. u .room d (omega (arith, u .arity))) fits)
-          ∙ layers-rows a₀ s w;
+      layers-back = back;
+      rows-back = ap rowsOf back ∙ layers-rows a₀ s w;
     }

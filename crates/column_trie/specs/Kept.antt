@@ -1,4 +1,4 @@
--- What a call on a table keeps of the pool: "Words past a length keep what they held. No call changes a pool word outside its table's own."
+-- Of theorems: what a call on a table keeps of the pool: "Words past a length keep what they held. No call changes a pool word outside its table's own."
 use Prim.Native.Nat.{ℕ, _+_, _*_, _≤_, _<_}
 use mathlib.Core.Path.{_≡_}
 use mathlib.Core.Logic.{_⊎_}

@@ -1,4 +1,4 @@
-pub mod Falls
+pub mod Groups
 pub mod Kept
 pub mod Limits
 pub mod Pool

@@ -1,4 +1,4 @@
--- The limits of a table. The code's associated constants are these: a check that used another would not be proved.
+-- Public: the limits of a table. The code's associated constants are these: a check that used another would not be proved.
 use Prim.Native.Nat.{ℕ}
 
 abbrev pub maxArity : ℕ

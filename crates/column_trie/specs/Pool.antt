@@ -1,4 +1,4 @@
--- Words in the pool: a list laid over it, a table's layers stored in it, and layers read from it.
+-- Public: words in the pool: a list laid over it, a table's layers stored in it, and layers read from it.
 use Prim.Native.Nat.{ℕ, zero, suc, _+_}
 use mathlib.Core.List.{List, [], _∷_}
 use lib.ListN.{take, drop}

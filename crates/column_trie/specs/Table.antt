@@ -1,8 +1,8 @@
--- A table in the pool: its header, the layers that its words hold, and when it is undamaged.
+-- Public: a table in the pool: its header, the layers that its words hold, and when it is undamaged.
 use Prim.Native.Nat.{ℕ, _+_, _*_, _-_, _≤_, _<_}
 use mathlib.Core.Path.{_≡_}
 use mathlib.Core.Bool.{Bool, _&&_, _||_}
-use mathlib.Core.List.{List, _++_, map}
+use mathlib.Core.List.{List, [], _++_, map}
 use lib.ListN.{length, take, drop, getD, replicate}
 use lib.Dec.{ltb, leb, eqb}
 use Rattle.relation.specs.Tests.{every}
@@ -21,36 +21,48 @@ dataLen t d = getD (t .«data_len») d 0
 abbrev pub intervalLen : ColumnTrie → ℕ → ℕ
 intervalLen t d = getD (t .«interval_len») d 0
 
--- one length for each depth, 0 past the last
-abbrev pub padded : List ℕ → List ℕ
-padded ns = ns ++ replicate (maxArity - length ns) 0
-
--- the header of a table that holds these layers and this many rows
-abbrev pub header : ℕ → ℕ → ℕ → List Layer → ℕ → ColumnTrie
-header start arity capacity ls count =
+-- a header, field by field: where a definition makes one, it is by this name
+abbrev pub headerWith : ℕ → ℕ → ℕ → List ℕ → List ℕ → ℕ → ColumnTrie
+headerWith start arity capacity dataLens intervalLens count =
     record {
       start = start;
       arity = arity;
       capacity = capacity;
-      «data_len» = padded (map (λ l. length (l .keys)) ls);
-      «interval_len» = padded (map (λ l. length (l .intervals)) ls);
+      «data_len» = dataLens;
+      «interval_len» = intervalLens;
       «tuple_count» = count;
     }
+
+-- the same header with other lengths and another count
+abbrev pub relengthed : ColumnTrie → List ℕ → List ℕ → ℕ → ColumnTrie
+relengthed t dataLens intervalLens count = headerWith (t .start) (t .arity) (t .capacity) dataLens intervalLens count
+
+-- one length for each depth, 0 past the last
+abbrev pub padded : List ℕ → List ℕ
+padded ns = ns ++ replicate (maxArity - length ns) 0
+
+-- the numbers of keys and of intervals of the layers, as a header has them
+abbrev pub keyCounts : List Layer → List ℕ
+keyCounts ls = padded (map (λ l. length (l .keys)) ls)
+
+abbrev pub intervalCounts : List Layer → List ℕ
+intervalCounts ls = padded (map (λ l. length (l .intervals)) ls)
+
+-- the header of a table that holds these layers and this many rows
+abbrev pub header : ℕ → ℕ → ℕ → List Layer → ℕ → ColumnTrie
+header start arity capacity ls count = headerWith start arity capacity (keyCounts ls) (intervalCounts ls) count
 
 -- of a table that holds the layers of these rows
 abbrev pub tableOf : ℕ → ℕ → ℕ → List Row → ColumnTrie
 tableOf start arity capacity rows = header start arity capacity (layersOf arity rows) (length rows)
 
+-- of a table without rows
 abbrev pub emptyTable : ℕ → ℕ → ℕ → ColumnTrie
-emptyTable start arity capacity =
-    record {
-      start = start;
-      arity = arity;
-      capacity = capacity;
-      «data_len» = replicate maxArity 0;
-      «interval_len» = replicate maxArity 0;
-      «tuple_count» = 0;
-    }
+emptyTable start arity capacity = headerWith start arity capacity (replicate maxArity 0) (replicate maxArity 0) 0
+
+-- what stands where a table is looked up by a number that none has
+abbrev pub noTable : ColumnTrie
+noTable = headerWith 0 0 0 [] [] 0
 
 -- the layers of a table in the pool, as long as its header says, and the rows that they hold
 abbrev pub layersIn : List ℕ → ColumnTrie → List Layer

@@ -1,4 +1,4 @@
-// A table's header, where its layers lie in the pool, and the check for damage: the port of the struct and the layers of
+// A table's header, where its layers and their groups lie in the pool, and the check for damage: the port of the struct and the layers of
 // kermit-ds/src/ds/column_trie/implementation.rs of the Rust.
 //
 // A header holds any words: `undamaged` says exactly when the words that it describes are the layers of a set of rows, and `header_sound` what a
@@ -7,13 +7,14 @@
 ghost use mathlib.Core.Path.{_≡_};
 ghost use mathlib.Core.Bool.{true, _||_};
 ghost use Prim.Native.Nat.{_+_, _*_, _-_, _≤_, _<_, _^_};
-ghost use lib.ListN.{length};
+ghost use lib.ListN.{length, take, drop, getD};
 ghost use Rattle.relation.specs.Tests.{every};
-ghost use Rattle.relation.specs.Undamaged.{sound, chain, linked};
-ghost use Rattle.column_trie.specs.Falls.{fallsIn};
+ghost use Rattle.relation.specs.Undamaged.{chain, linked};
+ghost use Rattle.column_trie.specs.Groups.{outside, groupOf};
 ghost use Rattle.column_trie.specs.Limits.{maxArity, maxCapacity};
 ghost use Rattle.column_trie.specs.Pool.{spot};
-ghost use Rattle.column_trie.specs.Table.{emptyTable, arityOk, capacityOk, liesIn, withinAt, headerSound, pastAt, layersIn, layerIn, undamaged};
+ghost use Rattle.column_trie.specs.Table.{emptyTable, dataLen, arityOk, capacityOk, liesIn, withinAt, headerSound, pastAt, layersIn, layerIn, undamaged};
+use layer_sound::layer_sound;
 
 #[repr(C)]
 pub struct ColumnTrie {
@@ -109,68 +110,6 @@ pub fn header_sound(len: usize, t: ColumnTrie) -> bool
     lengths_within(t)
 }
 
-// How many keys aren't above the key before them. Two counts, each of every other key: a single one waits for itself at each key, or is compiled to
-// vector code that is slower still.
-fn falls(keys: &[u64]) -> usize
-    requires { ⌜ 0 < length (now keys) ⌝ }
-    ensures { λ r. ⌜ r ≡ fallsIn (now (keys .entry)) (length (now (keys .entry)) - 1) ⌝ }
-{
-    let mut odd = 0;
-    let mut even = 0;
-    let mut j = 2;
-    while j < keys.len() {
-        if keys[j - 1] <= keys[j - 2] {
-            odd += 1;
-        }
-        if keys[j] <= keys[j - 1] {
-            even += 1;
-        }
-        j += 2;
-    }
-    if keys.len() < j {
-        return odd + even;
-    }
-    // As many keys as j: the last one is left.
-    if keys[j - 1] <= keys[j - 2] {
-        return odd + even + 1;
-    }
-    odd + even
-}
-
-// Whether the intervals start at 0, ascend and stay inside the data, and no group falls. Where the intervals do, no group falls exactly when the
-// keys fall as often in all as at the starts of groups. To count is quicker than to ask at each key whether a group starts there.
-fn layer_sound(interval: &[u64], data: &[u64]) -> bool
-    ensures { λ r. ⌜ r ≡ sound (now (interval .entry)) (now («data» .entry)) ⌝ }
-{
-    if data.len() == 0 {
-        return interval.len() == 0;
-    }
-    if interval.len() == 0 {
-        return false;
-    }
-    let mut i = interval.len() - 1;
-    let mut at = interval[i] as usize;
-    if data.len() <= at {
-        return false;
-    }
-    let mut starts = 0;
-    while 0 < i {
-        let before = interval[i - 1] as usize;
-        if at <= before {
-            return false;
-        }
-        if data[at] <= data[at - 1] {
-            starts += 1;
-        }
-        at = before;
-        i -= 1;
-    }
-    if at != 0 {
-        return false;
-    }
-    falls(data) == starts
-}
-
 // Where the data of layer d starts; its intervals start `capacity` words further.
 pub fn layer_at(t: ColumnTrie, d: usize) -> usize
     requires { ⌜ (t .start < 2 ^ 62) × (t .capacity ≤ maxCapacity) × (d < maxArity) ⌝ }
@@ -229,4 +168,65 @@ pub fn undamaged(pool: &[u64], t: ColumnTrie) -> bool
         return false;
     }
     layers_linked(pool, t)
+}
+
+// Interval i of the list of n words at `at`, or what stands for one past its end.
+pub fn interval_or(pool: &[u64], at: usize, n: usize, i: usize, past: usize) -> usize
+    requires { ⌜ at + n ≤ length (now pool) ⌝ }
+    ensures { λ r. ⌜ r ≡ getD (take n (drop at (now (pool .entry)))) i past ⌝ }
+{
+    if n <= i {
+        return past;
+    }
+    let place = at + i;
+    pool[place] as usize
+}
+
+// Where the children of interval i of layer d start: past the last interval, behind all keys.
+pub fn begins(pool: &[u64], t: ColumnTrie, d: usize, i: usize) -> usize
+    requires { ⌜ (headerSound (length (now pool)) t ≡ true) × (d < t .arity) ⌝ }
+    ensures { λ r. ⌜ r ≡ getD (layerIn (now (pool .entry)) t d .intervals) i (dataLen t d) ⌝ }
+{
+    let at = layer_at(t, d) + t.capacity;
+    interval_or(pool, at, t.interval_len[d], i, t.data_len[d])
+}
+
+// A group of a layer, by places in the layer's data; `inside` is false where interval or group is outside its list.
+pub struct Group {
+    pub inside: bool,
+    pub from: usize,
+    pub to: usize,
+}
+
+fn outside() -> Group
+    ensures { λ r. ⌜ r ≡ outside ⌝ }
+{
+    Group {
+        inside: false,
+        from: 0,
+        to: 0,
+    }
+}
+
+// The group of interval i in layer d.
+pub fn group_of(pool: &[u64], table: ColumnTrie, d: usize, i: usize) -> Group
+    requires { ⌜ (headerSound (length (now pool)) table ≡ true) × (d < table .arity) ⌝ }
+    ensures { λ r. ⌜ r ≡ groupOf (layerIn (now (pool .entry)) table d) i ⌝ }
+{
+    if table.interval_len[d] <= i {
+        return outside();
+    }
+    let from = begins(pool, table, d, i);
+    let to = begins(pool, table, d, i + 1);
+    if to < from {
+        return outside();
+    }
+    if table.data_len[d] < to {
+        return outside();
+    }
+    Group {
+        inside: true,
+        from,
+        to,
+    }
 }

@@ -63,7 +63,7 @@ module _ (words len start arity capacity : ℕ) where
 
 -- what an accepted build has
 pub record Accepted (words len start arity capacity : ℕ) : Type 0 where
-  pub some : 0 < arity
+  pub positive : 0 < arity
   pub few : arity ≤ maxArity
   pub roomy : 0 < capacity
   pub small : capacity ≤ maxCapacity
@@ -81,7 +81,7 @@ accepted words len start arity capacity e =
     let a = arity-told arity (p .0) in
     let c = capacity-told capacity (q .0) in
     record {
-      some = a .0;
+      positive = a .0;
       few = a .1;
       roomy = c .0;
       small = c .1;

@@ -7,16 +7,17 @@ use native.Mathlib.Omega.{arith}
 use lib.ListN.{length}
 use borrow.Author.Tests.{eq-eqb, ne-eqb}
 use Rattle.relation.specs.Order.{pick}
-use Rattle.relation.specs.Rows.{Sorted, flat, sort}
+use Rattle.relation.specs.Rows.{Sorted, flat, sort, asSet}
 use Rattle.relation.specs.Layers.{layersOf}
-use Rattle.relation.proofs.Sorting.{sort-sorted}
+use Rattle.relation.proofs.Sorting.{sort-sorted, sort-members, asSet-cong}
 use Rattle.column_trie.specs.Pool.{store}
 use Rattle.column_trie.specs.Table.{emptyTable, tableOf}
 use Rattle.column_trie.specs.declared.ColumnTrie.{ColumnTrie}
-use Rattle.column_trie_build.specs.Build.{buildNumber, rowsGiven, rowsStored, unlessRefused, Builds}
-use Rattle.column_trie_build.specs.Push.{Filling}
+use Rattle.from_sorted.specs.Given.{rowsGiven}
+use Rattle.column_trie_build.specs.Build.{buildNumber, unlessRefused, Builds}
+use Rattle.from_sorted.specs.Push.{Filling}
 use Rattle.column_trie_build.proofs.Numbers.{Accepted}
-use Rattle.column_trie_build.proofs.Given.{length-given, given-sorted}
+use Rattle.from_sorted.proofs.Given.{length-given, given-sorted}
 
 module _ {A : Type 0} (n : ℕ) (built refused : A) where
   pub if-built : n ≡ 0 → unlessRefused n built refused ≡ built
@@ -30,32 +31,36 @@ module _ (given lent : List ℕ) (start arity capacity : ℕ) {n : ℕ} {t : Col
   builds-refused h f =
       let k = buildNumber (length given) (length lent) start arity capacity in
       let z : k ≡ 0 → ⊥ = λ q. h (e ∙ q) in
-      let q : unlessRefused k (tableOf start arity capacity (rowsStored arity given)) (emptyTable 0 0 0) ≡ emptyTable 0 0 0 = if-refused k (tableOf start arity capacity (rowsStored arity given)) (emptyTable 0 0 0) z in
+      let left : t ≡ unlessRefused k _ (emptyTable 0 0 0) = f ∙ sym (if-refused k _ (emptyTable 0 0 0) z) in
       record {
-        answer = cc;
-        rows = sym (if-refused k (flat (sort (rowsGiven arity given))) given z);
-        pool = sym (if-refused k (store start capacity (layersOf arity (rowsStored arity given)) lent) lent z);
+        answer = λ i. record { number = e i; table = left i };
+        rows = sym (if-refused k _ given z);
+        pool = sym (if-refused k _ lent z);
       }
 
-  pub builds-built : {given′ lent′ : List ℕ} → n ≡ 0 → t ≡ tableOf start arity capacity (rowsStored arity given) → given′ ≡ flat (sort (rowsGiven arity given)) → lent′ ≡ store start capacity (layersOf arity (rowsStored arity given)) lent → Builds given lent start arity capacity given′ lent′ (record { number = n; table = t })
+  pub builds-built : {given′ lent′ : List ℕ} → n ≡ 0 → t ≡ tableOf start arity capacity (asSet (rowsGiven arity given)) → given′ ≡ flat (sort (rowsGiven arity given)) → lent′ ≡ store start capacity (layersOf arity (asSet (rowsGiven arity given))) lent → Builds given lent start arity capacity given′ lent′ (record { number = n; table = t })
   builds-built h f g p =
       let k = buildNumber (length given) (length lent) start arity capacity in
       let z : k ≡ 0 = sym e ∙ h in
-      let q : unlessRefused k (tableOf start arity capacity (rowsStored arity given)) (emptyTable 0 0 0) ≡ tableOf start arity capacity (rowsStored arity given) = if-built k (tableOf start arity capacity (rowsStored arity given)) (emptyTable 0 0 0) z in
+      let left : t ≡ unlessRefused k _ (emptyTable 0 0 0) = f ∙ sym (if-built k _ (emptyTable 0 0 0) z) in
       record {
-        answer = cc;
-        rows = g ∙ sym (if-built k (flat (sort (rowsGiven arity given))) given z);
-        pool = p ∙ sym (if-built k (store start capacity (layersOf arity (rowsStored arity given)) lent) lent z);
+        answer = λ i. record { number = e i; table = left i };
+        rows = g ∙ sym (if-built k _ given z);
+        pool = p ∙ sym (if-built k _ lent z);
       }
 
 -- an accepted build's table, empty, and its rows, once they are sorted
 module _ (given : List ℕ) {given′ : List ℕ} {len start arity capacity : ℕ} (a : Accepted (length given) len start arity capacity) (e : given′ ≡ flat (sort (rowsGiven arity given))) where
-  pub sorted-rows : rowsGiven arity given′ ≡ sort (rowsGiven arity given)
-  sorted-rows = ap (rowsGiven arity) e ∙ given-sorted arity given (a .some)
+  sorted-rows : rowsGiven arity given′ ≡ sort (rowsGiven arity given)
+  sorted-rows = ap (rowsGiven arity) e ∙ given-sorted arity given (a .positive)
+
+  -- they are the same set
+  pub set-of-rows : asSet (rowsGiven arity given′) ≡ asSet (rowsGiven arity given)
+  set-of-rows = ap asSet sorted-rows ∙ asSet-cong (sort (rowsGiven arity given)) (rowsGiven arity given) (sort-members (rowsGiven arity given))
 
   pub filling : length given′ ≡ length given → Filling len (emptyTable start arity capacity) (rowsGiven arity given′)
   filling l = record {
-    some = a .some;
+    positive = a .positive;
     few = a .few;
     small = a .small;
     fits = a .fits;

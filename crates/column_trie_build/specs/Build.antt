@@ -1,15 +1,16 @@
--- What a build answers and what it leaves behind, as functions of the arguments at entry.
+-- Public: what a build answers and what it leaves behind, as functions of the arguments at entry.
 use Prim.Native.Nat.{ℕ, _/_, _%_}
 use mathlib.Core.Path.{_≡_}
 use mathlib.Core.Bool.{not}
 use mathlib.Core.List.{List}
 use lib.ListN.{length}
 use lib.Dec.{ltb, eqb}
-use Rattle.relation.specs.Order.{Row, pick}
-use Rattle.relation.specs.Rows.{cut, flat, sort, distinct}
+use Rattle.relation.specs.Order.{pick}
+use Rattle.relation.specs.Rows.{flat, sort, asSet}
 use Rattle.relation.specs.Layers.{layersOf}
 use Rattle.column_trie.specs.Pool.{store}
 use Rattle.column_trie.specs.Table.{arityOk, capacityOk, liesIn, emptyTable, tableOf}
+use Rattle.from_sorted.specs.Given.{rowsGiven}
 use Rattle.column_trie_build.specs.declared.Built.{Built}
 
 -- the number of a build over so many words, into a pool of so many: document 01's checks 1 to 5 in sequence, 0 if none refuses
@@ -21,32 +22,24 @@ buildNumber words len start arity capacity =
     (pick (not (eqb (words % arity) 0)) 4
     (pick (ltb capacity (words / arity)) 5 0))))
 
--- the rows that the words are, duplicates kept, in the order given
-abbrev pub rowsGiven : ℕ → List ℕ → List Row
-rowsGiven arity words = cut (length words / arity) arity words
-
--- each of them once, ascending
-abbrev pub rowsStored : ℕ → List ℕ → List Row
-rowsStored arity words = distinct (sort (rowsGiven arity words))
-
 -- by the number: what a build leaves, and what is left if it is refused
 abbrev pub unlessRefused : {A : Type 0} → ℕ → A → A → A
 unlessRefused number built refused = pick (eqb number 0) built refused
 
--- the answer: the number, and the header of the table of the rows; a refused build's header is all zeros
+-- the answer: the number, and the header of the table of the set of the rows; a refused build's header is all zeros
 abbrev pub builtAnswer : List ℕ → List ℕ → ℕ → ℕ → ℕ → Built
 builtAnswer words pool start arity capacity =
     let number = buildNumber (length words) (length pool) start arity capacity in
-    record { number = number; table = unlessRefused number (tableOf start arity capacity (rowsStored arity words)) (emptyTable 0 0 0) }
+    record { number = number; table = unlessRefused number (tableOf start arity capacity (asSet (rowsGiven arity words))) (emptyTable 0 0 0) }
 
 -- the rows' words: sorted, duplicates kept
 abbrev pub wordsLeft : List ℕ → List ℕ → ℕ → ℕ → ℕ → List ℕ
 wordsLeft words pool start arity capacity = unlessRefused (buildNumber (length words) (length pool) start arity capacity) (flat (sort (rowsGiven arity words))) words
 
--- the pool's words: the layers of the rows laid over what it held, and no other word changed
+-- the pool's words: the layers of the set of the rows laid over what it held, and no other word changed
 abbrev pub poolLeft : List ℕ → List ℕ → ℕ → ℕ → ℕ → List ℕ
 poolLeft words pool start arity capacity =
-    unlessRefused (buildNumber (length words) (length pool) start arity capacity) (store start capacity (layersOf arity (rowsStored arity words)) pool) pool
+    unlessRefused (buildNumber (length words) (length pool) start arity capacity) (store start capacity (layersOf arity (asSet (rowsGiven arity words))) pool) pool
 
 -- what a build over `given` and `lent` answers and leaves
 pub record Builds (given lent : List ℕ) (start arity capacity : ℕ) (given′ lent′ : List ℕ) (r : Built) : Type 0 where

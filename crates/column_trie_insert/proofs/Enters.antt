@@ -15,7 +15,7 @@ use Rattle.relation.specs.Layers.{Layer, prefixes}
 use Rattle.relation.proofs.Tests.{not-both}
 use Rattle.relation.proofs.Rank.{rank-le}
 use Rattle.relation.proofs.Relations.{length-prefixes}
-use Rattle.relation.proofs.Insert.{Stored, stored-below, stored-whole, no-root}
+use Rattle.relation.proofs.Insert.{PrefixStored, stored-below, stored-whole, no-root}
 use Rattle.column_trie.specs.Pool.{store}
 use Rattle.column_trie.specs.Table.{header, rowsIn}
 use Rattle.column_trie.specs.declared.ColumnTrie.{ColumnTrie}
@@ -30,7 +30,7 @@ use Rattle.column_trie_insert.proofs.Rows.{Ready, Growing}
 
 module _ {pool₀ : List ℕ} {t : ColumnTrie} {rows : List Row} {r : Row} (y : Ready pool₀ t rows r) where
   -- no word has changed yet
-  starts : (d : ℕ) → ((k : ℕ) → k < d → Stored rows r (suc k)) → (pool₀ ≡ store (t .start) (t .capacity) (mixed (t .arity) rows r d) pool₀) × (t ≡ header (t .start) (t .arity) (t .capacity) (mixed (t .arity) rows r d) (t .«tuple_count»))
+  starts : (d : ℕ) → ((k : ℕ) → k < d → PrefixStored rows r (suc k)) → (pool₀ ≡ store (t .start) (t .capacity) (mixed (t .arity) rows r d) pool₀) × (t ≡ header (t .start) (t .arity) (t .capacity) (mixed (t .arity) rows r d) (t .«tuple_count»))
   starts d s =
       let e = mixed-first (t .arity) rows r (y .held .width) (y .long) d s in (
         sym (ap (λ (ls : List Layer). store (t .start) (t .capacity) ls pool₀) e ∙ y .held .words),
@@ -51,7 +51,7 @@ module _ {pool₀ : List ℕ} {t : ColumnTrie} {rows : List Row} {r : Row} (y : 
         header = s .1;
         place = omega (arith, rank-le (take 0 r) (prefixes 0 rows), length-prefixes 0 rows, ap length e);
         old = λ f. not-both true refl f;
-        new = λ f m. no-root r 0 (subst (λ (qs : List Row). Stored qs r 0) e m);
+        new = λ f m. no-root r 0 (subst (λ (qs : List Row). PrefixStored qs r 0) e m);
       }
 
 no-rows : (rows : List Row) → length rows ≡ 0 → rows ≡ []

@@ -11,15 +11,15 @@ use lib.ListN.{length, take, drop, set}
 use lib.Seq.{ext-getD, set-getD}
 use Rattle.relation.specs.Order.{pick}
 use Rattle.column_trie.specs.Pool.{lay, spot}
-use Rattle.column_trie.specs.Table.{dataLen, intervalLen, layerIn}
+use Rattle.column_trie.specs.Table.{relengthed, dataLen, intervalLen, layerIn}
 use Rattle.column_trie.specs.declared.ColumnTrie.{ColumnTrie}
 use Rattle.column_trie.proofs.Pool.{lay-length, lay-out}
 use Rattle.column_trie.proofs.Header.{LayerFits, length-part}
 use Rattle.column_trie.proofs.Words.{part-at}
-use Rattle.column_trie_insert.specs.Shift.{SmallFrom}
+use Rattle.wedge.specs.Shift.{SmallFrom}
 use Rattle.column_trie_insert.specs.Grow.{branched, sprouted, grown, relaid, resized, Added}
-use Rattle.column_trie_insert.proofs.Shifts.{length-wedged}
-use Rattle.column_trie_insert.proofs.Raises.{lifted, length-lifted, gap, length-gap}
+use Rattle.wedge.proofs.Shifts.{length-wedged}
+use Rattle.wedge.proofs.Raises.{lifted, length-lifted, gap, length-gap}
 
 -- what lies behind the words laid stays
 part-kept : (pool : List ℕ) (at : ℕ) (xs : List ℕ) (b m : ℕ) → at + length xs ≤ b → b + m ≤ length pool → take m (drop b (lay pool at xs)) ≡ take m (drop b pool)
@@ -77,12 +77,12 @@ module _ {pool : List ℕ} {t : ColumnTrie} {d at key data-from : ℕ} {pool₁ 
 
     resized-is :
         (n m : ℕ) → n ≡ suc (dataLen t d) → m ≡ length (g (layerIn pool t d .intervals)) →
-        _≡_ {A = ColumnTrie} (record { start = t .start; arity = t .arity; capacity = t .capacity; «data_len» = set (t .«data_len») d n; «interval_len» = set (t .«interval_len») d m; «tuple_count» = t .«tuple_count» })
+        _≡_ {A = ColumnTrie} (relengthed t (set (t .«data_len») d n) (set (t .«interval_len») d m) (t .«tuple_count»))
         (resized t d (record { keys = take at (layerIn pool t d .keys) ++ key ∷ drop at (layerIn pool t d .keys); intervals = g (layerIn pool t d .intervals) }))
     resized-is n m p q =
         let longer : n ≡ length (take at (layerIn pool t d .keys) ++ key ∷ drop at (layerIn pool t d .keys)) = p ∙ sym (subst (λ (z : ℕ). length (take at (take (dataLen t d) (drop z pool)) ++ key ∷ drop at (take (dataLen t d) (drop z pool))) ≡ suc (dataLen t d)) (k .data-from-is) wedged-count) in
         ap₂ {C = ColumnTrie}
-        (λ x y. record { start = t .start; arity = t .arity; capacity = t .capacity; «data_len» = set (t .«data_len») d x; «interval_len» = set (t .«interval_len») d y; «tuple_count» = t .«tuple_count» })
+        (λ x y. relengthed t (set (t .«data_len») d x) (set (t .«interval_len») d y) (t .«tuple_count»))
         longer q
 
   interval-long : length (layerIn pool t d .intervals) ≡ intervalLen t d
@@ -91,7 +91,7 @@ module _ {pool : List ℕ} {t : ColumnTrie} {d at key data-from : ℕ} {pool₁ 
   pub added-new :
       (i : ℕ) (fresh : Bool) (pool₂ : List ℕ) → fresh ≡ true → i ≤ intervalLen t d →
       pool₂ ≡ lay pool₁ (data-from + t .capacity) (take i (take (intervalLen t d) (drop (data-from + t .capacity) pool₁)) ++ at ∷ map suc (drop i (take (intervalLen t d) (drop (data-from + t .capacity) pool₁)))) →
-      Added pool pool₂ t d (grown fresh i at key (layerIn pool t d)) (record { start = t .start; arity = t .arity; capacity = t .capacity; «data_len» = set (t .«data_len») d (dataLen t d + 1); «interval_len» = set (t .«interval_len») d (intervalLen t d + 1); «tuple_count» = t .«tuple_count» })
+      Added pool pool₂ t d (grown fresh i at key (layerIn pool t d)) (relengthed t (set (t .«data_len») d (dataLen t d + 1)) (set (t .«interval_len») d (intervalLen t d + 1)) (t .«tuple_count»))
   added-new i fresh pool₂ b h second =
       let l : sprouted i at key (layerIn pool t d) ≡ grown fresh i at key (layerIn pool t d) = ap (λ (z : Bool). pick z (sprouted i at key (layerIn pool t d)) (branched i at key (layerIn pool t d))) (sym b) in
       record {
@@ -105,7 +105,7 @@ module _ {pool : List ℕ} {t : ColumnTrie} {d at key data-from : ℕ} {pool₁ 
   pub added-old :
       (i : ℕ) (fresh : Bool) (pool₂ : List ℕ) → fresh ≡ false →
       pool₂ ≡ lay pool₁ (data-from + t .capacity) (take (i + 1) (take (intervalLen t d) (drop (data-from + t .capacity) pool₁)) ++ map suc (drop (i + 1) (take (intervalLen t d) (drop (data-from + t .capacity) pool₁)))) →
-      Added pool pool₂ t d (grown fresh i at key (layerIn pool t d)) (record { start = t .start; arity = t .arity; capacity = t .capacity; «data_len» = set (t .«data_len») d (dataLen t d + 1); «interval_len» = t .«interval_len»; «tuple_count» = t .«tuple_count» })
+      Added pool pool₂ t d (grown fresh i at key (layerIn pool t d)) (relengthed t (set (t .«data_len») d (dataLen t d + 1)) (t .«interval_len») (t .«tuple_count»))
   added-old i fresh pool₂ b second =
       let l : branched i at key (layerIn pool t d) ≡ grown fresh i at key (layerIn pool t d) = ap (λ (z : Bool). pick z (sprouted i at key (layerIn pool t d)) (branched i at key (layerIn pool t d))) (sym b) in
       let two : pool₂ ≡ lay pool₁ (data-from + t .capacity) (lifted (suc i) (take (intervalLen t d) (drop (data-from + t .capacity) pool₁))) = second ∙ ap (λ (z : ℕ). lay pool₁ (data-from + t .capacity) (lifted z (take (intervalLen t d) (drop (data-from + t .capacity) pool₁)))) (add-one i) in
@@ -113,7 +113,7 @@ module _ {pool : List ℕ} {t : ColumnTrie} {d at key data-from : ℕ} {pool₁ 
         words = relaid-is (lifted (suc i)) pool₂ two ∙ ap (relaid pool t d) l;
         header =
             ap {B = ColumnTrie}
-            (λ x. record { start = t .start; arity = t .arity; capacity = t .capacity; «data_len» = set (t .«data_len») d (dataLen t d + 1); «interval_len» = x; «tuple_count» = t .«tuple_count» })
+            (λ x. relengthed t (set (t .«data_len») d (dataLen t d + 1)) x (t .«tuple_count»))
             (sym (set-getD (t .«interval_len») d 0))
             ∙ resized-is (lifted (suc i)) pool₂ two (dataLen t d + 1) (intervalLen t d) (add-one (dataLen t d)) (sym interval-long ∙ sym (length-lifted (suc i) (layerIn pool t d .intervals)))
             ∙ ap (resized t d) l;

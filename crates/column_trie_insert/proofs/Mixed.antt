@@ -16,7 +16,7 @@ use Rattle.relation.specs.Layers.{Layer, layer, noLayer, layersOf}
 use Rattle.relation.proofs.Layers.{rankedAt}
 use Rattle.relation.proofs.Paths.{rankedFrom, layer-from}
 use Rattle.relation.proofs.Relations.{length-layers}
-use Rattle.relation.proofs.Insert.{Stored, insert-known, put-width}
+use Rattle.relation.proofs.Insert.{PrefixStored, insert-known, put-width}
 use Rattle.relation.proofs.Tables.{ranked}
 
 -- layers by their depth
@@ -79,7 +79,7 @@ module _ (a : ℕ) (rows : List Row) (r : Row) where
         (λ k b. let h : k < a = omega arith in f k h ∙ sym (layer-from 0 a qs k h ∙ ap (λ (z : ℕ). rankedAt z qs) (let z : 0 + k ≡ k = omega arith in z)))
 
     -- at the first layer that changes, and behind the last
-    pub mixed-first : (d : ℕ) → ((k : ℕ) → k < d → Stored rows r (suc k)) → mixed d ≡ layersOf a rows
+    pub mixed-first : (d : ℕ) → ((k : ℕ) → k < d → PrefixStored rows r (suc k)) → mixed d ≡ layersOf a rows
     mixed-first d s = same (mixed d) rows (mixed-long d) (λ k h. go k h (decLt k d)) ∙ ranked w
       where
         go : (k : ℕ) → k < a → Dec (k < d) → layer (mixed d) k ≡ rankedAt k rows

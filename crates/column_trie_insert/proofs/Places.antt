@@ -1,11 +1,10 @@
 -- A key's place in its group: the group's words stand in the pool as the code cuts them out, and ascend, so the offset that a seek finds in them leads
 -- there, and is the key's place once the group's start is added.
-use Prim.Native.Nat.{ℕ, suc, _+_, _-_, _≤_, _<_}
+use Prim.Native.Nat.{ℕ, _+_, _-_, _≤_, _<_}
 use mathlib.Core.Path.{_≡_, refl, sym, ap, subst, _∙_}
 use mathlib.Core.Bool.{false}
 use mathlib.Core.List.{List}
 use native.Mathlib.Omega.{arith}
-use native.Mathlib.Numerals.{add-one}
 use lib.Arith.{lt-of-le-ne}
 use lib.ListN.{length, take, drop, getD}
 use lib.Dec.{eqb}
@@ -13,16 +12,18 @@ use borrow.Author.Tests.{eqb-true, eqb-false}
 use Rattle.relation.proofs.Tests.{not-both}
 use Rattle.seek.specs.Offset.{NonFalling, Leading}
 use Rattle.seek.specs.Probes.{digits}
+use Rattle.column_trie.specs.Groups.{groupFrom, groupTo}
 use Rattle.column_trie.specs.Limits.{maxCapacity}
 use Rattle.column_trie.specs.Pool.{spot}
-use Rattle.column_trie.specs.Table.{dataLen, intervalLen, layerIn}
+use Rattle.column_trie.specs.Table.{dataLen, layerIn}
 use Rattle.column_trie.specs.declared.ColumnTrie.{ColumnTrie}
+use Rattle.column_trie.proofs.Groups.{keys-long, intervals-long, starts-group, ends-group}
 use Rattle.column_trie.proofs.Header.{LayerFits, length-part}
-use Rattle.column_trie.proofs.Words.{part-at, getD-any}
-use Rattle.column_trie_insert.specs.Grow.{groupFrom, groupTo, Grouped, PlaceOf}
+use Rattle.column_trie.proofs.Words.{part-at}
+use Rattle.column_trie_insert.specs.Grow.{Grouped, KeyPlaceOf}
 
 -- a layer in the pool, a group of it, and where the code reads that its data starts, and the group in it starts and ends
-pub record Group (pool : List ℕ) (t : ColumnTrie) (d i data-from from to : ℕ) : Type 0 where
+pub record GroupAt (pool : List ℕ) (t : ColumnTrie) (d i data-from from to : ℕ) : Type 0 where
   pub layer : LayerFits (length pool) t d
   pub grouped : Grouped (layerIn pool t d) i
   pub data-from-is : data-from ≡ spot (t .start) (t .capacity) d
@@ -30,24 +31,18 @@ pub record Group (pool : List ℕ) (t : ColumnTrie) (d i data-from from to : ℕ
   pub to-is : to ≡ getD (layerIn pool t d .intervals) (i + 1) (dataLen t d)
 
 pub index-small : (pool : List ℕ) {t : ColumnTrie} {d i : ℕ} → LayerFits (length pool) t d → Grouped (layerIn pool t d) i → i < t .capacity
-index-small pool {t} {d} f g = omega (arith, g .there, length-part pool (spot (t .start) (t .capacity) d + t .capacity) (intervalLen t d) (omega (arith, f)), f .intervals)
+index-small pool f g = omega (arith, g .there, intervals-long pool f, f .intervals)
 
 -- the group's words, as the seek is handed them
 abbrev pub run : List ℕ → ℕ → ℕ → ℕ → List ℕ
 run pool data-from from to = take (data-from + to - (data-from + from)) (drop (data-from + from) pool)
 
-module _ {pool : List ℕ} {t : ColumnTrie} {d i data-from from to : ℕ} (u : Group pool t d i data-from from to) where
-  keys-long : length (layerIn pool t d .keys) ≡ dataLen t d
-  keys-long = length-part pool (spot (t .start) (t .capacity) d) (dataLen t d) (omega (arith, u .layer))
-
+module _ {pool : List ℕ} {t : ColumnTrie} {d i data-from from to : ℕ} (u : GroupAt pool t d i data-from from to) where
   starts : from ≡ groupFrom (layerIn pool t d) i
-  starts = u .from-is ∙ getD-any (layerIn pool t d .intervals) i (dataLen t d) 0 (u .grouped .there)
+  starts = starts-group pool (u .layer) i (omega (arith, u .grouped .there, intervals-long pool (u .layer))) (u .from-is)
 
   ends : to ≡ groupTo (layerIn pool t d) i
-  ends =
-      u .to-is
-      ∙ ap (λ (n : ℕ). getD (layerIn pool t d .intervals) n (dataLen t d)) (add-one i)
-      ∙ ap (λ (n : ℕ). getD (layerIn pool t d .intervals) (suc i) n) (sym keys-long)
+  ends = ends-group pool (u .layer) i (u .to-is)
 
   -- the group's words lie in the pool
   pub record GroupFits : Type 0 where
@@ -60,8 +55,8 @@ module _ {pool : List ℕ} {t : ColumnTrie} {d i data-from from to : ℕ} (u : G
   group-fits =
       record {
         order = omega (arith, starts, ends, u .grouped);
-        end = omega (arith, ends, u, keys-long);
-        far = omega (arith, ends, u, keys-long);
+        end = omega (arith, ends, u, keys-long pool (u .layer));
+        far = omega (arith, ends, u, keys-long pool (u .layer));
         few = u .layer .small;
       }
 
@@ -75,7 +70,7 @@ module _ {pool : List ℕ} {t : ColumnTrie} {d i data-from from to : ℕ} (u : G
       let e : data-from + from + j ≡ spot (t .start) (t .capacity) d + (from + j) = omega (arith, u) in
       part-at pool (data-from + from) (data-from + to - (data-from + from)) j (omega arith)
       ∙ ap (λ (n : ℕ). getD pool n 0) e
-      ∙ sym (part-at pool (spot (t .start) (t .capacity) d) (dataLen t d) (from + j) (omega (arith, ends, u .grouped .to, keys-long)))
+      ∙ sym (part-at pool (spot (t .start) (t .capacity) d) (dataLen t d) (from + j) (omega (arith, ends, u .grouped .to, keys-long pool (u .layer))))
 
   pub run-rises : NonFalling (run pool data-from from to)
   run-rises a b h k =
@@ -93,7 +88,7 @@ module _ {pool : List ℕ} {t : ColumnTrie} {d i data-from from to : ℕ} (u : G
         let e : from + (j - from) ≡ j = omega (arith, starts) in
         subst (λ (n : ℕ). getD (layerIn pool t d .keys) n 0 < key) e (omega (arith, l .before (j - from) (omega (arith, starts)), run-at (j - from) (omega (arith, starts, l .inside, run-long))))
 
-    pub place-found : offset < length (run pool data-from from to) → PlaceOf (layerIn pool t d) i key (record { at = from + offset; there = eqb (getD (run pool data-from from to) offset 0) key; probes = probes })
+    pub place-found : offset < length (run pool data-from from to) → KeyPlaceOf (layerIn pool t d) i key (record { at = from + offset; there = eqb (getD (run pool data-from from to) offset 0) key; probes = probes })
     place-found h =
         let word = getD (run pool data-from from to) offset 0 in
         record {
@@ -105,7 +100,7 @@ module _ {pool : List ℕ} {t : ColumnTrie} {d i data-from from to : ℕ} (u : G
           few = probes-few c;
         }
 
-    pub place-end : length (run pool data-from from to) ≤ offset → PlaceOf (layerIn pool t d) i key (record { at = to; there = false; probes = probes })
+    pub place-end : length (run pool data-from from to) ≤ offset → KeyPlaceOf (layerIn pool t d) i key (record { at = to; there = false; probes = probes })
     place-end h =
         record {
           from = omega (arith, starts, group-fits);

@@ -18,14 +18,15 @@ use Rattle.relation.proofs.Rank.{rank-at, rank-le}
 use Rattle.relation.proofs.Layers.{keysAt, intervalsAt, rankedAt, length-keys, length-intervals, prefixes-asc, prefixes-grown, grown-put}
 use Rattle.relation.proofs.Relations.{length-prefixes}
 use Rattle.relation.proofs.Children.{begin-is}
-use Rattle.relation.proofs.Insert.{Stored, number, insert-key, insert-first, insert-new, insert-count, below}
+use Rattle.relation.proofs.Insert.{PrefixStored, rankOf, insert-key, insert-first, insert-new, insert-count, below}
 use Rattle.column_trie.specs.Pool.{store, spot}
-use Rattle.column_trie.specs.Table.{dataLen, intervalLen, header, tableOf, layerIn, headerSound}
+use Rattle.column_trie.specs.Table.{relengthed, dataLen, intervalLen, header, tableOf, layerIn, headerSound}
 use Rattle.column_trie.specs.declared.ColumnTrie.{ColumnTrie}
 use Rattle.column_trie.proofs.Pool.{Room, store-length, store-replace}
 use Rattle.column_trie.proofs.Header.{InPool, told-header}
 use Rattle.column_trie.proofs.Layers.{layers-at}
-use Rattle.column_trie.proofs.Stored.{header-whole, header-keys, header-intervals, header-past, stored-layers, padded-set}
+use Rattle.column_trie.proofs.Lengths.{padded-set}
+use Rattle.column_trie.proofs.Stored.{header-whole, header-keys, header-intervals, header-past, stored-layers}
 use Rattle.column_trie.proofs.Tables.{Holds}
 use Rattle.column_trie.proofs.Words.{part-at}
 use Rattle.column_trie_insert.specs.Grow.{branched, sprouted, grown, relaid, resized, Added, Roomy}
@@ -57,9 +58,9 @@ pub record Growing (pool₀ : List ℕ) (t : ColumnTrie) (rows : List Row) (r : 
   pub inside : d ≤ t .arity
   pub words : pool ≡ store (t .start) (t .capacity) (mixed (t .arity) rows r d) pool₀
   pub header : out ≡ header (t .start) (t .arity) (t .capacity) (mixed (t .arity) rows r d) (t .«tuple_count»)
-  pub place : i ≡ number rows r d
-  pub old : fresh ≡ false → (d < t .arity) × Stored rows r d × (Stored rows r (suc d) → ⊥) × (at ≡ number rows r (suc d))
-  pub new : fresh ≡ true → Stored rows r d → ⊥
+  pub place : i ≡ rankOf rows r d
+  pub old : fresh ≡ false → (d < t .arity) × PrefixStored rows r d × (PrefixStored rows r (suc d) → ⊥) × (at ≡ rankOf rows r (suc d))
+  pub new : fresh ≡ true → PrefixStored rows r d → ⊥
 
 module _ {pool₀ : List ℕ} {t : ColumnTrie} {rows : List Row} {r : Row} (y : Ready pool₀ t rows r) where
   -- the layers on the way
@@ -103,7 +104,7 @@ module _ {pool₀ : List ℕ} {t : ColumnTrie} {rows : List Row} {r : Row} (y : 
 
     out-pool : InPool (length pool) out
     out-pool = subst (λ (z : ColumnTrie). InPool (length pool) z) (sym (g .header)) (record {
-      some = y .inside .some;
+      positive = y .inside .positive;
       few = y .inside .few;
       roomy = y .inside .roomy;
       small = y .inside .small;
@@ -140,7 +141,7 @@ module _ {pool₀ : List ℕ} {t : ColumnTrie} {rows : List Row} {r : Row} (y : 
       )
 
       -- where a new parent's children start
-      begins-place : fresh ≡ true → getD (layerIn pool out d .intervals) i (dataLen out d) ≡ number rows r (suc d)
+      begins-place : fresh ≡ true → getD (layerIn pool out d .intervals) i (dataLen out d) ≡ rankOf rows r (suc d)
       begins-place f =
           ap₂ (λ (l : Layer) (n : ℕ). getD (l .intervals) i n) layer-old (lens .0)
           ∙ ap (λ (n : ℕ). getD (intervalsAt d rows) n (length (keysAt d rows))) (g .place)
@@ -158,7 +159,7 @@ module _ {pool₀ : List ℕ} {t : ColumnTrie} {rows : List Row} {r : Row} (y : 
           omega (arith, ap (λ (n : ℕ). getD pool n 0) e, begin-is (t .arity) d rows (y .held .width) h k l, rank-le (getD (prefixes d rows) k []) (prefixes (suc d) rows), length-prefixes (suc d) rows, y .room, y .inside .small)
 
       -- the layer takes one more
-      pub room-here : at ≡ number rows r (suc d) → Roomy pool out d i at fresh
+      pub room-here : at ≡ rankOf rows r (suc d) → Roomy pool out d i at fresh
       room-here e =
           record {
             sound = out-sound;
@@ -177,7 +178,7 @@ module _ {pool₀ : List ℕ} {t : ColumnTrie} {rows : List Row} {r : Row} (y : 
           capacity-is = ap (λ (z : ColumnTrie). z .capacity) (g .header)
 
       -- and is then the layer with the row
-      grown-is : at ≡ number rows r (suc d) → grown fresh i at (getD r d 0) (layerIn pool out d) ≡ rankedAt d (put r rows)
+      grown-is : at ≡ rankOf rows r (suc d) → grown fresh i at (getD r d 0) (layerIn pool out d) ≡ rankedAt d (put r rows)
       grown-is e = ap (grown fresh i at (getD r d 0)) layer-old ∙ go fresh refl
         where
           go : (b : Bool) → fresh ≡ b → grown fresh i at (getD r d 0) (rankedAt d rows) ≡ rankedAt d (put r rows)
@@ -195,19 +196,19 @@ module _ {pool₀ : List ℕ} {t : ColumnTrie} {rows : List Row} {r : Row} (y : 
               (sym (insert-first (t .arity) rows r (y .held .width) (y .long) d h (g .old f .1) (g .old f .2)))
 
       pub growing-step :
-          {pool′ : List ℕ} {out′ : ColumnTrie} → at ≡ number rows r (suc d) → Added pool pool′ out d (grown fresh i at (getD r d 0) (layerIn pool out d)) out′ →
+          {pool′ : List ℕ} {out′ : ColumnTrie} → at ≡ rankOf rows r (suc d) → Added pool pool′ out d (grown fresh i at (getD r d 0) (layerIn pool out d)) out′ →
           Growing pool₀ t rows r pool′ out′ (d + 1) at at true
       growing-step {pool′} {out′} e s =
           record {
             inside = omega arith;
             words = s .words ∙ ap (relaid pool out d) (grown-is e) ∙ ap₂ (λ (p : List ℕ) (z : ColumnTrie). relaid p z d (rankedAt d (put r rows))) (g .words) (g .header) ∙ replaced ∙ ap (λ (ls : List Layer). store (t .start) (t .capacity) ls pool₀) (mixed-step (t .arity) rows r d h);
             header = s .header ∙ ap (resized out d) (grown-is e) ∙ ap (λ (z : ColumnTrie). resized z d (rankedAt d (put r rows))) (g .header) ∙ counted ∙ ap (λ (ls : List Layer). header (t .start) (t .arity) (t .capacity) ls (t .«tuple_count»)) (mixed-step (t .arity) rows r d h);
-            place = e ∙ ap (number rows r) (sym (add-one d));
+            place = e ∙ ap (rankOf rows r) (sym (add-one d));
             old = λ f. not-both true refl f;
-            new = λ f m. deeper fresh refl (subst (Stored rows r) (add-one d) m);
+            new = λ f m. deeper fresh refl (subst (PrefixStored rows r) (add-one d) m);
           }
         where
-          deeper : (b : Bool) → fresh ≡ b → Stored rows r (suc d) → ⊥
+          deeper : (b : Bool) → fresh ≡ b → PrefixStored rows r (suc d) → ⊥
           deeper true f = below (t .arity) rows r (y .held .width) (y .long) d h (g .new f) .0
           deeper false f = g .old f .2
 
@@ -229,7 +230,7 @@ module _ {pool₀ : List ℕ} {t : ColumnTrie} {rows : List Row} {r : Row} (y : 
           counted =
               let b : d < length (mix d) = omega (arith, mix-long d) in
               ap₂ {C = ColumnTrie}
-              (λ x z. record { start = t .start; arity = t .arity; capacity = t .capacity; «data_len» = x; «interval_len» = z; «tuple_count» = t .«tuple_count» })
+              (λ x z. relengthed t x z (t .«tuple_count»))
               (sym (padded-set (λ l. length (l .keys)) (mix d) d (rankedAt d (put r rows)) b))
               (sym (padded-set (λ l. length (l .intervals)) (mix d) d (rankedAt d (put r rows)) b))
 
@@ -241,17 +242,17 @@ module _ {pool₀ : List ℕ} {t : ColumnTrie} {rows : List Row} {r : Row} (y : 
 
     pub grown-header :
         t .arity ≤ d →
-        _≡_ {A = ColumnTrie} (record { start = out .start; arity = out .arity; capacity = out .capacity; «data_len» = out .«data_len»; «interval_len» = out .«interval_len»; «tuple_count» = t .«tuple_count» + 1 }) (tableOf (t .start) (t .arity) (t .capacity) (put r rows))
+        _≡_ {A = ColumnTrie} (relengthed out (out .«data_len») (out .«interval_len») (t .«tuple_count» + 1)) (tableOf (t .start) (t .arity) (t .capacity) (put r rows))
     grown-header h =
         let e : d ≡ t .arity = omega (arith, g .inside) in
         let n : t .«tuple_count» + 1 ≡ length (put r rows) = omega (arith, y .held .counted, insert-count (t .arity) rows r (y .held .width) (y .long) (y .absent)) in
-        ap (λ (z : ColumnTrie). record { start = z .start; arity = z .arity; capacity = z .capacity; «data_len» = z .«data_len»; «interval_len» = z .«interval_len»; «tuple_count» = t .«tuple_count» + 1 }) (g .header)
+        ap (λ (z : ColumnTrie). relengthed z (z .«data_len») (z .«interval_len») (t .«tuple_count» + 1)) (g .header)
         ∙ ap₂ (λ (ls : List Layer) (m : ℕ). header (t .start) (t .arity) (t .capacity) ls m) (ap (mixed (t .arity) rows r) e ∙ mixed-last (t .arity) rows r (y .held .width) (y .long)) n
 
 -- a place for the key, read or known
 pub placed :
     {pool₀ : List ℕ} {t : ColumnTrie} {rows : List Row} {r : Row} {pool : List ℕ} {out : ColumnTrie} {d i at : ℕ} {fresh : Bool} → Ready pool₀ t rows r → Growing pool₀ t rows r pool out d i at fresh → d < t .arity → (at′ : ℕ) →
-    ((fresh ≡ true) × (at′ ≡ getD (layerIn pool out d .intervals) i (dataLen out d))) ⊎ ((fresh ≡ false) × (at′ ≡ at)) → Growing pool₀ t rows r pool out d i at′ fresh × (at′ ≡ number rows r (suc d))
+    ((fresh ≡ true) × (at′ ≡ getD (layerIn pool out d .intervals) i (dataLen out d))) ⊎ ((fresh ≡ false) × (at′ ≡ at)) → Growing pool₀ t rows r pool out d i at′ fresh × (at′ ≡ rankOf rows r (suc d))
 placed y g h at′ (inl w) = (
   record { inside = g .inside; words = g .words; header = g .header; place = g .place; old = λ f. not-both _ (w .0) f; new = g .new },
   w .1 ∙ begins-place y g h (w .0),

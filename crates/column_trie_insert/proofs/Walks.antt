@@ -7,6 +7,7 @@ use mathlib.Core.List.{List, [], _∷_}
 use native.Mathlib.Omega.{arith}
 use native.Mathlib.Decide.{decLt}
 use lib.ListN.{length, getD, List·getD-eq-default}
+use Rattle.relation.proofs.Lists.{getD-any}
 use Rattle.relation.specs.Order.{Row}
 use Rattle.relation.specs.Lists.{hd}
 use Rattle.relation.specs.Rows.{Width}
@@ -17,10 +18,9 @@ use Rattle.relation.proofs.Layers.{keysAt, intervalsAt, rankedAt, length-interv
 use Rattle.relation.proofs.Walks.{sound-ordered}
 use Rattle.relation.proofs.Relations.{between-prefixes}
 use Rattle.relation.proofs.Children.{end-le}
-use Rattle.relation.proofs.Insert.{Stored, number, descend, branch, root}
-use Rattle.column_trie.proofs.Words.{getD-any}
-use Rattle.column_trie_insert.specs.declared.Place.{Place}
-use Rattle.column_trie_insert.specs.Grow.{Grouped, PlaceOf, PathOf}
+use Rattle.relation.proofs.Insert.{PrefixStored, rankOf, descend, branch, root}
+use Rattle.column_trie_insert.specs.declared.KeyPlace.{KeyPlace}
+use Rattle.column_trie_insert.specs.Grow.{Grouped, KeyPlaceOf, PathOf}
 
 -- the groups of a relation's layer
 grouped : (a : ℕ) (rows : List Row) (d i : ℕ) → Width a rows → d < a → i < length (prefixes d rows) → Grouped (rankedAt d rows) i
@@ -50,8 +50,8 @@ grouped a rows d i w h k =
 -- d keys are stored, the last at place i
 pub record Walking (a : ℕ) (rows : List Row) (r : Row) (d i : ℕ) : Type 0 where
   pub inside : d ≤ a
-  pub stored : Stored rows r d
-  pub place : i ≡ number rows r d
+  pub stored : PrefixStored rows r d
+  pub place : i ≡ rankOf rows r d
 
 pub walking-start : (a : ℕ) (rows : List Row) (r : Row) → 0 < length rows → Walking a rows r 0 0
 walking-start a [] r h = absurd (omega arith)
@@ -64,8 +64,8 @@ module _ {a : ℕ} {rows : List Row} {r : Row} {d i : ℕ} (w : Width a rows) (l
   pub walking-grouped : Grouped (rankedAt d rows) i
   walking-grouped = grouped a rows d i w h index-inside
 
-  module _ {p : Place} {key : ℕ} (e : key ≡ getD r d 0) (q : PlaceOf (rankedAt d rows) i key p) where
-    from : getD (intervalsAt d rows) (number rows r d) 0 ≤ p .at
+  module _ {p : KeyPlace} {key : ℕ} (e : key ≡ getD r d 0) (q : KeyPlaceOf (rankedAt d rows) i key p) where
+    from : getD (intervalsAt d rows) (rankOf rows r d) 0 ≤ p .at
     from = subst (λ (n : ℕ). getD (intervalsAt d rows) n 0 ≤ p .at) (v .place) (q .from)
 
     pub walking-found : p .there ≡ true → Walking a rows r (d + 1) (p .at)
@@ -75,8 +75,8 @@ module _ {a : ℕ} {rows : List Row} {r : Row} {d i : ℕ} (w : Width a rows) (l
         let z : suc d ≡ d + 1 = omega arith in
         record {
           inside = omega arith;
-          stored = subst (Stored rows r) z (s .0);
-          place = sym (s .1) ∙ ap (number rows r) z;
+          stored = subst (PrefixStored rows r) z (s .0);
+          place = sym (s .1) ∙ ap (rankOf rows r) z;
         }
 
     pub walking-left : p .there ≡ false → PathOf a rows r (record { depth = d; interval = i; at = p .at })

@@ -1,4 +1,4 @@
--- A layer that gains a key, the pool and the header with that layer, and where a key goes in its group.
+-- Internal: a layer that gains a key, the pool and the header with that layer, and where a key goes in its group.
 use Prim.Native.Nat.{ℕ, suc, _+_, _-_, _≤_, _<_}
 use mathlib.Core.Path.{_≡_}
 use mathlib.Core.Bool.{Bool, true, false}
@@ -7,13 +7,14 @@ use lib.ListN.{length, take, drop, getD, set}
 use Rattle.relation.specs.Order.{Row, pick}
 use Rattle.relation.specs.Rows.{put}
 use Rattle.relation.specs.Layers.{Layer, layersOf}
-use Rattle.relation.proofs.Insert.{Stored, number}
+use Rattle.relation.proofs.Insert.{PrefixStored, rankOf}
 use Rattle.seek.specs.Probes.{digits}
+use Rattle.column_trie.specs.Groups.{groupFrom, groupTo}
 use Rattle.column_trie.specs.Pool.{lay, store, spot}
-use Rattle.column_trie.specs.Table.{dataLen, intervalLen, rowsIn, tableOf, headerSound, undamaged}
+use Rattle.column_trie.specs.Table.{relengthed, dataLen, intervalLen, rowsIn, tableOf, headerSound, undamaged}
 use Rattle.column_trie.specs.declared.ColumnTrie.{ColumnTrie}
-use Rattle.column_trie_insert.specs.Shift.{SmallFrom}
-use Rattle.column_trie_insert.specs.declared.Place.{Place}
+use Rattle.wedge.specs.Shift.{SmallFrom}
+use Rattle.column_trie_insert.specs.declared.KeyPlace.{KeyPlace}
 use Rattle.column_trie_insert.specs.declared.Path.{Path}
 
 -- a key more at place `at` of the data. Under a parent that was there, i, the later groups start one further on; a new parent i has a new interval,
@@ -32,15 +33,7 @@ abbrev pub relaid : List ℕ → ColumnTrie → ℕ → Layer → List ℕ
 relaid pool t d l = lay (lay pool (spot (t .start) (t .capacity) d) (l .keys)) (spot (t .start) (t .capacity) d + t .capacity) (l .intervals)
 
 abbrev pub resized : ColumnTrie → ℕ → Layer → ColumnTrie
-resized t d l =
-    record {
-      start = t .start;
-      arity = t .arity;
-      capacity = t .capacity;
-      «data_len» = set (t .«data_len») d (length (l .keys));
-      «interval_len» = set (t .«interval_len») d (length (l .intervals));
-      «tuple_count» = t .«tuple_count»;
-    }
+resized t d l = relengthed t (set (t .«data_len») d (length (l .keys))) (set (t .«interval_len») d (length (l .intervals))) (t .«tuple_count»)
 
 pub record Added (pool pool′ : List ℕ) (t : ColumnTrie) (d : ℕ) (l : Layer) (r : ColumnTrie) : Type 0 where
   pub words : pool′ ≡ relaid pool t d l
@@ -56,13 +49,7 @@ pub record Roomy (pool : List ℕ) (t : ColumnTrie) (d i at : ℕ) (fresh : Bool
   pub new : fresh ≡ true → (i ≤ intervalLen t d) × (intervalLen t d < t .capacity)
   pub small : SmallFrom (spot (t .start) (t .capacity) d + t .capacity) (spot (t .start) (t .capacity) d + t .capacity + intervalLen t d) pool
 
--- the group of interval i lies in the layer's data, and ascends strictly
-abbrev pub groupFrom : Layer → ℕ → ℕ
-groupFrom l i = getD (l .intervals) i 0
-
-abbrev pub groupTo : Layer → ℕ → ℕ
-groupTo l i = getD (l .intervals) (suc i) (length (l .keys))
-
+-- the group of interval i lies in the layer's data, and its keys don't fall
 pub record Grouped (l : Layer) (i : ℕ) : Type 0 where
   pub there : i < length (l .intervals)
   pub from : groupFrom l i ≤ groupTo l i
@@ -70,7 +57,7 @@ pub record Grouped (l : Layer) (i : ℕ) : Type 0 where
   pub rises : (j k : ℕ) → groupFrom l i ≤ j → j ≤ k → k < groupTo l i → getD (l .keys) j 0 ≤ getD (l .keys) k 0
 
 -- where a key stands in its group, or where it goes, and that few keys were looked at
-pub record PlaceOf (l : Layer) (i key : ℕ) (p : Place) : Type 0 where
+pub record KeyPlaceOf (l : Layer) (i key : ℕ) (p : KeyPlace) : Type 0 where
   pub from : groupFrom l i ≤ p .at
   pub to : p .at ≤ groupTo l i
   pub below : (j : ℕ) → groupFrom l i ≤ j → j < p .at → getD (l .keys) j 0 < key
@@ -81,10 +68,10 @@ pub record PlaceOf (l : Layer) (i key : ℕ) (p : Place) : Type 0 where
 -- how many of the tuple's leading keys are stored, the place of the last of them, and the place of the next, which isn't
 pub record PathOf (a : ℕ) (rows : List Row) (r : Row) (p : Path) : Type 0 where
   pub depth : p .depth ≤ a
-  pub stored : Stored rows r (p .depth)
-  pub interval : p .interval ≡ number rows r (p .depth)
-  pub leaves : p .depth < a → Stored rows r (suc (p .depth)) → ⊥
-  pub place : p .depth < a → p .at ≡ number rows r (suc (p .depth))
+  pub stored : PrefixStored rows r (p .depth)
+  pub interval : p .interval ≡ rankOf rows r (p .depth)
+  pub leaves : p .depth < a → PrefixStored rows r (suc (p .depth)) → ⊥
+  pub place : p .depth < a → p .at ≡ rankOf rows r (suc (p .depth))
 
 -- the table has room for a tuple that it lacks, and the path leads to where it leaves the stored rows; in a table without rows, to the top
 pub record Addable (pool : List ℕ) (t : ColumnTrie) (tuple : Row) (p : Path) : Type 0 where

@@ -1,4 +1,4 @@
--- What an insert leaves, for every pool, header and tuple.
+-- Public: what an insert leaves, for every pool, header and tuple.
 use Prim.Native.Nat.{ℕ}
 use mathlib.Core.Path.{_≡_}
 use mathlib.Core.Bool.{Bool, false, not, _&&_, _||_}

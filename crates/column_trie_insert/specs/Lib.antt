@@ -1,3 +1,2 @@
-pub mod Shift
 pub mod Grow
 pub mod Insert

@@ -1,69 +1,24 @@
 // Inserts a row into a table in the pool: the port of `insert` of kermit-ds/src/ds/column_trie/implementation.rs of the Rust.
 //
 // The public call is `insert`. Its answer, the header and every word of the pool are those that specs/Insert.antt gives, for any pool, header and
-// tuple: nothing is asked of them. An accepted tuple leaves the layers that a build over the old rows and the new one leaves (proofs/Laws.antt). The
-// Rust's `Vec::insert` is a shift inside the layer's room.
+// tuple: nothing is asked of them. An accepted tuple leaves the layers that a build over the old rows and the new one leaves (crate insert_laws). The
+// Rust's `Vec::insert` is a shift inside the layer's room (crate wedge).
 ghost use mathlib.Core.Path.{_≡_};
 ghost use mathlib.Core.Bool.{true, false};
-ghost use mathlib.Core.List.{_∷_, _++_, map};
-ghost use Prim.Native.Nat.{suc, _+_, _-_, _≤_, _<_};
-ghost use lib.ListN.{length, take, drop, getD};
-ghost use Rattle.column_trie.specs.Pool.{lay};
-ghost use Rattle.column_trie.specs.Table.{dataLen, layerIn, rowsIn, headerSound, undamaged};
-ghost use Rattle.column_trie_insert.specs.Shift.{SmallFrom};
-ghost use Rattle.column_trie_insert.specs.Grow.{grown, Roomy, Added, Grouped, PlaceOf, PathOf, Addable, RowAdded};
+ghost use Prim.Native.Nat.{_<_};
+ghost use lib.ListN.{length};
+ghost use Rattle.column_trie.specs.Table.{layerIn, rowsIn, headerSound, undamaged};
+ghost use Rattle.column_trie_insert.specs.Grow.{grown, Roomy, Added, Grouped, KeyPlaceOf, PathOf, Addable, RowAdded};
 ghost use Rattle.column_trie_insert.specs.Insert.{Inserts};
 use column_trie::ColumnTrie;
+use column_trie::begins;
 use column_trie::layer_at;
 use column_trie::undamaged;
 use seek::SeekStrategy;
 use seek::partition_point;
-
-// The words move one up, the last one out, and `word` goes to the front. Over a slice of its own, the loop is compiled to a move of the whole
-// block.
-fn shift_in(words: &mut [u64], word: u64)
-    requires { ⌜ 0 < length (now words) ⌝ }
-    ensures { λ r. ⌜ now (words .exit) ≡ word ∷ take (length (now (words .entry)) - 1) (now (words .entry)) ⌝ }
-{
-    let mut i = words.len() - 1;
-    while 0 < i {
-        words[i] = words[i - 1];
-        i -= 1;
-    }
-    words[0] = word;
-}
-
-// Puts `word` at place `at` of the n words from `base` on: those from `at` on move one up.
-fn wedge(pool: &mut [u64], base: usize, at: usize, n: usize, word: u64)
-    requires { ⌜ (at ≤ n) × (base + n < length (now pool)) ⌝ }
-    ensures { λ r. ⌜ now (pool .exit) ≡ lay (now (pool .entry)) base (take at (take n (drop base (now (pool .entry)))) ++ word ∷ drop at (take n (drop base (now (pool .entry))))) ⌝ }
-{
-    let from = base + at;
-    let end = base + n + 1;
-    shift_in(&mut pool[from..end], word);
-}
-
-// Each of the n words from `base` on becomes one more from place `from` on.
-fn raise(pool: &mut [u64], base: usize, from: usize, n: usize)
-    requires { ⌜ (from ≤ n) × (base + n ≤ length (now pool)) × SmallFrom (base + from) (base + n) (now pool) ⌝ }
-    ensures { λ r. ⌜ now (pool .exit) ≡ lay (now (pool .entry)) base (take from (take n (drop base (now (pool .entry)))) ++ map suc (drop from (take n (drop base (now (pool .entry)))))) ⌝ }
-{
-    let end = base + n;
-    let mut i = base + from;
-    while i < end {
-        pool[i] = pool[i] + 1;
-        i += 1;
-    }
-}
-
-// As `wedge`, and each word that moves becomes one more.
-fn wedge_raised(pool: &mut [u64], base: usize, at: usize, n: usize, word: u64)
-    requires { ⌜ (at ≤ n) × (base + n < length (now pool)) × SmallFrom (base + at) (base + n) (now pool) ⌝ }
-    ensures { λ r. ⌜ now (pool .exit) ≡ lay (now (pool .entry)) base (take at (take n (drop base (now (pool .entry)))) ++ word ∷ map suc (drop at (take n (drop base (now (pool .entry)))))) ⌝ }
-{
-    wedge(pool, base, at, n, word);
-    raise(pool, base, at + 1, n + 1);
-}
+use wedge::raise;
+use wedge::wedge;
+use wedge::wedge_raised;
 
 // Puts `key` at place `at` of layer d, under parent i, which has its interval already unless it is `fresh`. The header comes back with the lengths.
 fn add_layer(
@@ -94,23 +49,9 @@ fn add_layer(
     out
 }
 
-// Where the children of a new interval i start: where those of the interval that stood there did, or behind all keys.
-fn begins(pool: &[u64], t: ColumnTrie, d: usize, i: usize) -> usize
-    requires { ⌜ (headerSound (length (now pool)) t ≡ true) × (d < t .arity) ⌝ }
-    ensures { λ r. ⌜ r ≡ getD (layerIn (now (pool .entry)) t d .intervals) i (dataLen t d) ⌝ }
-{
-    let keys = t.data_len[d];
-    let intervals = t.interval_len[d];
-    if intervals <= i {
-        return keys;
-    }
-    let from = layer_at(t, d) + t.capacity + i;
-    pool[from] as usize
-}
-
 // Where a key stands in its group, or where it goes, and how many keys the search looked at. Nobody asks for that number: it is there so that the
 // contract can bound it.
-struct Place {
+struct KeyPlace {
     at: usize,
     there: bool,
     probes: usize,
@@ -125,9 +66,9 @@ struct Path {
 
 // Where `key` stands in the group of interval i of layer d, or where it goes. A group can be as long as the table, so it is searched by halving: no
 // more keys are looked at than the group's length has binary digits.
-fn find_place(pool: &[u64], t: ColumnTrie, d: usize, i: usize, key: u64) -> Place
+fn find_place(pool: &[u64], t: ColumnTrie, d: usize, i: usize, key: u64) -> KeyPlace
     requires { ⌜ (headerSound (length (now pool)) t ≡ true) × (d < t .arity) × Grouped (layerIn (now pool) t d) i ⌝ }
-    ensures { λ r. ⌜ PlaceOf (layerIn (now (pool .entry)) t d) i key r ⌝ }
+    ensures { λ r. ⌜ KeyPlaceOf (layerIn (now (pool .entry)) t d) i key r ⌝ }
 {
     let from = begins(pool, t, d, i);
     let to = begins(pool, t, d, i + 1);
@@ -138,13 +79,13 @@ fn find_place(pool: &[u64], t: ColumnTrie, d: usize, i: usize, key: u64) -> Plac
     let sought = partition_point(SeekStrategy::Binary, run, key);
     let offset = sought.offset;
     if offset < run.len() {
-        return Place {
+        return KeyPlace {
             at: from + offset,
             there: run[offset] == key,
             probes: sought.probes,
         };
     }
-    Place {
+    KeyPlace {
         at: to,
         there: false,
         probes: sought.probes,

@@ -8,17 +8,19 @@ use native.Mathlib.Numerals.{add-one}
 use lib.ListN.{length, getD, take, drop}
 use lib.Dec.{ltb, leb, eqb}
 use borrow.Author.Tests.{leb-true, leb-false, ne-eqb}
+use Rattle.relation.specs.Lists.{nonempty}
 use Rattle.seek.specs.Seek.{seekOf}
 use Rattle.seek.specs.declared.Sought.{Sought}
 use Rattle.seek.specs.declared.SeekStrategy.{SeekStrategy}
 use Rattle.column_trie.specs.declared.ColumnTrie.{ColumnTrie}
 use Rattle.column_trie.proofs.Header.{length-part}
-use Rattle.column_trie_iter.specs.Cursor.{past, noKey, keyIn, keyOf, unmoved, nextIn, nextOf, some, unsought, seekIn, soughtOf, noEnd, endIn, endOf, remaining}
-use Rattle.column_trie_iter.specs.Inside.{Placed}
-use Rattle.column_trie_iter.specs.declared.ColumnTrieIter.{ColumnTrieIter}
-use Rattle.column_trie_iter.specs.declared.Place.{Place}
-use Rattle.column_trie_iter.proofs.Rests.{refuses, part-none, part-more, by-rest, nothing, something}
-use Rattle.column_trie_iter.proofs.Seeks.{seek-within, some-drop}
+use Rattle.column_trie_place.specs.Checks.{past, remaining}
+use Rattle.column_trie_iter.specs.Cursor.{noKey, keyIn, keyOf, unmoved, nextIn, nextOf, unsought, seekIn, soughtOf, noEnd, endIn, endOf}
+use Rattle.column_trie_place.specs.Inside.{Placed}
+use Rattle.column_trie_place.specs.declared.ColumnTrieIter.{ColumnTrieIter}
+use Rattle.column_trie_place.specs.declared.Place.{Place}
+use Rattle.column_trie_place.proofs.Rests.{refuses, part-none, part-more, by-rest, nothing, something}
+use Rattle.column_trie_iter.proofs.Seeks.{seek-within, nonempty-drop}
 
 module _ {pool : List ℕ} {t : ColumnTrie} {it : ColumnTrieIter} {p : Place} (w : Placed pool t it p) where
   pub key-none : p .end ≤ p .at → noKey (p .number) ≡ keyOf pool t it
@@ -60,8 +62,8 @@ module _ {pool : List ℕ} {t : ColumnTrie} {it : ColumnTrieIter} {p : Place} (w
         → record { number = 0; found = ltb (x .offset) n; probes = x .probes; iter = it′ } ≡ seekIn s target it run
     searched [] e h q i = absurd (omega arith)
     searched (k ∷ ks) {n} e h {x} q {it′} i =
-        let f : ltb (x .offset) n ≡ some (drop (seekOf s (k ∷ ks) target .offset) (k ∷ ks)) =
-        ap (ltb (x .offset)) (sym e) ∙ some-drop (k ∷ ks) (x .offset) ∙ ap (λ (y : Sought). some (drop (y .offset) (k ∷ ks))) q in
+        let f : ltb (x .offset) n ≡ nonempty (drop (seekOf s (k ∷ ks) target .offset) (k ∷ ks)) =
+        ap (ltb (x .offset)) (sym e) ∙ nonempty-drop (k ∷ ks) (x .offset) ∙ ap (λ (y : Sought). nonempty (drop (y .offset) (k ∷ ks))) q in
         let j : it′ ≡ past it (seekOf s (k ∷ ks) target .offset) = i ∙ ap (λ (y : Sought). past it (y .offset)) q in
         let r : x .probes ≡ seekOf s (k ∷ ks) target .probes = ap (λ (y : Sought). y .probes) q in
         cc

@@ -7,26 +7,29 @@ use native.Mathlib.Omega.{arith}
 use lib.ListN.{length, take, drop}
 use lib.Dec.{ltb, eqb}
 use borrow.Author.Tests.{ltb-true, ltb-false, lt-ltb, eqb-true}
+use Rattle.relation.specs.Lists.{nonempty}
 use Rattle.relation.specs.Order.{pick}
 use Rattle.relation.proofs.Tests.{and-left}
+use Rattle.column_trie.specs.Groups.{lies}
 use Rattle.column_trie.specs.Table.{layerIn, headerSound}
 use Rattle.column_trie.specs.declared.ColumnTrie.{ColumnTrie}
 use Rattle.column_trie.proofs.Header.{layer-fits, header-told}
-use Rattle.column_trie_iter.specs.Cursor.{cursor, refusal, remaining, some, lies, opens, child, openAt, unopened, openOf}
-use Rattle.column_trie_iter.specs.Inside.{Placed, hasChildren}
-use Rattle.column_trie_iter.specs.declared.ColumnTrieIter.{ColumnTrieIter}
-use Rattle.column_trie_iter.specs.declared.Place.{Place}
-use Rattle.column_trie_iter.proofs.Groups.{keys-long}
-use Rattle.column_trie_iter.proofs.Places.{unrefused}
-use Rattle.column_trie_iter.proofs.Rests.{refuses, answers, part-none, part-more}
+use Rattle.column_trie_place.specs.Checks.{cursor, refusal, remaining, child}
+use Rattle.column_trie_iter.specs.Cursor.{opens, openAt, unopened, openOf}
+use Rattle.column_trie_place.specs.Inside.{Placed, hasChildren}
+use Rattle.column_trie_place.specs.declared.ColumnTrieIter.{ColumnTrieIter}
+use Rattle.column_trie_place.specs.declared.Place.{Place}
+use Rattle.column_trie.proofs.Groups.{keys-long}
+use Rattle.column_trie_place.proofs.Places.{unrefused}
+use Rattle.column_trie_place.proofs.Rests.{refuses, answers, part-none, part-more}
 
 -- keys are left from at to end exactly if at is before end
-some-part : (pool : List ℕ) (at end : ℕ) → end ≤ length pool → ltb at end ≡ some (take (end - at) (drop at pool))
-some-part pool at end h = go (ltb at end) refl
+nonempty-part : (pool : List ℕ) (at end : ℕ) → end ≤ length pool → ltb at end ≡ nonempty (take (end - at) (drop at pool))
+nonempty-part pool at end h = go (ltb at end) refl
   where
-    go : (b : Bool) → ltb at end ≡ b → ltb at end ≡ some (take (end - at) (drop at pool))
-    go true e = e ∙ ap some (sym (part-more pool at end (ltb-true at end e) h))
-    go false e = e ∙ ap some (sym (part-none pool at end (ltb-false at end e)))
+    go : (b : Bool) → ltb at end ≡ b → ltb at end ≡ nonempty (take (end - at) (drop at pool))
+    go true e = e ∙ ap nonempty (sym (part-more pool at end (ltb-true at end e) h))
+    go false e = e ∙ ap nonempty (sym (part-none pool at end (ltb-false at end e)))
 
 module _ {pool : List ℕ} {t : ColumnTrie} {it : ColumnTrieIter} {p : Place} (w : Placed pool t it p) where
   pub open-refused : (p .number ≡ 0 → ⊥) → unopened it (p .number) ≡ openOf pool t it
@@ -49,9 +52,9 @@ module _ {pool : List ℕ} {t : ColumnTrie} {it : ColumnTrieIter} {p : Place} (w
         go true e =
             let d = eqb-true (it .depth) 0 e in
             let h = header-told (length pool) t header-fine in
-            simp (e, lt-ltb (it .depth) (t .arity) (omega (arith, h .some)), keys-long pool (layer-fits {d = 0} h (h .some)))
+            simp (e, lt-ltb (it .depth) (t .arity) (omega (arith, h .positive)), keys-long pool (layer-fits {d = 0} h (h .positive)))
         go false e =
-            simp e (ap (λ (b : Bool). ltb (it .depth) (t .arity) && b) (some-part pool (p .at) (p .end) (w .inside) ∙ ap some (w .rest z)))
+            simp e (ap (λ (b : Bool). ltb (it .depth) (t .arity) && b) (nonempty-part pool (p .at) (p .end) (w .inside) ∙ ap nonempty (w .rest z)))
 
     open-is : openOf pool t it ≡ pick (hasChildren t (it .depth) (p .at) (p .end)) (openAt pool t it (p .index)) (unopened it 0)
     unfolding openOf
@@ -69,7 +72,7 @@ module _ {pool : List ℕ} {t : ColumnTrie} {it : ColumnTrieIter} {p : Place} (w
       unfolding opens
       deeper =
           ltb-true (it .depth) (t .arity)
-          (and-left (ltb (it .depth) (t .arity)) (pick (eqb (it .depth) 0) (ltb 0 (length (layerIn pool t 0 .keys))) (some (remaining pool t it))) (sym opens-is ∙ e))
+          (and-left (ltb (it .depth) (t .arity)) (pick (eqb (it .depth) 0) (ltb 0 (length (layerIn pool t 0 .keys))) (nonempty (remaining pool t it))) (sym opens-is ∙ e))
 
       opening : openAt pool t it (p .index) ≡ openOf pool t it
       opening = sym (open-is ∙ ap (λ (b : Bool). pick b (openAt pool t it (p .index)) (unopened it 0)) e)

@@ -1,81 +1,60 @@
--- The answers of up from below depth 1. The halving rule's last counted interval is not above the index, on any list: what it has passed last
--- was below its target. So the offset in the owner's group never falls below 0.
-use Prim.Native.Nat.{ℕ, _+_, _-_, _≤_, _<_}
-use mathlib.Core.Path.{_≡_, sym, ap, _∙_}
-use mathlib.Core.Bool.{Bool, true, false, _&&_}
+-- The answers of up: at the root, to the root, and from below depth 1 by the owner of the cursor's interval index in the layer above.
+use Prim.Native.Nat.{ℕ, _-_, _<_}
+use mathlib.Core.Path.{_≡_, refl, sym, ap, _∙_}
+use mathlib.Core.Bool.{Bool, true, false}
 use mathlib.Core.List.{List}
 use native.Mathlib.Omega.{arith}
-use lib.ListN.{length, getD}
-use lib.Dec.{ltb, leb, eqb}
-use borrow.Author.Tests.{lt-ltb, le-ltb, le-leb, eq-eqb, ne-eqb}
+use lib.ListN.{length}
+use lib.Dec.{eqb}
+use borrow.Author.Tests.{eq-eqb, ne-eqb}
 use Rattle.relation.specs.Order.{pick}
 use Rattle.relation.specs.Layers.{Layer}
-use Rattle.relation.proofs.Tests.{and-true}
-use Rattle.column_trie.specs.Table.{layerIn}
+use Rattle.column_trie.specs.Groups.{groupTo, lies}
+use Rattle.column_trie.specs.Table.{layerIn, headerSound}
 use Rattle.column_trie.specs.declared.ColumnTrie.{ColumnTrie}
 use Rattle.column_trie.proofs.Header.{layer-fits, header-told}
-use Rattle.seek.specs.Seek.{midOf}
-use Rattle.seek.proofs.HalvingLaws.{keeps}
-use Rattle.column_trie_iter.specs.Cursor.{groupFrom, groupTo, lies, countUpTo, owns, risenTo, ownedBy, unrisen, risesIn, upOf, fresh, refusal}
-use Rattle.column_trie_iter.specs.Inside.{Rising}
-use Rattle.column_trie_iter.specs.declared.ColumnTrieIter.{ColumnTrieIter}
+use Rattle.column_trie_place.specs.Checks.{cursor, atRoot, refusal, countUpTo, owns}
+use Rattle.column_trie_place.specs.Inside.{unowned, ownedAt, ownerOf}
+use Rattle.column_trie_place.specs.declared.ColumnTrieIter.{ColumnTrieIter}
+use Rattle.column_trie_place.specs.declared.Owner.{Owner}
+use Rattle.column_trie.proofs.Groups.{intervals-long}
+use Rattle.column_trie_place.proofs.Owners.{owner-in}
+use Rattle.column_trie_place.proofs.Places.{unrefused, standing}
+use Rattle.column_trie_place.proofs.Rests.{refuses, answers}
+use Rattle.column_trie_iter.specs.Cursor.{risenTo, unrisen, risesIn, upOf}
 use Rattle.column_trie_iter.specs.declared.UpAnswer.{UpAnswer}
-use Rattle.column_trie_iter.proofs.Groups.{intervals-long}
-use Rattle.column_trie_iter.proofs.Places.{unrefused, standing}
-use Rattle.column_trie_iter.proofs.Rests.{refuses, answers}
 
-last-counted : (ints : List ℕ) (i : ℕ) → 0 < countUpTo i ints → getD ints (countUpTo i ints - 1) 0 ≤ i
-last-counted ints i h =
-    let r = keeps ints (i + 1) (λ lo hi p. 0 < lo → getD ints (lo - 1) 0 < i + 1)
-    (λ lo hi p l k w _. ap-lt (midOf lo hi) k)
-    (λ lo hi p l k w. w)
-    (length ints - 0) 0 (length ints) 0 (omega arith) (omega arith) (λ x. absurd (omega arith)) in
-    omega (arith, r h)
-  where
-    ap-lt : (m : ℕ) → getD ints m 0 < i + 1 → getD ints (m + 1 - 1) 0 < i + 1
-    ap-lt m k = let e : m + 1 - 1 ≡ m = omega arith in rw e k
+-- what up makes of the owner that it is given
+abbrev raised : ColumnTrieIter → Owner → UpAnswer
+raised it o = pick (o .owned) (record { number = 0; risen = true; iter = cursor (it .depth - 1) (o .interval) (o .offset) }) (unrisen it 6)
 
--- what the code counts
-module _ (l : Layer) (it : ColumnTrieIter) {n : ℕ} (c : n ≡ countUpTo (it .«interval_i») (l .intervals)) where
-  pub rises-none : n ≡ 0 → unrisen it 6 ≡ risesIn l it
-  unfolding risesIn
-  rises-none z = simp (eq-eqb (countUpTo (it .«interval_i») (l .intervals)) 0 (sym c ∙ z))
+module _ (l : Layer) (it : ColumnTrieIter) where
+  by-owner : raised it (ownerOf l (it .«interval_i»)) ≡ risesIn l it
+  unfolding ownerOf risesIn
+  by-owner = go (eqb counted 0) (owns l (counted - 1) (it .«interval_i»))
+    where
+      counted : ℕ
+      counted = countUpTo (it .«interval_i») (l .intervals)
 
-  module _ (s : n ≡ 0 → ⊥) where
-    pub not-above : groupFrom l (n - 1) ≤ it .«interval_i»
-    not-above =
-        let e = last-counted (l .intervals) (it .«interval_i») (omega (arith, c, s)) in
-        rw c e
+      go : (z o : Bool) → raised it (pick z unowned (pick o (ownedAt l (it .«interval_i») (counted - 1)) unowned)) ≡ pick z (unrisen it 6) (pick o (risenTo l it (counted - 1)) (unrisen it 6))
+      go true o = refl
+      go false true = refl
+      go false false = refl
 
-    by-owner : ownedBy l it (n - 1) ≡ risesIn l it
-    unfolding risesIn
-    by-owner = ap (λ (m : ℕ). ownedBy l it (m - 1)) c ∙ sym (simp (ne-eqb (countUpTo (it .«interval_i») (l .intervals)) 0 (λ z. s (c ∙ z))))
+  module _ {o : Owner} (e : o ≡ ownerOf l (it .«interval_i»)) where
+    pub unowned-stays : o .owned ≡ false → unrisen it 6 ≡ risesIn l it
+    unowned-stays n = sym (simp n) ∙ ap (raised it) e ∙ by-owner
 
-    deny : owns l (n - 1) (it .«interval_i») ≡ false → unrisen it 6 ≡ risesIn l it
-    deny e = sym (ap (λ (b : Bool). pick b (risenTo l it (n - 1)) (unrisen it 6)) e) ∙ by-owner
+    pub owned-rises : o .owned ≡ true → record { number = 0; risen = true; iter = cursor (it .depth - 1) (o .interval) (o .offset) } ≡ risesIn l it
+    owned-rises y = sym (simp y) ∙ ap (raised it) e ∙ by-owner
 
-    pub rises-out : lies l (n - 1) ≡ false → unrisen it 6 ≡ risesIn l it
-    unfolding owns
-    rises-out e = deny (simp e)
-
-    pub rises-past : lies l (n - 1) ≡ true → groupTo l (n - 1) ≤ it .«interval_i» → unrisen it 6 ≡ risesIn l it
-    unfolding owns
-    rises-past e h = deny (simp (e, le-leb (groupFrom l (n - 1)) (it .«interval_i») not-above, le-ltb (it .«interval_i») (groupTo l (n - 1)) h))
-
-    pub rises-in : lies l (n - 1) ≡ true → it .«interval_i» < groupTo l (n - 1) → risenTo l it (n - 1) ≡ risesIn l it
-    unfolding owns
-    rises-in e h =
-        sym (
-        ap (λ (b : Bool). pick b (risenTo l it (n - 1)) (unrisen it 6))
-        (and-true (lies l (n - 1)) (leb (groupFrom l (n - 1)) (it .«interval_i») && ltb (it .«interval_i») (groupTo l (n - 1))) e
-        (and-true (leb (groupFrom l (n - 1)) (it .«interval_i»)) (ltb (it .«interval_i») (groupTo l (n - 1))) (le-leb (groupFrom l (n - 1)) (it .«interval_i») not-above) (lt-ltb (it .«interval_i») (groupTo l (n - 1)) h)))
-        ) ∙
-        by-owner
+  pub rises-in : {n : ℕ} → n ≡ countUpTo (it .«interval_i») (l .intervals) → (n ≡ 0 → ⊥) → lies l (n - 1) ≡ true → it .«interval_i» < groupTo l (n - 1) → risenTo l it (n - 1) ≡ risesIn l it
+  rises-in c s e h = ap (raised it) (owner-in l (it .«interval_i») c s e h) ∙ by-owner
 
 -- the answers of up
 module _ (pool : List ℕ) (t : ColumnTrie) (it : ColumnTrieIter) where
   abbrev moved : UpAnswer
-  moved = pick (eqb (it .depth) 0) (unrisen it 0) (pick (eqb (it .depth) 1) (record { number = 0; risen = true; iter = fresh }) (risesIn (layerIn pool t (it .depth - 2)) it))
+  moved = pick (eqb (it .depth) 0) (unrisen it 0) (pick (eqb (it .depth) 1) (record { number = 0; risen = true; iter = atRoot }) (risesIn (layerIn pool t (it .depth - 2)) it))
 
   pub up-refused : {n : ℕ} → n ≡ refusal pool t it → (n ≡ 0 → ⊥) → unrisen it n ≡ upOf pool t it
   unfolding upOf
@@ -89,7 +68,7 @@ module _ (pool : List ℕ) (t : ColumnTrie) (it : ColumnTrieIter) where
     pub up-root : it .depth ≡ 0 → unrisen it 0 ≡ upOf pool t it
     up-root e = sym (simp (eq-eqb (it .depth) 0 e)) ∙ up-is
 
-    pub up-top : it .depth ≡ 1 → {x : ColumnTrieIter} → x ≡ fresh → record { number = 0; risen = true; iter = x } ≡ upOf pool t it
+    pub up-top : it .depth ≡ 1 → {x : ColumnTrieIter} → x ≡ atRoot → record { number = 0; risen = true; iter = x } ≡ upOf pool t it
     up-top e f =
         ap (λ (y : ColumnTrieIter). record { number = 0; risen = true; iter = y }) f ∙ sym (simp (ne-eqb (it .depth) 0 (λ d. omega arith), eq-eqb (it .depth) 1 e)) ∙ up-is
 
@@ -97,9 +76,10 @@ module _ (pool : List ℕ) (t : ColumnTrie) (it : ColumnTrieIter) where
       pub up-below : risesIn (layerIn pool t (it .depth - 2)) it ≡ upOf pool t it
       up-below = sym (simp (ne-eqb (it .depth) 0 (λ e. omega arith), ne-eqb (it .depth) 1 (λ e. omega arith))) ∙ up-is
 
-      pub rising : Rising (length pool) t it
-      rising =
+      -- what owner_of asks
+      pub owner-needs : (headerSound (length pool) t ≡ true) × (it .depth - 2 < t .arity) × (it .«interval_i» < t .capacity)
+      owner-needs =
           let h = unrefused pool t it z .0 in
           let s = standing pool t it z (omega arith) in
           let f = layer-fits {d = it .depth - 1} (header-told (length pool) t h) (omega (arith, s .deep)) in
-          record { sound = h; below = d; deep = s .deep; index = omega (arith, s .listed, intervals-long pool f, f .intervals) }
+          (h, omega (arith, s .deep), omega (arith, s .listed, intervals-long pool f, f .intervals))

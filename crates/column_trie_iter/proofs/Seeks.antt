@@ -7,11 +7,11 @@ use native.Mathlib.Omega.{arith}
 use lib.ListN.{length, getD, drop}
 use lib.Dec.{ltb, leb·suc-suc}
 use borrow.Author.Tests.{ltb-true, lt-ltb, le-ltb}
+use Rattle.relation.specs.Lists.{nonempty}
 use Rattle.seek.specs.Seek.{gallops, gallopingOf, seekOf}
 use Rattle.seek.specs.declared.SeekStrategy.{SeekStrategy}
 use Rattle.seek.specs.declared.SeekStrategy.the-variants.{Linear, Binary, Galloping}
 use Rattle.seek.proofs.Laws.{halving-within, linear-leading}
-use Rattle.column_trie_iter.specs.Cursor.{some}
 
 module _ (run : List ℕ) (t : ℕ) where
   -- the halving that galloping ends with stays between half the bound and the run's end
@@ -46,11 +46,11 @@ module _ (run : List ℕ) (t : ℕ) where
   seek-within Galloping = galloping-within
 
 -- a key is left behind n others exactly if there are more than n
-pub some-drop : (l : List ℕ) (n : ℕ) → ltb n (length l) ≡ some (drop n l)
-some-drop [] n = le-ltb n 0 (omega arith) ∙ none n
+pub nonempty-drop : (l : List ℕ) (n : ℕ) → ltb n (length l) ≡ nonempty (drop n l)
+nonempty-drop [] n = le-ltb n 0 (omega arith) ∙ none n
   where
-    none : (n : ℕ) → false ≡ some (drop n [])
+    none : (n : ℕ) → false ≡ nonempty {A = ℕ} (drop n [])
     none zero = refl
     none (suc n) = refl
-some-drop (k ∷ l) zero = lt-ltb 0 (suc (length l)) (omega arith)
-some-drop (k ∷ l) (suc n) = leb·suc-suc (suc n) (length l) ∙ some-drop l n
+nonempty-drop (k ∷ l) zero = lt-ltb 0 (suc (length l)) (omega arith)
+nonempty-drop (k ∷ l) (suc n) = leb·suc-suc (suc n) (length l) ∙ nonempty-drop l n

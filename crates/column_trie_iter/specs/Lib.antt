@@ -1,4 +1,2 @@
--- Cursor has what the public calls answer; Inside what the functions that they share do; Own what their answers depend on.
+-- What the public calls answer.
 pub mod Cursor
-pub mod Inside
-pub mod Own

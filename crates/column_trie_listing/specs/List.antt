@@ -1,4 +1,4 @@
--- What a listing answers, and what it leaves in the buffer.
+-- Public: what a listing answers, and what it leaves in the buffer.
 use Prim.Native.Nat.{ℕ, _+_}
 use mathlib.Core.Path.{_≡_}
 use mathlib.Core.List.{List, _++_}

@@ -1,4 +1,4 @@
--- The text of a table, byte for byte that of the Rust's `Display`. A byte is its number in ASCII.
+-- Public: the text of a table, byte for byte that of the Rust's `Display`. A byte is its number in ASCII.
 use Prim.Native.Nat.{ℕ, zero, suc, _+_, _/_, _%_}
 use mathlib.Core.Bool.{true, false}
 use mathlib.Core.List.{List, [], _∷_, _++_}

@@ -6,10 +6,10 @@ use mathlib.Core.List.{List}
 use Prim.Native.Nat.{ℕ}
 use contract.Lifetimes.{Lfts}
 use denote.Ref.{now}
-use Rattle.column_trie_build.proofs.Determined as builds
-use Rattle.column_trie_insert.proofs.Laws as inserts
+use Rattle.build_laws.proofs.Determined as builds
+use Rattle.insert_laws.proofs.Laws as inserts
 use Rattle.column_trie_listing.proofs.Lists as lists
-use Rattle.leapfrog_triejoin.proofs.Theorems as joins
+use Rattle.leapfrog_triejoin.proofs.Determined as joins
 use Rattle.ducatbriar.proofs.ducatbriar_partition_point.Reads as partition-point-reads
 use Rattle.ducatbriar.proofs.ducatbriar_word_of.Reads as word-of-reads
 use Rattle.ducatbriar.proofs.ducatbriar_grade_of.Reads as grade-of-reads

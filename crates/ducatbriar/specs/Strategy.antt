@@ -1,4 +1,4 @@
--- The strategy that a number stands for. Nothing checks a C caller, so every word stands for one.
+-- Public: the strategy that a number stands for. Nothing checks a C caller, so every word stands for one.
 use Prim.Native.Nat.{ℕ}
 use lib.Dec.{eqb}
 use Rattle.relation.specs.Order.{pick}

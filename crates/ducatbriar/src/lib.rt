@@ -16,7 +16,6 @@ ghost use Rattle.ducatbriar.specs.Strategy.{strategyOf};
 use column_trie::ColumnTrie;
 use column_trie_build::Built;
 use column_trie_insert::Inserted;
-use column_trie_iter::ColumnTrieIter;
 use column_trie_iter::EndAnswer;
 use column_trie_iter::KeyAnswer;
 use column_trie_iter::NextAnswer;
@@ -24,9 +23,10 @@ use column_trie_iter::OpenAnswer;
 use column_trie_iter::SeekAnswer;
 use column_trie_iter::UpAnswer;
 use column_trie_listing::Listed;
+use column_trie_place::ColumnTrieIter;
+use join_query::Query;
+use join_query::Tables;
 use leapfrog_triejoin::Joined;
-use leapfrog_triejoin::Query;
-use leapfrog_triejoin::Tables;
 use seek::SeekStrategy;
 use seek::Sought;
 
@@ -112,7 +112,7 @@ pub extern "C" fn ducatbriar_list(pool: &[u64], table: ColumnTrie, text: &mut [u
 pub extern "C" fn ducatbriar_key(pool: &[u64], table: ColumnTrie, iter: ColumnTrieIter) -> KeyAnswer
     ensures { λ r. ⌜ r ≡ keyOf (now (pool .entry)) table iter ⌝ }
 {
-    iter.key(pool, table)
+    column_trie_iter::key(pool, table, iter)
 }
 
 #[no_mangle]
@@ -123,7 +123,7 @@ pub extern "C" fn ducatbriar_next(
 ) -> NextAnswer
     ensures { λ r. ⌜ r ≡ nextOf (now (pool .entry)) table iter ⌝ }
 {
-    iter.next(pool, table)
+    column_trie_iter::next(pool, table, iter)
 }
 
 #[no_mangle]
@@ -136,7 +136,7 @@ pub extern "C" fn ducatbriar_seek(
 ) -> SeekAnswer
     ensures { λ r. ⌜ r ≡ soughtOf (now (pool .entry)) table iter (strategyOf strategy) target ⌝ }
 {
-    iter.seek(pool, table, strategy_of(strategy), target)
+    column_trie_iter::seek(pool, table, iter, strategy_of(strategy), target)
 }
 
 #[no_mangle]
@@ -147,7 +147,7 @@ pub extern "C" fn ducatbriar_at_end(
 ) -> EndAnswer
     ensures { λ r. ⌜ r ≡ endOf (now (pool .entry)) table iter ⌝ }
 {
-    iter.at_end(pool, table)
+    column_trie_iter::at_end(pool, table, iter)
 }
 
 #[no_mangle]
@@ -158,14 +158,14 @@ pub extern "C" fn ducatbriar_open(
 ) -> OpenAnswer
     ensures { λ r. ⌜ r ≡ openOf (now (pool .entry)) table iter ⌝ }
 {
-    iter.open(pool, table)
+    column_trie_iter::open(pool, table, iter)
 }
 
 #[no_mangle]
 pub extern "C" fn ducatbriar_up(pool: &[u64], table: ColumnTrie, iter: ColumnTrieIter) -> UpAnswer
     ensures { λ r. ⌜ r ≡ upOf (now (pool .entry)) table iter ⌝ }
 {
-    iter.up(pool, table)
+    column_trie_iter::up(pool, table, iter)
 }
 
 #[no_mangle]

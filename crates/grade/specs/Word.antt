@@ -1,4 +1,4 @@
--- The word of a grade and the grade of a word.
+-- Public: the word of a grade and the grade of a word.
 use Prim.Native.Nat.{ℕ, suc, _+_, _-_, _^_}
 use mathlib.Core.Bool.{true, false}
 use lib.Dec.{ltb}

@@ -20,17 +20,17 @@ use Rattle.leapfrog.specs.Search.{runAt, first, placeAfter}
 use Rattle.leapfrog.proofs.Steps.{after-round, after-next, after-in, some-cons}
 
 -- the key at a place
-abbrev pub keyAt : List (List ℕ) → ℕ → ℕ
-keyAt runs j = first (runAt runs j)
+abbrev pub firstAt : List (List ℕ) → ℕ → ℕ
+firstAt runs j = first (runAt runs j)
 
 pub record Good (runs : List (List ℕ)) (p most : ℕ) : Type 0 where
   pub ascend : Runs runs
-  pub some : (j : ℕ) → j < length runs → runAt runs j ≡ [] → ⊥
-  pub round : Round (keyAt runs) (length runs) p
+  pub nonempty : (j : ℕ) → j < length runs → runAt runs j ≡ [] → ⊥
+  pub round : Round (firstAt runs) (length runs) p
   pub last : ℕ
   pub inside : last < length runs
   pub follows : placeAfter (length runs) last ≡ p
-  pub is-most : keyAt runs last ≡ most
+  pub is-most : firstAt runs last ≡ most
 
 -- ---- the ends of an ordered ring
 
@@ -69,10 +69,10 @@ module _ (runs : List (List ℕ)) (p : ℕ) (s : List ℕ) (h : p < length runs)
   other-at : (j : ℕ) → (j ≡ p → ⊥) → runAt (set runs p s) j ≡ runAt runs j
   other-at j n = getD-set-other runs p j s [] n
 
-  pub put-good : Runs (set runs p s) → (s ≡ [] → ⊥) → ((j : ℕ) → j < length runs → runAt runs j ≡ [] → ⊥) → ((j : ℕ) → j < length runs → keyAt runs j ≤ first s) → Round (keyAt runs) (length runs) p → Good (set runs p s) (placeAfter (length runs) p) (first s)
+  pub put-good : Runs (set runs p s) → (s ≡ [] → ⊥) → ((j : ℕ) → j < length runs → runAt runs j ≡ [] → ⊥) → ((j : ℕ) → j < length runs → firstAt runs j ≤ first s) → Round (firstAt runs) (length runs) p → Good (set runs p s) (placeAfter (length runs) p) (first s)
   put-good a n f m r = record {
     ascend = a;
-    some = λ j l. some-at j (omega (arith, length-set runs p s)) (ℕ-discrete j p);
+    nonempty = λ j l. some-at j (omega (arith, length-set runs p s)) (ℕ-discrete j p);
     round = rw (length-set runs p s) (put-round h (record { others = λ j l n. ap first (other-at j n); most = λ j l. rw same-at (m j l) }) r);
     last = p;
     inside = rw (length-set runs p s) h;
@@ -89,36 +89,36 @@ module _ {runs : List (List ℕ)} {p most : ℕ} (g : Good runs p most) where
   here = subst (λ (q : ℕ). q < length runs) (g .follows) (after-in (length runs) (g .last) (g .inside))
 
   pub filled : 0 < total runs
-  filled = omega (arith, total-set runs p [] here, some-length (runAt runs p) (g .some p here))
+  filled = omega (arith, total-set runs p [] here, some-length (runAt runs p) (g .nonempty p here))
     where
       some-length : (r : List ℕ) → (r ≡ [] → ⊥) → 0 < length r
       some-length r n = omega (arith, ap length (some-cons r n))
 
-  top : (j : ℕ) → j < length runs → keyAt runs j ≤ most
+  top : (j : ℕ) → j < length runs → firstAt runs j ≤ most
   top j l = omega (arith, greatest (g .round) (g .last) (g .inside) (g .follows) j l, g .is-most)
 
-  pub agreed : keyAt runs p ≡ most → Agree runs most
+  pub agreed : firstAt runs p ≡ most → Agree runs most
   agreed e j l =
-      let i : keyAt runs j ≡ most = omega (arith, least (g .round) here j l, top j l) in
-      some-cons (runAt runs j) (g .some j l) ∙ ap (λ (x : ℕ). x ∷ drop 1 (runAt runs j)) i
+      let i : firstAt runs j ≡ most = omega (arith, least (g .round) here j l, top j l) in
+      some-cons (runAt runs j) (g .nonempty j l) ∙ ap (λ (x : ℕ). x ∷ drop 1 (runAt runs j)) i
 
   -- no common key is below the greatest
   from-most : (y : ℕ) → y ∈ runAt runs (g .last) → most ≤ y
   from-most y m =
-      let e = some-cons (runAt runs (g .last)) (g .some (g .last) (g .inside)) in
+      let e = some-cons (runAt runs (g .last)) (g .nonempty (g .last) (g .inside)) in
       omega (arith, head-least (subst (Ascends _<_) e (g .ascend (g .last) (g .inside))) y (subst (λ (r : List ℕ). y ∈ r) e m), g .is-most)
 
-  module _ (apart : keyAt runs p ≡ most → ⊥) where
+  module _ (apart : firstAt runs p ≡ most → ⊥) where
     sought : List ℕ
     sought = from most (runAt runs p)
 
-    below : keyAt runs p < most
+    below : firstAt runs p < most
     below = lt-of-le-ne (top p here) apart
 
     pub falls : total (set runs p (from most (runAt runs p))) + 1 ≤ total runs
     falls =
-        let e = some-cons (runAt runs p) (g .some p here) in
-        omega (arith, total-set runs p (from most (runAt runs p)) here, ap length e, subst (λ (r : List ℕ). length (from most r) ≤ length (drop 1 (runAt runs p))) (sym e) (from-shorter most (keyAt runs p) (drop 1 (runAt runs p)) below))
+        let e = some-cons (runAt runs p) (g .nonempty p here) in
+        omega (arith, total-set runs p (from most (runAt runs p)) here, ap length e, subst (λ (r : List ℕ). length (from most r) ≤ length (drop 1 (runAt runs p))) (sym e) (from-shorter most (firstAt runs p) (drop 1 (runAt runs p)) below))
 
     pub still : meet (set runs p (from most (runAt runs p))) ≡ meet runs
     still = seek-meet runs (g .ascend) p here most (g .last) (g .inside) from-most
@@ -130,7 +130,7 @@ module _ {runs : List (List ℕ)} {p most : ℕ} (g : Good runs p most) where
     nothing e = sym still ∙ meet-none (set runs p (from most (runAt runs p))) p (rw (length-set runs p (from most (runAt runs p))) here) (getD-set-same runs p (from most (runAt runs p)) [] here ∙ e)
 
     pub good-on : (from most (runAt runs p) ≡ [] → ⊥) → Good (set runs p (from most (runAt runs p))) (placeAfter (length runs) p) (first (from most (runAt runs p)))
-    good-on n = put-good runs p (from most (runAt runs p)) here ascends n (g .some) (λ j l. omega (arith, top j l, new)) (g .round)
+    good-on n = put-good runs p (from most (runAt runs p)) here ascends n (g .nonempty) (λ j l. omega (arith, top j l, new)) (g .round)
       where
         new : most ≤ first (from most (runAt runs p))
         new = from-least most (g .ascend p here) (subst (λ (r : List ℕ). first (from most (runAt runs p)) ∈ r) (sym (some-cons (from most (runAt runs p)) n)) (hd refl))

@@ -30,7 +30,7 @@ use Rattle.query.proofs.Solved.{takes-part}
 use Rattle.leapfrog.specs.Search.{Stop, on, out, Went, none, runAt, searchOf, nextOf, sortedRuns, someNone, initOf, leftIn, EndsOn, Comes}
 use Rattle.leapfrog.specs.Walk.{Tally, counted, onwardOf, depthOf, walkOf}
 use Rattle.leapfrog.proofs.Begin.{some-none, init-none}
-use Rattle.leapfrog.proofs.Good.{keyAt}
+use Rattle.leapfrog.proofs.Good.{firstAt}
 use Rattle.leapfrog.proofs.Search.{Ring, ring-comes}
 use Rattle.leapfrog.proofs.Onward.{Agreeing, next-comes, next-keys}
 use Rattle.leapfrog.proofs.Sorting.{sorted-length, sorted-in, in-sorted, sorted-rises, rises-at}
@@ -47,7 +47,7 @@ some-none-in (r ∷ l) e = go r (λ i. some-none-in l i) e
     go [] ih e = hd refl
     go (x ∷ xs) ih e = tl (ih e)
 
-module _ (rs : List (List ℕ)) (asc : Runs rs) (some : 0 < length rs) where
+module _ (rs : List (List ℕ)) (asc : Runs rs) (nonempty : 0 < length rs) where
   abbrev ranked : List (List ℕ)
   ranked = sortedRuns rs (length rs)
 
@@ -64,14 +64,14 @@ module _ (rs : List (List ℕ)) (asc : Runs rs) (some : 0 < length rs) where
   ranked-meet =
       same-keys (meet-asc rs asc) (meet-asc ranked ranked-runs)
       (λ k m. meet-of ranked (omega (arith, sorted-length rs (length rs))) (λ j l. meet-all rs m (runAt ranked j) (ranked-at j l)))
-      (λ k m. meet-of rs some (λ j l. meet-all ranked m (runAt rs j) (in-sorted rs (length rs) j l)))
+      (λ k m. meet-of rs nonempty (λ j l. meet-all ranked m (runAt rs j) (in-sorted rs (length rs) j l)))
 
   ranked-ring : someNone rs ≡ false → Ring ranked 0
   ranked-ring e = record {
     ascend = ranked-runs;
-    some = λ j l n. absurd (false≢true (sym e ∙ some-none rs (subst (λ (r : List ℕ). r ∈ rs) n (ranked-at j l))));
+    nonempty = λ j l n. absurd (false≢true (sym e ∙ some-none rs (subst (λ (r : List ℕ). r ∈ rs) n (ranked-at j l))));
     round = record {
-      up = λ i j a b c. ⊎-elim (λ (d : i ≡ j). rw d (le-refl (keyAt ranked j))) (λ l. rises-at (sorted-rises rs (length rs)) i j l c) (eq-or-lt-of-le b);
+      up = λ i j a b c. ⊎-elim (λ (d : i ≡ j). rw d (le-refl (firstAt ranked j))) (λ l. rises-at (sorted-rises rs (length rs)) i j l c) (eq-or-lt-of-le b);
       wrapped = λ i j a b. absurd (omega arith);
       over = λ i j a b c. absurd (omega arith);
     };
@@ -102,7 +102,7 @@ from-at {x} (amore {r = y} {rs = ys} f s) m = go (λ i. from-at s i) (ltb y x) r
     go ih true q o = ⊎-elim (λ (e : x ≡ y). absurd (omega (arith, ltb-true y x q))) (λ (i : x ∈ ys). ih i) o
     go ih false q o = ⊎-elim (λ (e : x ≡ y). ap (λ (z : ℕ). z ∷ ys) (sym e)) (λ (i : x ∈ ys). absurd (omega (arith, ltb-false y x q, f x i))) o
 
-module _ (rs : List (List ℕ)) (asc : Runs rs) (some : 0 < length rs) (x : ℕ) where
+module _ (rs : List (List ℕ)) (asc : Runs rs) (nonempty : 0 < length rs) (x : ℕ) where
   cut-at : (j : ℕ) → j < length rs → runAt (map (from x) rs) j ≡ from x (runAt rs j)
   cut-at j l = at rs j l
     where
@@ -117,7 +117,7 @@ module _ (rs : List (List ℕ)) (asc : Runs rs) (some : 0 < length rs) (x : ℕ)
   cut-meet : meet (map (from x) rs) ≡ from x (meet rs)
   cut-meet =
       same-keys (meet-asc (map (from x) rs) cut-runs) (from-ascends x (meet-asc rs asc))
-      (λ k m. from-in x (meet rs) (from-least x (asc 0 some) (here k m 0 some)) (meet-of rs some (λ j l. in-from x (runAt rs j) (here k m j l))))
+      (λ k m. from-in x (meet rs) (from-least x (asc 0 nonempty) (here k m 0 nonempty)) (meet-of rs nonempty (λ j l. in-from x (runAt rs j) (here k m j l))))
       (λ k m. meet-of (map (from x) rs) (omega (arith, length-map rs (from x))) (λ j l. let h : j < length rs = omega (arith, length-map rs (from x)) in rw (cut-at j h) (from-in x (runAt rs j) (from-least x (meet-asc rs asc) m) (meet-to rs (in-from x (meet rs) m) j h))))
     where
       here : (k : ℕ) → k ∈ meet (map (from x) rs) → (j : ℕ) → j < length rs → k ∈ from x (runAt rs j)
@@ -144,24 +144,24 @@ pub record Stood (rs : List (List ℕ)) (left : List ℕ) (w : Went) : Type 0 wh
 
 -- where a call leaves it
 comes-stood : {rs start : List (List ℕ)} {left : List ℕ} {w : Went} → 0 < length start → ((x : ℕ) (l : List ℕ) → left ≡ x ∷ l → left ≡ from x (meet rs)) → Comes 0 start left w → Stood rs left w
-comes-stood {rs} {start} {left} {w} some f c = record { keys = c .keys; stands = go (w .stop) (c .ended) (c .keys) }
+comes-stood {rs} {start} {left} {w} nonempty f c = record { keys = c .keys; stands = go (w .stop) (c .ended) (c .keys) }
   where
     go : (s : Stop) → EndsOn (w .runs) (w .place) s → left ≡ leftIn (w .runs) s → AtStop s (λ (x : ℕ). Agreeing (w .runs) x (w .place) × (left ≡ from x (meet rs)))
     go (on x) g e = (record { ascend = c .ascend; agree = g; place = omega (arith, c .inside, c .size) }, f x _ (e ∙ agree-tails (w .runs) (c .ascend) (omega (arith, c .inside, c .size)) g))
     go out g e = tt
 
 stood-start : (rs : List (List ℕ)) → Runs rs → 0 < length rs → Stood rs (meet rs) (initOf rs)
-stood-start rs asc some = go (someNone rs) refl
+stood-start rs asc nonempty = go (someNone rs) refl
   where
     go : (b : Bool) → someNone rs ≡ b → Stood rs (meet rs) (initOf rs)
     go true e = rw (init-none rs (some-none-in rs e)) (record { keys = meet-nil rs (some-none-in rs e); stands = tt })
     go false e =
-        rw (init-ranked rs asc some e)
+        rw (init-ranked rs asc nonempty e)
         (comes-stood (omega (arith, sorted-length rs (length rs))) (λ x l d. sym (ap (from x) d ∙ (from-self x l ∙ sym d)))
-        (subst (λ (l : List ℕ). Comes 0 (ranked rs asc some) l (searchOf (ranked rs asc some) 0)) (sym (ranked-meet rs asc some)) (ring-comes (ranked-ring rs asc some e))))
+        (subst (λ (l : List ℕ). Comes 0 (ranked rs asc nonempty) l (searchOf (ranked rs asc nonempty) 0)) (sym (ranked-meet rs asc nonempty)) (ring-comes (ranked-ring rs asc nonempty e))))
 
 -- the step from the key x
-module _ (rs : List (List ℕ)) (asc : Runs rs) (some : 0 < length rs) {left : List ℕ} {w : Went} (st : Stood rs left w) {x : ℕ} (e : w .stop ≡ on x) where
+module _ (rs : List (List ℕ)) (asc : Runs rs) (nonempty : 0 < length rs) {left : List ℕ} {w : Went} (st : Stood rs left w) {x : ℕ} (e : w .stop ≡ on x) where
   stand : Agreeing (w .runs) x (w .place) × (left ≡ from x (meet rs))
   stand = subst (λ (s : Stop). AtStop s (λ (y : ℕ). Agreeing (w .runs) y (w .place) × (left ≡ from y (meet rs)))) e (st .stands)
 
@@ -186,13 +186,13 @@ module _ (rs : List (List ℕ)) (asc : Runs rs) (some : 0 < length rs) {left : L
   stood-next : (last : Bool) → Stood rs rest (onwardOf last rs w x)
   stood-next true = comes-stood (omega (arith, stand .0 .place)) later (next-comes (stand .0))
   stood-next false =
-      let a = cut-agreeing rs asc some x common in
+      let a = cut-agreeing rs asc nonempty x common in
       comes-stood (omega (arith, a .place)) later
-      (subst (λ (l : List ℕ). Comes 0 (map (from x) rs) l (nextOf (map (from x) rs) 0)) (sym (ap (drop 1) (sym cut-is ∙ (sym (cut-meet rs asc some x) ∙ next-keys a)))) (next-comes a))
+      (subst (λ (l : List ℕ). Comes 0 (map (from x) rs) l (nextOf (map (from x) rs) 0)) (sym (ap (drop 1) (sym cut-is ∙ (sym (cut-meet rs asc nonempty x) ∙ next-keys a)))) (next-comes a))
 
 -- ---- a depth
 
-module _ (n v : ℕ) (vs : List ℕ) (atoms : List Atom) (row : Row) (s₀ : Progress) (c : Joinable (v ∷ vs) atoms) (below : ℕ → Tally → Tally) (f : (k : ℕ) (t : Tally) → Joinable vs (map (bind v k) atoms) → Descends n vs (map (bind v k) atoms) (set row v k) (t .progress) (below k t .progress)) (last : Bool) (asc : Runs (runs v atoms)) (some : 0 < length (runs v atoms)) where
+module _ (n v : ℕ) (vs : List ℕ) (atoms : List Atom) (row : Row) (s₀ : Progress) (c : Joinable (v ∷ vs) atoms) (below : ℕ → Tally → Tally) (f : (k : ℕ) (t : Tally) → Joinable vs (map (bind v k) atoms) → Descends n vs (map (bind v k) atoms) (set row v k) (t .progress) (below k t .progress)) (last : Bool) (asc : Runs (runs v atoms)) (nonempty : 0 < length (runs v atoms)) where
   abbrev Law : ℕ → Type 0
   Law fuel = (w : Went) (s : Tally) (left : List ℕ) → length left < fuel → Stood (runs v atoms) left w → ToGo n v vs atoms row s₀ left (s .progress) → Descends n (v ∷ vs) atoms row s₀ (depthOf below last (runs v atoms) fuel w s .progress)
 
@@ -202,13 +202,13 @@ module _ (n v : ℕ) (vs : List ℕ) (atoms : List Atom) (row : Row) (s₀ : Pro
     where
       found : Law fuel → (x : ℕ) → w .stop ≡ on x → (b : Bool) → below x (counted (w .seeks) s) .progress .full ≡ b → Descends n (v ∷ vs) atoms row s₀ (depthOf below last (runs v atoms) (suc fuel) w s .progress)
       found ih x e b q =
-          let i′ = to-go-same n v vs atoms row s₀ (left-is (runs v atoms) asc some st e) i in
+          let i′ = to-go-same n v vs atoms row s₀ (left-is (runs v atoms) asc nonempty st e) i in
           let j = to-go-key n v vs atoms row s₀ i′ (f x (counted (w .seeks) s) (to-go-joinable n v vs atoms row s₀ c i′)) in
           by b q j
         where
-          by : (b : Bool) → below x (counted (w .seeks) s) .progress .full ≡ b → ToGo n v vs atoms row s₀ (rest (runs v atoms) asc some st e) (below x (counted (w .seeks) s) .progress) → Descends n (v ∷ vs) atoms row s₀ (depthOf below last (runs v atoms) (suc fuel) w s .progress)
+          by : (b : Bool) → below x (counted (w .seeks) s) .progress .full ≡ b → ToGo n v vs atoms row s₀ (rest (runs v atoms) asc nonempty st e) (below x (counted (w .seeks) s) .progress) → Descends n (v ∷ vs) atoms row s₀ (depthOf below last (runs v atoms) (suc fuel) w s .progress)
           by true q j = rw (depth-full below last (runs v atoms) fuel w s e q) (to-go-full n v vs atoms row s₀ j q)
-          by false q j = rw (depth-on below last (runs v atoms) fuel w s e q) (ih (onwardOf last (runs v atoms) w x) (below x (counted (w .seeks) s)) (rest (runs v atoms) asc some st e) (omega (arith, ap length (left-is (runs v atoms) asc some st e))) (stood-next (runs v atoms) asc some st e last) j)
+          by false q j = rw (depth-on below last (runs v atoms) fuel w s e q) (ih (onwardOf last (runs v atoms) w x) (below x (counted (w .seeks) s)) (rest (runs v atoms) asc nonempty st e) (omega (arith, ap length (left-is (runs v atoms) asc nonempty st e))) (stood-next (runs v atoms) asc nonempty st e last) j)
 
       go : Law fuel → (t : Stop) → w .stop ≡ t → Descends n (v ∷ vs) atoms row s₀ (depthOf below last (runs v atoms) (suc fuel) w s .progress)
       go ih out e = rw (depth-out below last (runs v atoms) fuel w s e) (to-go-none n v vs atoms row s₀ (to-go-same n v vs atoms row s₀ (st .keys ∙ ap (leftIn (w .runs)) e) i))
@@ -245,9 +245,9 @@ walk-lists n [] atoms row s c = rw (walk-leaf n atoms row s) (leaf n atoms row (
 walk-lists n (v ∷ vs) atoms row s c =
     let t = takes-part v vs atoms c in
     let asc = runs-ascend v atoms (λ a m q. keys-ascend [] (c .partway a m .wide) (headed-some v (a .vars) q)) in
-    let some = runs-some v (t .1) (t .2) in
+    let nonempty = runs-some v (t .1) (t .2) in
     rw (walk-depth n v vs atoms row s)
-    (depth-lists n v vs atoms row (s .progress) c (belowOf n v vs atoms row) (λ k u j. walk-lists n vs (map (bind v k) atoms) (set row v k) u j) (none vs) asc some (suc (total (runs v atoms))) (initOf (runs v atoms)) s (meet (runs v atoms)) (omega (arith, meet-few (runs v atoms))) (stood-start (runs v atoms) asc some) (to-go-start n v vs atoms row (s .progress)))
+    (depth-lists n v vs atoms row (s .progress) c (belowOf n v vs atoms row) (λ k u j. walk-lists n vs (map (bind v k) atoms) (set row v k) u j) (none vs) asc nonempty (suc (total (runs v atoms))) (initOf (runs v atoms)) s (meet (runs v atoms)) (omega (arith, meet-few (runs v atoms))) (stood-start (runs v atoms) asc nonempty) (to-go-start n v vs atoms row (s .progress)))
 
 -- the window that the definition's walk leaves is the listing's, for every query that passes the checks
 pub the-walk-writes-the-listing : {n : ℕ} {order : List ℕ} {atoms : List Atom} → Passes n order atoms → (w : List ℕ) → walkOf n order atoms (replicate n 0) (record { progress = begin w; seeks = 0 }) .progress ≡ windowed w n (listing n order atoms)

@@ -15,11 +15,11 @@ use Rattle.query.specs.Ring.{Round}
 use Rattle.query.proofs.Leap.{total-set, meet-none, agree-meet, agree-all}
 use Rattle.leapfrog.specs.Search.{Went, out, runAt, first, placeAfter, more, stopped, searchOf, goOn, nextOf, seekTo, Comes}
 use Rattle.leapfrog.proofs.Steps.{none-not, none-is, some-cons, cons-some}
-use Rattle.leapfrog.proofs.Good.{keyAt, Good, here, put-good}
+use Rattle.leapfrog.proofs.Good.{firstAt, Good, here, put-good}
 use Rattle.leapfrog.proofs.Search.{Ring, dec-nil, from-end, out-comes, comes-on, ring-comes}
 
 pub good-ring : {runs : List (List ℕ)} {p most : ℕ} → Good runs p most → Ring runs p
-good-ring g = record { ascend = g .ascend; some = g .some; round = g .round; place = here g }
+good-ring g = record { ascend = g .ascend; nonempty = g .nonempty; round = g .round; place = here g }
 
 -- every run ascends and begins with x
 pub record Agreeing (runs : List (List ℕ)) (x p : ℕ) : Type 0 where
@@ -54,10 +54,10 @@ comes-past : (runs : List (List ℕ)) (p : ℕ) (s : List ℕ) (d : ℕ) {common
 comes-past runs p s d {common} {w} h e t c = subst (Comes 0 runs common) (more-none w) (comes-on 0 d h e refl (omega arith) c)
 
 module _ {runs : List (List ℕ)} {x p : ℕ} (g : Agreeing runs x p) where
-  keys : (j : ℕ) → j < length runs → keyAt runs j ≡ x
+  keys : (j : ℕ) → j < length runs → firstAt runs j ≡ x
   keys j l = ap first (g .agree j l)
 
-  agreeing-round : Round (keyAt runs) (length runs) p
+  agreeing-round : Round (firstAt runs) (length runs) p
   agreeing-round = record {
     up = λ i j a b c. omega (arith, keys i (omega arith), keys j c);
     wrapped = λ i j a b. omega (arith, keys i (omega (arith, g .place)), keys j (omega (arith, g .place)));

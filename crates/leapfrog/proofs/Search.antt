@@ -15,7 +15,7 @@ use Rattle.query.specs.Meet.{meet, total, Runs}
 use Rattle.query.specs.Ring.{Round}
 use Rattle.leapfrog.specs.Search.{on, out, Went, runAt, placeBefore, more, stopped, searchFrom, searchOf, Comes}
 use Rattle.leapfrog.proofs.Steps.{step-found, step-out, step-on, after-before, before-in}
-use Rattle.leapfrog.proofs.Good.{keyAt, Good}
+use Rattle.leapfrog.proofs.Good.{firstAt, Good}
 use Rattle.leapfrog.proofs.Good as good
 
 -- ---- a seek leaves an end of its run
@@ -53,7 +53,7 @@ comes-on {runs} {p} {s} {w = w} n d h e k t c = record {
 
 -- ---- the search
 
-found-comes : {runs : List (List ℕ)} {p most : ℕ} → Good runs p most → keyAt runs p ≡ most → Comes 0 runs (meet runs) (stopped runs p (on most))
+found-comes : {runs : List (List ℕ)} {p most : ℕ} → Good runs p most → firstAt runs p ≡ most → Comes 0 runs (meet runs) (stopped runs p (on most))
 found-comes g e = record {
   size = refl;
   inside = good.here g;
@@ -88,9 +88,9 @@ Same f f′ = (rs : List (List ℕ)) (q m : ℕ) → total rs ≤ f → total rs
 
 pub search-comes : (fuel : ℕ) {runs : List (List ℕ)} {p most : ℕ} → total runs ≤ fuel → Good runs p most → Comes 0 runs (meet runs) (searchFrom fuel runs p most)
 search-comes zero h g = absurd (omega (arith, good.filled g))
-search-comes (suc fuel) {runs} {p} {most} h g = go (λ rs q m a b. search-comes fuel a b) (ℕ-discrete (keyAt runs p) most)
+search-comes (suc fuel) {runs} {p} {most} h g = go (λ rs q m a b. search-comes fuel a b) (ℕ-discrete (firstAt runs p) most)
   where
-    sought : Hyp fuel → (keyAt runs p ≡ most → ⊥) → Dec (from most (runAt runs p) ≡ []) → Comes 0 runs (meet runs) (searchFrom (suc fuel) runs p most)
+    sought : Hyp fuel → (firstAt runs p ≡ most → ⊥) → Dec (from most (runAt runs p) ≡ []) → Comes 0 runs (meet runs) (searchFrom (suc fuel) runs p most)
     sought ih n (yes e) =
         rw (step-out fuel runs p most n e)
         (comes-on 1 (from-end most (runAt runs p) .0) (good.here g) (from-end most (runAt runs p) .1) refl (omega (arith, good.falls g n))
@@ -100,7 +100,7 @@ search-comes (suc fuel) {runs} {p} {most} h g = go (λ rs q m a b. search-comes 
         (comes-on 1 (from-end most (runAt runs p) .0) (good.here g) (from-end most (runAt runs p) .1) (sym (good.still g n)) (omega (arith, good.falls g n))
         (ih _ _ _ (omega (arith, good.falls g n)) (good.good-on g n e)))
 
-    go : Hyp fuel → Dec (keyAt runs p ≡ most) → Comes 0 runs (meet runs) (searchFrom (suc fuel) runs p most)
+    go : Hyp fuel → Dec (firstAt runs p ≡ most) → Comes 0 runs (meet runs) (searchFrom (suc fuel) runs p most)
     go ih (yes e) = rw (step-found fuel runs p most e) (found-comes g e)
     go ih (no n) = sought ih n (dec-nil (from most (runAt runs p)))
 
@@ -108,13 +108,13 @@ search-comes (suc fuel) {runs} {p} {most} h g = go (λ rs q m a b. search-comes 
 pub any-fuel : (f f′ : ℕ) {runs : List (List ℕ)} {p most : ℕ} → total runs ≤ f → total runs ≤ f′ → Good runs p most → searchFrom f runs p most ≡ searchFrom f′ runs p most
 any-fuel zero f′ h h′ g = absurd (omega (arith, good.filled g))
 any-fuel (suc f) zero h h′ g = absurd (omega (arith, good.filled g))
-any-fuel (suc f) (suc f′) {runs} {p} {most} h h′ g = go (λ rs q m a b c. any-fuel f f′ a b c) (ℕ-discrete (keyAt runs p) most)
+any-fuel (suc f) (suc f′) {runs} {p} {most} h h′ g = go (λ rs q m a b c. any-fuel f f′ a b c) (ℕ-discrete (firstAt runs p) most)
   where
-    sought : Same f f′ → (keyAt runs p ≡ most → ⊥) → Dec (from most (runAt runs p) ≡ []) → searchFrom (suc f) runs p most ≡ searchFrom (suc f′) runs p most
+    sought : Same f f′ → (firstAt runs p ≡ most → ⊥) → Dec (from most (runAt runs p) ≡ []) → searchFrom (suc f) runs p most ≡ searchFrom (suc f′) runs p most
     sought ih n (yes e) = step-out f runs p most n e ∙ sym (step-out f′ runs p most n e)
     sought ih n (no e) = step-on f runs p most n e ∙ (ap (more 1) (ih _ _ _ (omega (arith, good.falls g n)) (omega (arith, good.falls g n)) (good.good-on g n e)) ∙ sym (step-on f′ runs p most n e))
 
-    go : Same f f′ → Dec (keyAt runs p ≡ most) → searchFrom (suc f) runs p most ≡ searchFrom (suc f′) runs p most
+    go : Same f f′ → Dec (firstAt runs p ≡ most) → searchFrom (suc f) runs p most ≡ searchFrom (suc f′) runs p most
     go ih (yes e) = step-found f runs p most e ∙ sym (step-found f′ runs p most e)
     go ih (no n) = sought ih n (dec-nil (from most (runAt runs p)))
 
@@ -122,14 +122,14 @@ any-fuel (suc f) (suc f′) {runs} {p} {most} h h′ g = go (λ rs q m a b c. an
 
 pub record Ring (runs : List (List ℕ)) (p : ℕ) : Type 0 where
   pub ascend : Runs runs
-  pub some : (j : ℕ) → j < length runs → runAt runs j ≡ [] → ⊥
-  pub round : Round (keyAt runs) (length runs) p
+  pub nonempty : (j : ℕ) → j < length runs → runAt runs j ≡ [] → ⊥
+  pub round : Round (firstAt runs) (length runs) p
   pub place : p < length runs
 
-pub ring-good : {runs : List (List ℕ)} {p : ℕ} → Ring runs p → Good runs p (keyAt runs (placeBefore (length runs) p))
+pub ring-good : {runs : List (List ℕ)} {p : ℕ} → Ring runs p → Good runs p (firstAt runs (placeBefore (length runs) p))
 ring-good {runs} {p} r = record {
   ascend = r .ascend;
-  some = r .some;
+  nonempty = r .nonempty;
   round = r .round;
   last = placeBefore (length runs) p;
   inside = before-in (length runs) p (r .place);
@@ -143,5 +143,5 @@ unfolding searchOf
 ring-comes {runs} r = search-comes (total runs) (omega arith) (ring-good r)
 
 -- "one search makes no more seeks than the keys not yet passed in its runs when it starts"
-pub one-search-makes-no-more-seeks-than-keys-not-yet-passed : {runs : List (List ℕ)} {p : ℕ} → Ring runs p → searchOf runs p .seeks ≤ total runs
-one-search-makes-no-more-seeks-than-keys-not-yet-passed r = omega (arith, ring-comes r .bound)
+pub search-seeks-bounded : {runs : List (List ℕ)} {p : ℕ} → Ring runs p → searchOf runs p .seeks ≤ total runs
+search-seeks-bounded r = omega (arith, ring-comes r .bound)

@@ -1,4 +1,4 @@
--- Small cases, computed.
+-- Of theorems: small cases, computed.
 use mathlib.Core.Path.{_≡_, refl}
 use mathlib.Core.List.{List, [], _∷_}
 use Prim.Native.Nat.{ℕ}

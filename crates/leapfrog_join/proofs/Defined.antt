@@ -12,12 +12,13 @@ use Rattle.query.specs.Meet.{total, Runs, Agree}
 use Rattle.query.specs.Ring.{Round}
 use Rattle.leapfrog.specs.Search.{Went, runAt, first, placeAfter, placeBefore, Comes}
 use Rattle.leapfrog.proofs.Steps.{after-round, after-next, before-after, cons-some}
-use Rattle.leapfrog.proofs.Good.{keyAt}
+use Rattle.leapfrog.proofs.Good.{firstAt}
 use Rattle.leapfrog.proofs.Search.{Ring}
-use Rattle.leapfrog_join.specs.declared.Hit.{Hit}
+use Rattle.leapfrog_join.specs.declared.Landed.{Landed}
 use Rattle.leapfrog_join.specs.declared.Searched.{Searched}
-use Rattle.leapfrog_join.specs.declared.Hit.the-variants.{Key, Nothing}
-use Rattle.leapfrog_join.specs.Ring.{keyOf, Follows}
+use Rattle.leapfrog_join.specs.declared.Landed.the-variants.{Key, Nothing}
+use Rattle.ring_sort.specs.Sorted.{keyAt}
+use Rattle.leapfrog_join.specs.Ring.{Follows}
 use Rattle.leapfrog_join.specs.Leapfrog.{runOf, runsIn, OnKey, Ready, Ordered, Agreed, Moved, answered, Ran, Left}
 use Rattle.leapfrog_join.proofs.Parts.{part-length, part-cons, part-none}
 use Rattle.leapfrog_join.proofs.Runs.{atom-place, ring-in, enough, runs-length, runs-at, ready-length, ready-at, ready-runs, ready-heads, stands-at}
@@ -50,7 +51,7 @@ few [] n f = omega arith
 few (s ∷ rs) n f = omega (arith, f 0 (omega arith), few rs n (λ i l. f (suc i) (omega arith)), suc-mul (length rs) n)
 
 module _ {pool at end ring : List ℕ} {k : ℕ} (r : Ready pool at end ring k) where
-  pub ready-key : (j : ℕ) → j < k → keyAt (runsIn pool at end ring k) j ≡ keyOf pool at (getD ring j 0)
+  pub ready-key : (j : ℕ) → j < k → firstAt (runsIn pool at end ring k) j ≡ keyAt pool at (getD ring j 0)
   ready-key j l = ap first (ready-heads r j l)
 
   pub ready-some : (j : ℕ) → j < length (runsIn pool at end ring k) → runAt (runsIn pool at end ring k) j ≡ [] → ⊥
@@ -59,7 +60,7 @@ module _ {pool at end ring : List ℕ} {k : ℕ} (r : Ready pool at end ring k) 
   pub ready-ring : {p : ℕ} → Ordered pool at ring k p → p < k → Ring (runsIn pool at end ring k) p
   ready-ring {p} o h = record {
     ascend = ready-runs r;
-    some = ready-some;
+    nonempty = ready-some;
     round = rw (ready-length r) (round-same h ready-key o);
     place = rw (ready-length r) h;
   }
@@ -90,7 +91,7 @@ module _ {pool at₀ end ring : List ℕ} {k : ℕ} (r : Ready pool at₀ end ri
     left-gone : runAt (runsIn pool at end ring k) j ≡ [] → getD at (getD ring j 0) 0 ≡ getD end (getD ring j 0) 0
     left-gone e = omega (arith, within, part-length pool (getD at (getD ring j 0) 0) (getD end (getD ring j 0) 0) (stands-at r j l .ends), ap length (sym run ∙ e))
 
-    left-first : (i : getD at (getD ring j 0) 0 < getD end (getD ring j 0) 0) → first (runAt (runsIn pool at end ring k) j) ≡ keyOf pool at (getD ring j 0)
+    left-first : (i : getD at (getD ring j 0) 0 < getD end (getD ring j 0) 0) → first (runAt (runsIn pool at end ring k) j) ≡ keyAt pool at (getD ring j 0)
     left-first i = ap first (run ∙ part-cons pool (getD at (getD ring j 0) 0) (getD end (getD ring j 0) 0) i (stands-at r j l .ends))
 
   size : length (runsIn pool at end ring k) ≡ k
@@ -99,7 +100,7 @@ module _ {pool at₀ end ring : List ℕ} {k : ℕ} (r : Ready pool at₀ end ri
   left-agreed : {x p : ℕ} → p < k → Runs (runsIn pool at end ring k) → Agree (runsIn pool at end ring k) x → Agreed pool at end ring k x p
   left-agreed {x} {p} h s g = record {
     ready = record {
-      some = r .some;
+      positive = r .positive;
       few = r .few;
       size = r .size;
       places = m .places;
@@ -111,7 +112,7 @@ module _ {pool at₀ end ring : List ℕ} {k : ℕ} (r : Ready pool at₀ end ri
     place = h;
     all = λ b i.
         let t = atom-place pool at end ring k (enough r) i in
-        subst (λ (b : ℕ). keyOf pool at b ≡ x) (t .2) (sym (left-first (t .0) (t .1) (stays (t .0) (t .1))) ∙ ap first (g (t .0) (omega (arith, size, t .1))));
+        subst (λ (b : ℕ). keyAt pool at b ≡ x) (t .2) (sym (left-first (t .0) (t .1) (stays (t .0) (t .1))) ∙ ap first (g (t .0) (omega (arith, size, t .1))));
   }
     where
       stays : (j : ℕ) → j < k → getD at (getD ring j 0) 0 < getD end (getD ring j 0) 0
@@ -125,7 +126,7 @@ module _ {pool at₀ end ring : List ℕ} {k : ℕ} (r : Ready pool at₀ end ri
         ascends = subst (Ascends _<_) (run j l) (s j (omega (arith, size)));
       }
 
-  left-by : {common passed : List ℕ} {w : Went} {extra : ℕ} (common′ : List ℕ) → common ≡ passed ++ common′ → Comes extra (runsIn pool at₀ end ring k) common′ w → (h : Hit) (n : ℕ) → w ≡ answered (runsIn pool at end ring k) h n → Left pool end ring k at₀ at common passed h
+  left-by : {common passed : List ℕ} {w : Went} {extra : ℕ} (common′ : List ℕ) → common ≡ passed ++ common′ → Comes extra (runsIn pool at₀ end ring k) common′ w → (h : Landed) (n : ℕ) → w ≡ answered (runsIn pool at end ring k) h n → Left pool end ring k at₀ at common passed h
   left-by {common} {passed} {w} {extra} common′ e c (Key x p) n d =
       let i = subst (Comes extra (runsIn pool at₀ end ring k) common′) d c in
       record { ended = left-agreed (omega (arith, i .inside, ready-length r)) (i .ascend) (i .ended); keys = e ∙ ap (λ (l : List ℕ). passed ++ l) (i .keys); moved = m }
@@ -135,5 +136,5 @@ module _ {pool at₀ end ring : List ℕ} {k : ℕ} (r : Ready pool at₀ end ri
       record { ended = record { place = h; gone = left-gone p h (i .ended) }; keys = e ∙ ap (λ (l : List ℕ). passed ++ l) (i .keys); moved = m }
 
 -- of the common keys it has passed `passed`, and no other
-pub ran-left : {pool at₀ end ring : List ℕ} {k : ℕ} {at : List ℕ} {w : Went} {a : Searched} {common common′ : List ℕ} {extra : ℕ} (passed : List ℕ) → Ready pool at₀ end ring k → common ≡ passed ++ common′ → Comes extra (runsIn pool at₀ end ring k) common′ w → Ran pool end ring k at₀ at w a → Left pool end ring k at₀ at common passed (a .hit)
-ran-left {a = a} {common′ = common′} passed r e c d = left-by r (d .moved) common′ e c (a .hit) (a .seeks) (d .same)
+pub ran-left : {pool at₀ end ring : List ℕ} {k : ℕ} {at : List ℕ} {w : Went} {a : Searched} {common common′ : List ℕ} {extra : ℕ} (passed : List ℕ) → Ready pool at₀ end ring k → common ≡ passed ++ common′ → Comes extra (runsIn pool at₀ end ring k) common′ w → Ran pool end ring k at₀ at w a → Left pool end ring k at₀ at common passed (a .landed)
+ran-left {a = a} {common′ = common′} passed r e c d = left-by r (d .moved) common′ e c (a .landed) (a .seeks) (d .same)

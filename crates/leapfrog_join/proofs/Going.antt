@@ -11,11 +11,12 @@ use Rattle.relation.proofs.Runs.{from-ascends}
 use Rattle.query.specs.Meet.{total}
 use Rattle.leapfrog.specs.Search.{Went, on, out, runAt, first, placeAfter, placeBefore, more, stopped, searchFrom, searchOf}
 use Rattle.leapfrog.proofs.Steps.{step-found, step-out, step-on, cons-some}
-use Rattle.leapfrog.proofs.Good.{keyAt, Good}
+use Rattle.leapfrog.proofs.Good.{firstAt, Good}
 use Rattle.leapfrog.proofs.Good as good
 use Rattle.leapfrog.proofs.Search.{ring-good}
-use Rattle.leapfrog_join.specs.declared.Hit.the-variants.{Key, Nothing}
-use Rattle.leapfrog_join.specs.Ring.{keyOf, Follows}
+use Rattle.leapfrog_join.specs.declared.Landed.the-variants.{Key, Nothing}
+use Rattle.ring_sort.specs.Sorted.{keyAt}
+use Rattle.leapfrog_join.specs.Ring.{Follows}
 use Rattle.leapfrog_join.specs.Leapfrog.{part, runsIn, OnKey, Ready, Ordered, Moved, Reached, answered}
 use Rattle.leapfrog_join.proofs.Parts.{part-cons, part-none}
 use Rattle.leapfrog_join.proofs.Runs.{stands-at, ready-length, ready-at, put, put-sought, put-moved, put-ready, moved-on}
@@ -54,7 +55,7 @@ one-more n w = seeks-are w (sum (w .seeks))
     sum : (m : ℕ) → n + (1 + m) ≡ (n + 1) + m
     sum m = omega arith
 
-pub begin : {pool at end ring : List ℕ} {k p : ℕ} (z : ℕ) → Ready pool at end ring k → Ordered pool at ring k p → Follows k z p → Going pool at end ring k p at p (keyOf pool at (getD ring z 0)) 0
+pub begin : {pool at end ring : List ℕ} {k p : ℕ} (z : ℕ) → Ready pool at end ring k → Ordered pool at ring k p → Follows k z p → Going pool at end ring k p at p (keyAt pool at (getD ring z 0)) 0
 unfolding searchOf
 begin {pool} {at} {end} {ring} {k} {p} z r o f = record {
   ready = r;
@@ -62,15 +63,15 @@ begin {pool} {at} {end} {ring} {k} {p} z r o f = record {
   moved = record { places = r .places; forward = λ a. omega arith; within = λ a m. omega (arith, r .each a m .inside); others = λ a n. refl };
   fuel = total runs;
   enough = omega arith;
-  same = ap (searchFrom (total runs) runs p) most ∙ none-yet (searchFrom (total runs) runs p (keyOf pool at (getD ring z 0)));
+  same = ap (searchFrom (total runs) runs p) most ∙ none-yet (searchFrom (total runs) runs p (keyAt pool at (getD ring z 0)));
   count = omega (arith, ready-few r);
 }
   where
     runs : List (List ℕ)
     runs = runsIn pool at end ring k
 
-    most : keyAt (runsIn pool at end ring k) (placeBefore (length (runsIn pool at end ring k)) p) ≡ keyOf pool at (getD ring z 0)
-    most = ap (λ (n : ℕ). keyAt (runsIn pool at end ring k) (placeBefore n p)) (ready-length r) ∙ (ap (keyAt (runsIn pool at end ring k)) (follows-before f) ∙ ready-key r z (f .from))
+    most : firstAt (runsIn pool at end ring k) (placeBefore (length (runsIn pool at end ring k)) p) ≡ keyAt pool at (getD ring z 0)
+    most = ap (λ (n : ℕ). firstAt (runsIn pool at end ring k) (placeBefore n p)) (ready-length r) ∙ (ap (firstAt (runsIn pool at end ring k)) (follows-before f) ∙ ready-key r z (f .from))
 
 module _ {pool at₀ end ring : List ℕ} {k start : ℕ} {at : List ℕ} {p most seeks : ℕ} (g : Going pool at₀ end ring k start at p most seeks) where
   pub here : p < k
@@ -79,7 +80,7 @@ module _ {pool at₀ end ring : List ℕ} {k start : ℕ} {at : List ℕ} {p mos
   pub stands : OnKey pool at end (getD ring p 0)
   stands = stands-at (g .ready) p here
 
-  key : keyAt (runsIn pool at end ring k) p ≡ keyOf pool at (getD ring p 0)
+  key : firstAt (runsIn pool at end ring k) p ≡ keyAt pool at (getD ring p 0)
   key = ready-key (g .ready) p here
 
   -- the definition has fuel for this turn
@@ -89,11 +90,11 @@ module _ {pool at₀ end ring : List ℕ} {k start : ℕ} {at : List ℕ} {p mos
   now-same : {w : Went} → searchFrom (suc (turn .0)) (runsIn pool at end ring k) p most ≡ w → searchOf (runsIn pool at₀ end ring k) start ≡ more seeks w
   now-same e = g .same ∙ ap (more seeks) (ap (λ (f : ℕ). searchFrom f (runsIn pool at end ring k) p most) (turn .1) ∙ e)
 
-  pub found : keyOf pool at (getD ring p 0) ≡ most → searchOf (runsIn pool at₀ end ring k) start ≡ answered (runsIn pool at end ring k) (Key most p) seeks
+  pub found : keyAt pool at (getD ring p 0) ≡ most → searchOf (runsIn pool at₀ end ring k) start ≡ answered (runsIn pool at end ring k) (Key most p) seeks
   found e = now-same (step-found (turn .0) (runsIn pool at end ring k) p most (key ∙ e)) ∙ seeks-are (stopped (runsIn pool at end ring k) p (on most)) {n′ = seeks} (omega arith)
 
-  module _ {q : ℕ} (s : Reached pool (getD at (getD ring p 0) 0) (getD end (getD ring p 0) 0) most q) (differ : keyOf pool at (getD ring p 0) ≡ most → ⊥) where
-    apart : keyAt (runsIn pool at end ring k) p ≡ most → ⊥
+  module _ {q : ℕ} (s : Reached pool (getD at (getD ring p 0) 0) (getD end (getD ring p 0) 0) most q) (differ : keyAt pool at (getD ring p 0) ≡ most → ⊥) where
+    apart : firstAt (runsIn pool at end ring k) p ≡ most → ⊥
     apart e = differ (sym key ∙ e)
 
     runs′ : runsIn pool (put at ring p q) end ring k ≡ set (runsIn pool at end ring k) p (from most (runAt (runsIn pool at end ring k) p))
@@ -121,12 +122,12 @@ module _ {pool at₀ end ring : List ℕ} {k start : ℕ} {at : List ℕ} {p mos
     pub on-going : (q ≡ getD end (getD ring p 0) 0 → ⊥) → (p′ : ℕ) → Follows k p p′ → Going pool at₀ end ring k start (put at ring p q) p′ (getD pool q 0) (seeks + 1)
     on-going n p′ f = record {
       ready = put-ready (g .ready) here q inside (subst (Ascends _<_) (sym (s .rest)) (from-ascends most (stands .ascends)));
-      good = rw (runs′, ← place′, ← first′) (good.good-on (g .good) apart some);
+      good = rw (runs′, ← place′, ← first′) (good.good-on (g .good) apart nonempty);
       moved = moved′;
       fuel = turn .0;
       enough = omega (arith, falls, g .enough, turn .1);
       same =
-          now-same (step-on (turn .0) (runsIn pool at end ring k) p most apart some)
+          now-same (step-on (turn .0) (runsIn pool at end ring k) p most apart nonempty)
           ∙ (one-more seeks _
           ∙ ap (more (seeks + 1)) (rw (runs′, ← place′, ← first′)));
       count = omega (arith, falls, g .count);
@@ -138,8 +139,8 @@ module _ {pool at₀ end ring : List ℕ} {k start : ℕ} {at : List ℕ} {p mos
         cons : from most (runAt (runsIn pool at end ring k) p) ≡ getD pool q 0 ∷ part pool (q + 1) (getD end (getD ring p 0) 0)
         cons = run′ ∙ part-cons pool q (getD end (getD ring p 0) 0) inside (stands .ends)
 
-        some : from most (runAt (runsIn pool at end ring k) p) ≡ [] → ⊥
-        some = cons-some (from most (runAt (runsIn pool at end ring k) p)) cons
+        nonempty : from most (runAt (runsIn pool at end ring k) p) ≡ [] → ⊥
+        nonempty = cons-some (from most (runAt (runsIn pool at end ring k) p)) cons
 
         first′ : first (from most (runAt (runsIn pool at end ring k) p)) ≡ getD pool q 0
         first′ = ap first cons

@@ -12,15 +12,16 @@ use Rattle.relation.specs.Runs.{from}
 use Rattle.query.specs.Meet.{meet, total, Agree}
 use Rattle.query.proofs.Meet.{meet-map}
 use Rattle.query.proofs.Leap.{agree-tails}
-use Rattle.leapfrog_join.specs.declared.Hit.{Hit}
+use Rattle.leapfrog_join.specs.declared.Landed.{Landed}
 use Rattle.leapfrog.specs.Search.{Went, searchOf, nextOf, seekTo}
-use Rattle.leapfrog.proofs.Search.{ring-comes, one-search-makes-no-more-seeks-than-keys-not-yet-passed}
+use Rattle.leapfrog.proofs.Search.{ring-comes, search-seeks-bounded}
 use Rattle.leapfrog.proofs.Onward.{Agreeing, next-comes, next-keys, seek-comes}
-use Rattle.leapfrog_join.specs.declared.Hit.the-variants.{Key, Nothing}
+use Rattle.leapfrog_join.specs.declared.Landed.the-variants.{Key, Nothing}
 use Rattle.leapfrog_join.specs.declared.Searched.{Searched}
-use Rattle.leapfrog_join.specs.Ring.{keyOf, SameAtoms}
+use Rattle.ring_sort.specs.Sorted.{keyAt}
+use Rattle.leapfrog_join.specs.Ring.{SameAtoms}
 use Rattle.leapfrog_join.specs.Leapfrog.{part, runOf, runsIn, Ready, Ordered, Agreed, Moved, answered, Ran, Left}
-use Rattle.leapfrog_join.proofs.Lists.{ascends-getD, ascends-apart}
+use Rattle.ring_sort.proofs.Lists.{ascends-getD, ascends-apart}
 use Rattle.leapfrog_join.proofs.Parts.{part-length, part-at, part-drop}
 use Rattle.leapfrog_join.proofs.Runs.{ring-in, ready-length, ready-runs, ready-heads, seek-from}
 use Rattle.leapfrog_join.proofs.Defined.{ready-ring, ran-left}
@@ -34,11 +35,11 @@ order-apart ring k h s i j l m e =
 -- ---- a ring that agrees on x
 
 module _ {pool at end ring : List ℕ} {k x p : ℕ} (g : Agreed pool at end ring k x p) where
-  pub agreed-key : (j : ℕ) → j < k → keyOf pool at (getD ring j 0) ≡ x
+  pub agreed-key : (j : ℕ) → j < k → keyAt pool at (getD ring j 0) ≡ x
   agreed-key j l = g .all (getD ring j 0) (ring-in (g .ready) j l)
 
   -- the same, said of the key at p, as the next call asks it
-  pub agreed-here : Agreed pool at end ring k (keyOf pool at (getD ring p 0)) p
+  pub agreed-here : Agreed pool at end ring k (keyAt pool at (getD ring p 0)) p
   agreed-here = rw (agreed-key p (g .place)) g
 
   -- every run begins with x
@@ -50,7 +51,7 @@ module _ {pool at end ring : List ℕ} {k x p : ℕ} (g : Agreed pool at end rin
 
   -- x is the first of the keys in common
   pub agreed-first : meet (runsIn pool at end ring k) ≡ x ∷ meet (map (drop 1) (runsIn pool at end ring k))
-  agreed-first = agree-tails (runsIn pool at end ring k) (ready-runs (g .ready)) (omega (arith, ready-length (g .ready), g .ready .some)) agreed-runs
+  agreed-first = agree-tails (runsIn pool at end ring k) (ready-runs (g .ready)) (omega (arith, ready-length (g .ready), g .ready .positive)) agreed-runs
 
   pub agreed-agreeing : Agreeing (runsIn pool at end ring k) x p
   agreed-agreeing = record { ascend = ready-runs (g .ready); agree = agreed-runs; place = omega (arith, ready-length (g .ready), g .place) }
@@ -64,22 +65,22 @@ module _ {pool at end ring : List ℕ} {k x p : ℕ} (g : Agreed pool at end rin
 
 -- ---- what the calls leave of the common keys: laws of the definition
 
-pub search-left : {pool at₀ end ring : List ℕ} {k p : ℕ} {at : List ℕ} {r : Searched} → Ready pool at₀ end ring k → Ordered pool at₀ ring k p → p < k → Ran pool end ring k at₀ at (searchOf (runsIn pool at₀ end ring k) p) r → Left pool end ring k at₀ at (meet (runsIn pool at₀ end ring k)) [] (r .hit)
+pub search-left : {pool at₀ end ring : List ℕ} {k p : ℕ} {at : List ℕ} {r : Searched} → Ready pool at₀ end ring k → Ordered pool at₀ ring k p → p < k → Ran pool end ring k at₀ at (searchOf (runsIn pool at₀ end ring k) p) r → Left pool end ring k at₀ at (meet (runsIn pool at₀ end ring k)) [] (r .landed)
 search-left g o h d = ran-left [] g refl (ring-comes (ready-ring g o h)) d
 
 -- the seeks of a search are at most the keys not yet passed in its runs
 pub search-few : {pool at₀ end ring : List ℕ} {k p : ℕ} {at : List ℕ} {r : Searched} → Ready pool at₀ end ring k → Ordered pool at₀ ring k p → p < k → Ran pool end ring k at₀ at (searchOf (runsIn pool at₀ end ring k) p) r → r .seeks ≤ total (runsIn pool at₀ end ring k)
-search-few {pool} {end = end} {ring} {k} {at = at} {r = r} g o h d = omega (arith, one-search-makes-no-more-seeks-than-keys-not-yet-passed (ready-ring g o h), ap (λ (w : Went). w .seeks) (d .same), answered-seeks (r .hit))
+search-few {pool} {end = end} {ring} {k} {at = at} {r = r} g o h d = omega (arith, search-seeks-bounded (ready-ring g o h), ap (λ (w : Went). w .seeks) (d .same), answered-seeks (r .landed))
   where
-    answered-seeks : (h : Hit) → answered (runsIn pool at end ring k) h (r .seeks) .seeks ≡ r .seeks
+    answered-seeks : (h : Landed) → answered (runsIn pool at end ring k) h (r .seeks) .seeks ≡ r .seeks
     answered-seeks (Key x p) = refl
     answered-seeks (Nothing p) = refl
 
 module _ {pool at₀ end ring : List ℕ} {k p x : ℕ} {at : List ℕ} {r : Searched} (g : Agreed pool at₀ end ring k x p) where
-  pub went-next : Ran pool end ring k at₀ at (nextOf (runsIn pool at₀ end ring k) p) r → Left pool end ring k at₀ at (meet (runsIn pool at₀ end ring k)) (x ∷ []) (r .hit)
+  pub went-next : Ran pool end ring k at₀ at (nextOf (runsIn pool at₀ end ring k) p) r → Left pool end ring k at₀ at (meet (runsIn pool at₀ end ring k)) (x ∷ []) (r .landed)
   went-next d = ran-left (x ∷ []) (g .ready) (next-keys (agreed-agreeing g)) (next-comes (agreed-agreeing g)) d
 
-  pub went-seek : (t : ℕ) → Ran pool end ring k at₀ at (seekTo t (runsIn pool at₀ end ring k) p) r → Left pool end ring k at₀ at (from t (meet (runsIn pool at₀ end ring k))) [] (r .hit)
+  pub went-seek : (t : ℕ) → Ran pool end ring k at₀ at (seekTo t (runsIn pool at₀ end ring k) p) r → Left pool end ring k at₀ at (from t (meet (runsIn pool at₀ end ring k))) [] (r .landed)
   went-seek t d = ran-left [] (g .ready) (sym (seek-from (runsIn pool at₀ end ring k) (ready-runs (g .ready)) p t (omega (arith, ready-length (g .ready), g .place)))) (seek-comes (agreed-agreeing g) t) d
 
 -- where all stand on x, each run is what the seek of x leaves of the run as it was
@@ -109,7 +110,7 @@ same-moved s m = record { places = m .places; forward = m .forward; within = λ 
 
 module _ {ring ring′ : List ℕ} {k : ℕ} (s : SameAtoms ring ring′ k) {pool at end : List ℕ} where
   pub same-ready : Ready pool at end ring k → Ready pool at end ring′ k
-  same-ready r = record { some = r .some; few = r .few; size = s .size; places = r .places; apart = s .apart; each = λ a m. r .each a (s .back a m) }
+  same-ready r = record { positive = r .positive; few = r .few; size = s .size; places = r .places; apart = s .apart; each = λ a m. r .each a (s .back a m) }
 
   pub same-back : Ready pool at end ring k → SameAtoms ring′ ring k
   same-back r = record { size = r .size; to = s .back; back = s .to; apart = r .apart }

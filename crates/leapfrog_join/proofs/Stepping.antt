@@ -13,8 +13,8 @@ use Rattle.leapfrog.specs.Search.{Went, out, runAt, placeAfter, more, stopped, 
 use Rattle.leapfrog.proofs.Steps.{cons-some}
 use Rattle.leapfrog.proofs.Onward.{Agreeing, on-out, on-on}
 use Rattle.leapfrog_join.specs.declared.Searched.{Searched}
-use Rattle.leapfrog_join.specs.declared.Hit.{Hit}
-use Rattle.leapfrog_join.specs.declared.Hit.the-variants.{Key, Nothing}
+use Rattle.leapfrog_join.specs.declared.Landed.{Landed}
+use Rattle.leapfrog_join.specs.declared.Landed.the-variants.{Key, Nothing}
 use Rattle.leapfrog_join.specs.Ring.{Follows}
 use Rattle.leapfrog_join.specs.Leapfrog.{part, runOf, runsIn, OnKey, Ready, Ordered, Agreed, Moved, Reached, answered, Ran}
 use Rattle.leapfrog_join.proofs.Parts.{part-cons, part-none}
@@ -27,13 +27,13 @@ pub ran-on : {pool end ring : List ℕ} {k : ℕ} {at₀ at₁ at : List ℕ} {w
 ran-on m e d = record { same = e ∙ d .same; moved = moved-on m (d .moved) }
 
 -- with one seek before it
-pub ran-more : {pool end ring : List ℕ} {k : ℕ} {at₀ at : List ℕ} {w : Went} {r : Searched} → Ran pool end ring k at₀ at w r → Ran pool end ring k at₀ at (more 1 w) (record { hit = r .hit; seeks = r .seeks + 1 })
-ran-more {pool} {end} {ring} {k} {at = at} {r = r} d = record { same = ap (more 1) (d .same) ∙ one (r .hit) (r .seeks); moved = d .moved }
+pub ran-more : {pool end ring : List ℕ} {k : ℕ} {at₀ at : List ℕ} {w : Went} {r : Searched} → Ran pool end ring k at₀ at w r → Ran pool end ring k at₀ at (more 1 w) (record { landed = r .landed; seeks = r .seeks + 1 })
+ran-more {pool} {end} {ring} {k} {at = at} {r = r} d = record { same = ap (more 1) (d .same) ∙ one (r .landed) (r .seeks); moved = d .moved }
   where
     sum : (n : ℕ) → 1 + n ≡ n + 1
     sum n = omega arith
 
-    one : (h : Hit) (n : ℕ) → more 1 (answered (runsIn pool at end ring k) h n) ≡ answered (runsIn pool at end ring k) h (n + 1)
+    one : (h : Landed) (n : ℕ) → more 1 (answered (runsIn pool at end ring k) h n) ≡ answered (runsIn pool at end ring k) h (n + 1)
     one (Key x p) n = ap (answered (runsIn pool at end ring k) (Key x p)) (sum n)
     one (Nothing p) n = ap (answered (runsIn pool at end ring k) (Nothing p)) (sum n)
 
@@ -70,7 +70,7 @@ module _ {pool at end ring : List ℕ} {k x p : ℕ} (g : Agreed pool at end rin
       runs′ : set (runsIn pool at end ring k) p s ≡ runsIn pool (put at ring p q) end ring k
       runs′ = ap (set (runsIn pool at end ring k) p) t ∙ sym (put-runs (g .ready) (g .place) q)
 
-      pub step-out : q ≡ getD end (getD ring p 0) 0 → Ran pool end ring k at (put at ring p q) (goOn (runsIn pool at end ring k) p s) (record { hit = Nothing p; seeks = 0 })
+      pub step-out : q ≡ getD end (getD ring p 0) 0 → Ran pool end ring k at (put at ring p q) (goOn (runsIn pool at end ring k) p s) (record { landed = Nothing p; seeks = 0 })
       step-out n = record {
         same = on-out agreeing d e (t ∙ part-none pool q (getD end (getD ring p 0) 0) n) ∙ ap (λ (rs : List (List ℕ)). stopped rs p out) runs′;
         moved = step-moved;

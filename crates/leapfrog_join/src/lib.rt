@@ -7,31 +7,30 @@
 // Each of `leapfrog_init`, `_search`, `_next` and `_seek` does what its algorithm does to the runs, as crates/leapfrog computes it: it leaves the same runs,
 // stops at the same place, on the same key or on none, and makes the same number of seeks (specs/Leapfrog.antt, `Ran`).
 ghost use mathlib.Core.Path.{_≡_};
-ghost use mathlib.Core.List.{_++_};
 ghost use Prim.Native.Nat.{_+_, _<_, _≤_};
-ghost use lib.ListN.{length, getD, take, drop};
+ghost use lib.ListN.{length, getD, take};
 ghost use Rattle.relation.specs.Lists.{Ascends};
 ghost use Rattle.seek.specs.Seek.{seekOf};
 ghost use Rattle.leapfrog.specs.Search.{searchOf, nextOf, seekTo};
-ghost use Rattle.leapfrog_join.specs.Ring.{keyOf, place, sorted, Rises, Keyed, Follows};
+ghost use Rattle.ring_sort.specs.Sorted.{keyAt};
+ghost use Rattle.leapfrog_join.specs.Ring.{Follows};
 ghost use Rattle.leapfrog_join.specs.Leapfrog.{part, runsIn, Ready, Ordered, Agreed, Ran, Begun};
+use query::MAX_ATOMS;
+use ring_sort::sort_ring;
 use seek::SeekStrategy;
 use seek::Sought;
 use seek::partition_point;
 
-// How many atoms there may be.
-pub const MAX_ATOMS: usize = 8;
-
 // How a search ends: with the key on which all stand, p being the place from which `leapfrog_next` or `leapfrog_seek` goes on, or with none, p being the place of
 // the atom that has no key left, from where nothing goes on.
-pub enum Hit {
+pub enum Landed {
     Key { key: u64, p: usize },
     Nothing { p: usize },
 }
 
 // What a call answers: how its search ended, and how many seeks it made.
 pub struct Searched {
-    pub hit: Hit,
+    pub landed: Landed,
     pub seeks: u64,
 }
 
@@ -49,40 +48,6 @@ fn before(p: usize, k: usize) -> usize
     ensures { λ r. ⌜ Follows k r p ⌝ }
 {
     if p == 0 { k - 1 } else { p - 1 }
-}
-
-// Lets ring entry j sink to its place among the entries before it, whose keys do not fall: behind those whose keys are not above its own.
-fn sink(pool: &[u64], at: &[usize; MAX_ATOMS], ring: &mut [usize; MAX_ATOMS], j: usize)
-    requires { ⌜ Keyed (now pool) (now at) (now ring) (j + 1) ⌝ }
-    requires { ⌜ Rises (keyOf (now pool) (now at)) (take j (now ring)) ⌝ }
-    ensures { λ _. ⌜ now (ring .exit) ≡ place (keyOf (now (pool .entry)) (now (at .entry))) (getD (now (ring .entry)) j 0) (take j (now (ring .entry))) ++ drop (j + 1) (now (ring .entry)) ⌝ }
-{
-    let mut i = j;
-    while 0 < i {
-        let a = ring[i];
-        let b = ring[i - 1];
-        let x = at[a];
-        let y = at[b];
-        if pool[y] <= pool[x] {
-            break;
-        }
-        ring[i] = b;
-        ring[i - 1] = a;
-        i -= 1;
-    }
-}
-
-// Sorts the first k entries of the ring by key, equal keys in their old sequence.
-fn sort_ring(pool: &[u64], at: &[usize; MAX_ATOMS], ring: &mut [usize; MAX_ATOMS], k: usize)
-    requires { ⌜ Keyed (now pool) (now at) (now ring) k ⌝ }
-    requires { ⌜ 0 < k ⌝ }
-    ensures { λ _. ⌜ now (ring .exit) ≡ sorted (keyOf (now (pool .entry)) (now (at .entry))) (now (ring .entry)) k ++ drop k (now (ring .entry)) ⌝ }
-{
-    let mut j = 1;
-    while j < k {
-        sink(pool, at, ring, j);
-        j += 1;
-    }
 }
 
 // One seek in the run from x to e: where it ended behind x, and its probes, which tell the strategy. It is handed the keys not yet passed.
@@ -113,23 +78,23 @@ pub fn leapfrog_search(
     let y = at[z];
     let mut most = pool[y];
     let mut seeks: u64 = 0;
-    let hit: Hit = loop {
+    let landed: Landed = loop {
         let a = ring[p];
         let x = at[a];
         if pool[x] == most {
-            break Hit::Key { key: most, p };
+            break Landed::Key { key: most, p };
         }
         let e = end[a];
         let q = x + seek_run(pool, x, e, most, strategy).offset;
         seeks += 1;
         at[a] = q;
         if q == e {
-            break Hit::Nothing { p };
+            break Landed::Nothing { p };
         }
         most = pool[q];
         p = after(p, k);
     };
-    Searched { hit, seeks }
+    Searched { landed, seeks }
 }
 
 // Algorithm 1, on a ring in atom order: sorts it, and searches from its first place.
@@ -159,7 +124,7 @@ pub fn leapfrog_next(
     p: usize,
     strategy: SeekStrategy,
 ) -> Searched
-    requires { ⌜ Agreed (now pool) (now at) (now end) (now ring) k (keyOf (now pool) (now at) (getD (now ring) p 0)) p ⌝ }
+    requires { ⌜ Agreed (now pool) (now at) (now end) (now ring) k (keyAt (now pool) (now at) (getD (now ring) p 0)) p ⌝ }
     ensures { λ r. ⌜ Ran (now (pool .entry)) (now (end .entry)) (now (ring .entry)) k (now (at .entry)) (now (at .exit)) (nextOf (runsIn (now (pool .entry)) (now (at .entry)) (now (end .entry)) (now (ring .entry)) k) p) r ⌝ }
 {
     let a = ring[p];
@@ -167,7 +132,7 @@ pub fn leapfrog_next(
     at[a] = q;
     if q == end[a] {
         return Searched {
-            hit: Hit::Nothing { p },
+            landed: Landed::Nothing { p },
             seeks: 0,
         };
     }
@@ -185,7 +150,7 @@ pub fn leapfrog_seek(
     target: u64,
     strategy: SeekStrategy,
 ) -> Searched
-    requires { ⌜ Agreed (now pool) (now at) (now end) (now ring) k (keyOf (now pool) (now at) (getD (now ring) p 0)) p ⌝ }
+    requires { ⌜ Agreed (now pool) (now at) (now end) (now ring) k (keyAt (now pool) (now at) (getD (now ring) p 0)) p ⌝ }
     ensures { λ r. ⌜ Ran (now (pool .entry)) (now (end .entry)) (now (ring .entry)) k (now (at .entry)) (now (at .exit)) (seekTo target (runsIn (now (pool .entry)) (now (at .entry)) (now (end .entry)) (now (ring .entry)) k) p) r ⌝ }
 {
     let a = ring[p];
@@ -195,13 +160,13 @@ pub fn leapfrog_seek(
     at[a] = q;
     if q == e {
         return Searched {
-            hit: Hit::Nothing { p },
+            landed: Landed::Nothing { p },
             seeks: 1,
         };
     }
     let s = leapfrog_search(pool, at, end, ring, k, after(p, k), strategy);
-    let hit = s.hit;
+    let landed = s.landed;
     let after = s.seeks;
     let seeks = after + 1;
-    Searched { hit, seeks }
+    Searched { landed, seeks }
 }

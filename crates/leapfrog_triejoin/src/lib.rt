@@ -1,48 +1,18 @@
 // The leapfrog triejoin of tables in the pool: the port of kermit-algos/src/sorted/leapfrog_triejoin.rs of the Rust, Algorithms 5 and 6 of Veldhuizen 2014.
 //
 // The public call is `join`. Its answer and every word of the window are those that specs/Outcome.antt gives, for any pool, tables, query and window,
-// under each strategy: nothing is asked of them. The rows are exactly those that the query means (proofs/Theorems.antt, `demand-3`). The
-// Rust's emit closure is the window, its trie iterators are places kept by columns, and what would panic there is refused.
-mod checks;
+// under each strategy: nothing is asked of them. The rows are exactly those that the query means (crates/demand_3, `demand-3`). The query's types, its checks and
+// its outcome are crates/join_query's. The Rust's emit closure is the window, its trie iterators are places kept by columns, and what would panic there is refused.
 mod descent;
-mod plan;
 
 ghost use Rattle.leapfrog_triejoin.specs.Outcome.{Joins};
-use crate::checks::refusal;
 use crate::descent::descend;
-use crate::plan::PLAN;
-use crate::plan::make_plan;
-use column_trie::ColumnTrie;
+use join_depths::plan::PLAN_WORDS;
+use join_depths::plan::make_plan;
+use join_query::Query;
+use join_query::Tables;
+use join_query::checks::refusal;
 use seek::SeekStrategy;
-
-#[repr(C)]
-pub struct Atom {
-    pub table: usize,
-    pub len: usize,
-    pub variables: [usize; ColumnTrie::MAX_ARITY],
-}
-
-#[repr(C)]
-pub struct Query {
-    pub n: usize,
-    pub order: [usize; ColumnTrie::MAX_ARITY],
-    pub atom_count: usize,
-    pub atoms: [Atom; Query::MAX_ATOMS],
-}
-
-impl Query {
-    pub const MAX_ATOMS: usize = leapfrog_join::MAX_ATOMS;
-}
-
-#[repr(C)]
-pub struct Tables {
-    pub count: usize,
-    pub tables: [ColumnTrie; Tables::MAX_TABLES],
-}
-
-impl Tables {
-    pub const MAX_TABLES: usize = 8;
-}
 
 #[repr(C)]
 pub struct Joined {
@@ -71,10 +41,10 @@ pub fn join(
             seeks: 0,
         };
     }
-    let mut plan = [0usize; PLAN];
+    let mut plan = [0usize; PLAN_WORDS];
     make_plan(&mut plan, tables, query);
     let at = [0usize; Query::MAX_ATOMS];
-    let row = [0u64; ColumnTrie::MAX_ARITY];
+    let row = [0u64; Query::MAX_VARIABLES];
     let written = descend(strategy, pool, &plan, query.n, 0, at, row, window, 0, 0);
     if written.full {
         return Joined {

@@ -96,7 +96,7 @@ module _ {n : ℕ} {order : List ℕ} {atoms : List Atom} (q : Passes n order at
       follow = q .follow a i;
       wide = q .tables a i .wide;
       ascending = q .tables a i .ascending;
-      filled = λ e. absurd (omega (arith, q .tables a i .some, ap (length {A = ℕ}) e));
+      filled = λ e. absurd (omega (arith, q .tables a i .positive, ap (length {A = ℕ}) e));
     };
     covered = λ x m. q .covered x (q .permutation .below x m);
     single = q .permutation .single;

@@ -2,7 +2,6 @@
 -- Idea: an ascending list is determined by its members, and a key is in the meet exactly when it is in every run.
 use Prim.Native.Nat.{ℕ, zero, suc, _<_}
 use native.Mathlib.Omega.{arith}
-use native.Mathlib.Nat.{le-of-suc-le-suc}
 use mathlib.Core.Path.{_≡_, refl, sym, subst, ap, _∙_}
 use mathlib.Core.Logic.{⊎-elim}
 use mathlib.Core.Bool.{Bool, true, false, false≢true}
@@ -13,6 +12,7 @@ use borrow.Author.Tests.{eqb-true, eq-eqb}
 use Rattle.relation.specs.Order.{pick}
 use Rattle.relation.specs.Lists.{_∈_, hd, tl, not-in-nil, in-cons, Ascends, anone, amore}
 use Rattle.relation.proofs.Lists.{same-members}
+pub use Rattle.relation.proofs.Lists.{getD-in, in-getD}
 use Rattle.query.specs.Meet.{has, inAll, keep, meet, Runs, All}
 
 pub has-in : (xs : List ℕ) (k : ℕ) → has xs k ≡ true → k ∈ xs
@@ -132,16 +132,6 @@ meet-map run xs ys a f g =
     (λ r m. let t = Memᴰ·of-map run ys m in rw (← t .2) (Memᴰ·map run (g (t .0) (t .1))))
 
 -- ---- the same by index, as an engine's array has the runs
-
-module _ {A : Type 0} where
-  pub getD-in : (l : List A) (i : ℕ) (d : A) → i < length l → getD l i d ∈ l
-  getD-in [] i d h = absurd (omega arith)
-  getD-in (x ∷ l) zero d h = hd refl
-  getD-in (x ∷ l) (suc i) d h = tl (getD-in l i d (le-of-suc-le-suc h))
-
-  pub in-getD : {a : A} {l : List A} (d : A) → a ∈ l → (i : ℕ) × (i < length l) × (getD l i d ≡ a)
-  in-getD d (hd e) = (0, omega arith, sym e)
-  in-getD d (tl m) = let t = in-getD d m in (suc (t .0), omega (arith, t .1), t .2)
 
 -- what holds of each run by its index holds of each run
 by-index : (P : List ℕ → Type 0) (rs : List (List ℕ)) → ((i : ℕ) → i < length rs → P (getD rs i [])) → (r : List ℕ) → r ∈ rs → P r

@@ -1,28 +1,22 @@
--- Where a cursor stands, and what stands of its atom there: for each atom the words given so far, and for a table's layers the interval of those words.
--- Idea: an atom whose first variables have the words p is `standing p` of it; to give one variable more a word is to give p a word more. In a table's
--- layers interval i of layer d is that of the i-th beginning of d words, its group is the keys under it, and the key at place j leads to interval j
--- below.
-use Prim.Native.Nat.{ℕ, zero, suc, _+_, _≤_, _<_}
+-- Where a cursor stands, and what stands of its atom there: for each atom the words given so far.
+-- Idea: an atom whose first variables have the words p is `standing p` of it; to give one variable more a word is to give p a word more.
+use Prim.Native.Nat.{ℕ, zero, suc, _≤_, _<_}
 use native.Mathlib.Omega.{arith}
 use native.Mathlib.Decide.{decLt}
-use mathlib.Core.Path.{_≡_, refl, sym, subst, ap, ap₂, _∙_}
+use mathlib.Core.Path.{_≡_, refl, sym, ap, ap₂, _∙_}
 use mathlib.Core.Bool.{Bool, true, false, false≢true}
 use mathlib.Core.List.{List, [], _∷_, _++_, map}
-use lib.ListN.{length, getD, drop, take-append-drop, length-append, drop-of-length-le, List·getD-eq-default}
-use lib.Seq.{drop-cons, drop-drop, slice}
+use lib.ListN.{length, getD, drop, length-append, drop-of-length-le}
+use lib.Seq.{drop-drop}
 use Rattle.relation.specs.Order.{Row, pick}
 use Rattle.relation.specs.Lists.{_∈_, hd, tl}
 use Rattle.relation.specs.Rows.{Asc, Width}
-use Rattle.relation.specs.Layers.{Layer, layer, prefixes, under, keysUnder, layerAt, layersOf}
-use Rattle.relation.proofs.Layers.{keysAt, rankedAt, length-keys, length-intervals, parent-in, prefixes-asc, prefixes-width, prefix-of, prefix-in}
-use Rattle.relation.proofs.Paths.{layer-from}
-use Rattle.relation.proofs.Children.{in-getD, group-row, key-at, begin-is, end-is, end-le, group-keys}
-use Rattle.relation.proofs.Tables.{ranked, ranked-at}
+use Rattle.relation.specs.Layers.{prefixes, under, keysUnder}
 use Rattle.query.specs.Meaning.{Atom, Table}
 use Rattle.query.specs.Solve.{standing, headed, bind, runs}
-use Rattle.query.specs.Descend.{standings, prefixAt, nobody, holders}
-use Rattle.query.proofs.Meet.{getD-in, in-getD as in-index}
-use Rattle.query.proofs.Beyond.{beyond-none, beyond-append, keys-in, keys-beyond}
+use Rattle.query.specs.Descend.{standings, nobody, holders}
+use Rattle.query.proofs.Meet.{getD-in}
+use Rattle.query.proofs.Beyond.{beyond-none, beyond-append, keys-beyond}
 use Rattle.query.proofs.Holders.{in-holders, runs-holders}
 
 -- ---- one atom
@@ -124,66 +118,6 @@ standings-runs v f atoms t =
         go : Dec (length p < length (a .vars)) → length p < length (a .vars)
         go (yes h) = h
         go (no n) = absurd (false≢true (sym (standing-done p a v (omega arith)) ∙ e))
-
--- ---- the layers of a table: interval i of layer d
-
-pub layer-is : {a : ℕ} {rows : List Row} → Width a rows → (d : ℕ) → d < a → layer (layersOf a rows) d ≡ layerAt d rows
-layer-is {a} {rows} w d h = ap (λ (ls : List Layer). layer ls d) (sym (ranked w)) ∙ layer-from 0 a rows d h ∙ ap (λ (n : ℕ). rankedAt n rows) (let e : 0 + d ≡ d = omega arith in e) ∙ ranked-at d w h
-
-pub prefix-length : {a : ℕ} {rows : List Row} → Width a rows → (d i : ℕ) → d ≤ a → i < length (prefixes d rows) → length (prefixAt d i rows) ≡ d
-prefix-length {rows = rows} w d i h l = prefixes-width d w h (prefixAt d i rows) (in-getD (prefixes d rows) i l)
-
-module _ {a : ℕ} {rows : List Row} (w : Width a rows) (d : ℕ) (h : d < a) where
-  -- one interval for each beginning of d words, one key for each of d + 1
-  pub intervals-many : length (layerAt d rows .intervals) ≡ length (prefixes d rows)
-  intervals-many = ap (λ (l : Layer). length (l .intervals)) (sym (ranked-at d w h)) ∙ length-intervals d rows
-
-  pub keys-many : length (layerAt d rows .keys) ≡ length (prefixes (suc d) rows)
-  keys-many = ap (λ (l : Layer). length (l .keys)) (sym (ranked-at d w h)) ∙ length-keys d rows
-
-  -- the group of interval i: the keys under its words
-  pub group-under : (i : ℕ) → i < length (prefixes d rows) → let l = layerAt d rows in slice (getD (l .intervals) i 0) (getD (l .intervals) (suc i) (length (l .keys))) (l .keys) ≡ keysUnder (prefixAt d i rows) rows
-  group-under i k =
-      subst (λ (l : Layer). slice (getD (l .intervals) i 0) (getD (l .intervals) (suc i) (length (l .keys))) (l .keys) ≡ keysUnder (prefixAt d i rows) rows) (ranked-at d w h) (group-keys a d rows w h i k)
-
-  -- it ends inside the keys
-  pub group-end : (i : ℕ) → i < length (prefixes d rows) → let l = layerAt d rows in getD (l .intervals) (suc i) (length (l .keys)) ≤ length (l .keys)
-  group-end i k = subst (λ (l : Layer). getD (l .intervals) (suc i) (length (l .keys)) ≤ length (l .keys)) (ranked-at d w h) (end-le a d rows w h i k)
-
-  -- and it has a key
-  pub group-some : (i : ℕ) → i < length (prefixes d rows) → 0 < length (keysUnder (prefixAt d i rows) rows)
-  group-some i k =
-      let p = prefixAt d i rows in
-      let t = prefix-of d rows (in-getD (prefixes d rows) i k) in
-      let q = t .0 in
-      let e : length p ≡ d = prefix-length w d i (omega arith) k in
-      let f : q ≡ p ++ getD q d 0 ∷ drop (suc d) q = sym (take-append-drop d q) ∙ ap₂ (λ (x y : Row). x ++ y) (sym (t .2)) (drop-cons q d 0 (omega (arith, w q (t .1)))) in
-      let m : getD q d 0 ∈ keysUnder p rows = keys-in p w (omega arith) (drop (suc d) q) (rw f at (t .1)) in
-      omega (arith, in-index 0 m .1)
-
-  -- the key at place j of the group leads to interval j below, whose words are one more
-  pub group-child : (i j : ℕ) → i < length (prefixes d rows) → let l = layerAt d rows in getD (l .intervals) i 0 ≤ j → j < getD (l .intervals) (suc i) (length (l .keys)) → (j < length (prefixes (suc d) rows)) × (prefixAt (suc d) j rows ≡ prefixAt d i rows ++ getD (l .keys) j 0 ∷ [])
-  group-child i j k =
-      subst (λ (l : Layer). getD (l .intervals) i 0 ≤ j → j < getD (l .intervals) (suc i) (length (l .keys)) → (j < length (prefixes (suc d) rows)) × (prefixAt (suc d) j rows ≡ prefixAt d i rows ++ getD (l .keys) j 0 ∷ []))
-      (ranked-at d w h)
-      (λ lo hi.
-      let n : j < length (keysAt d rows) = omega (arith, end-le a d rows w h i k) in
-      let m : j < length (prefixes (suc d) rows) = omega (arith, length-keys d rows) in (
-        m,
-        group-row d (prefixes d rows) (prefixes (suc d) rows) (prefixes-asc d rows) (prefixes-width d w (omega arith)) (prefixes-asc (suc d) rows) (prefixes-width (suc d) w h) (λ q r. parent-in d rows r) i j k m (omega (arith, begin-is a d rows w h i k)) (omega (arith, end-is a d rows w h i)) ∙
-            ap (λ (x : ℕ). prefixAt d i rows ++ x ∷ []) (sym (key-at a d rows w h j n)),
-      ))
-
--- the root: no words, and it is there where there is a row
-pub prefix-root : (rows : List Row) → prefixAt 0 0 rows ≡ []
-prefix-root rows = go (decLt 0 (length (prefixes 0 rows)))
-  where
-    go : Dec (0 < length (prefixes 0 rows)) → prefixAt 0 0 rows ≡ []
-    go (yes h) = prefix-of 0 rows (in-getD (prefixes 0 rows) 0 h) .2
-    go (no n) = List·getD-eq-default (prefixes 0 rows) [] (omega arith)
-
-pub root-there : {rows : List Row} {r : Row} → r ∈ rows → 0 < length (prefixes 0 rows)
-root-there m = let t = in-index [] (prefix-in 0 m) in omega (arith, t .1)
 
 -- no longer beginnings: no keys
 pub keys-none : (p : Row) (rows : List Row) → length (prefixes (suc (length p)) rows) ≡ 0 → keysUnder p rows ≡ []

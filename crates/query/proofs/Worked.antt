@@ -29,7 +29,7 @@ triangle =
 
 table : (a : Atom) → 0 < length (a .vars) → every (λ (r : Row). eqb (length r) (length (a .vars))) (a .rows) ≡ true → asSet (a .rows) ≡ a .rows → Table a
 table a h w s = record {
-  some = h;
+  positive = h;
   wide = λ r m. eqb-true (length r) (length (a .vars)) (every-in (λ (r : Row). eqb (length r) (length (a .vars))) (a .rows) w r m);
   ascending = subst Asc s (asSet-asc (a .rows));
 }

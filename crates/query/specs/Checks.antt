@@ -1,4 +1,4 @@
--- The checks of a query as computed tests, for refusals 8, 10 and 11. They look at the query's numbers alone, so each can be made before a table is read.
+-- Public: the checks of a query as computed tests, for refusals 8, 10 and 11. They look at the query's numbers alone, so each can be made before a table is read.
 use Prim.Native.Nat.{ℕ, zero, suc}
 use mathlib.Core.Bool.{Bool, true, false, _&&_, _||_, not}
 use mathlib.Core.List.{List, [], _∷_}

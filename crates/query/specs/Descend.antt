@@ -1,4 +1,4 @@
--- What an engine's descent stands on and does: the atoms where they stand, those that take part, what holds of them on the way down, and the contract
+-- Internal: what an engine's descent stands on and does: the atoms where they stand, those that take part, what holds of them on the way down, and the contract
 -- that the recursive function shows and relies on when it calls itself.
 use Prim.Native.Nat.{ℕ, suc}
 use mathlib.Core.Path.{_≡_}

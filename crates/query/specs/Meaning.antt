@@ -1,4 +1,4 @@
--- What a join means: demand 3 of the minutes, word for word, over relations. Nothing here knows of a pool, of cursors or of how the rows are found.
+-- Public: what a join means: demand 3 of the minutes, word for word, over relations. Nothing here knows of a pool, of cursors or of how the rows are found.
 -- An atom's relation is a parameter: the rows that count as stored.
 use Prim.Native.Nat.{ℕ, _<_}
 use mathlib.Core.Path.{_≡_}
@@ -57,7 +57,7 @@ follows (v ∷ vs) (x ∷ xs) = pick (eqb x v) (follows vs xs) (follows vs (x �
 
 -- what refusals 10 and 6 ask of an atom's table: an arity of 1 or more that is the length of the list, and rows of that many words, strictly ascending
 pub record Table (a : Atom) : Type 0 where
-  pub some : 0 < length (a .vars)
+  pub positive : 0 < length (a .vars)
   pub wide : Width (length (a .vars)) (a .rows)
   pub ascending : Asc (a .rows)
 

@@ -1,4 +1,4 @@
--- The keys that runs have in common. A run is an ascending list of keys: what a cursor has not yet passed, so its head is the cursor's key.
+-- Public: the keys that runs have in common. A run is an ascending list of keys: what a cursor has not yet passed, so its head is the cursor's key.
 use Prim.Native.Nat.{ℕ, _+_, _<_}
 use mathlib.Core.Path.{_≡_}
 use mathlib.Core.Bool.{Bool, true, false}

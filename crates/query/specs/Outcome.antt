@@ -1,4 +1,4 @@
--- What comes of a query: its number, how many rows are written, and the window's words.
+-- Public: what comes of a query: its number, how many rows are written, and the window's words.
 use Prim.Native.Nat.{ℕ}
 use mathlib.Core.List.{List}
 use Rattle.relation.specs.Order.{pick}

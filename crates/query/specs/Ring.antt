@@ -1,4 +1,4 @@
--- The ring of a leapfrog: its places hold runs whose keys do not fall from the place of the least one round.
+-- Internal: the ring of a leapfrog: its places hold runs whose keys do not fall from the place of the least one round.
 use Prim.Native.Nat.{ℕ, _≤_, _<_}
 
 -- κ j is the key at place j of the ring; from p on, round to p again, they do not fall

@@ -1,4 +1,4 @@
--- The listing computed by descent. At each variable of the order the atoms whose list is headed by it take part. Of an atom there stands what is
+-- Public: the listing computed by descent. At each variable of the order the atoms whose list is headed by it take part. Of an atom there stands what is
 -- left of its list, and the rows that begin with the words given so far, with these dropped.
 use Prim.Native.Nat.{ℕ}
 use mathlib.Core.Bool.{Bool, false}

@@ -1,4 +1,4 @@
--- The window: what demand 3 says of it, and the same row by row, as an engine writes.
+-- Public: the window: what demand 3 says of it, and the same row by row, as an engine writes.
 use Prim.Native.Nat.{ℕ, zero, suc, _+_, _*_, _/_, min}
 use mathlib.Core.Bool.{Bool, false, true}
 use mathlib.Core.List.{List, [], _∷_, _++_}

@@ -18,11 +18,7 @@ use Rattle.relation.proofs.Rank.{rank, rank-lt, rank-not, rank-le, rank
 use Rattle.relation.proofs.Layers.{keysAt, intervalsAt, prefixes-asc, prefixes-width, length-keys, parent-in}
 use Rattle.relation.proofs.Paths.{word-snoc, word-snoc-inv, snoc-mono}
 use Rattle.relation.proofs.Relations.{snoc-form}
-
-pub in-getD : (qs : List Row) (j : ℕ) → j < length qs → getD qs j [] ∈ qs
-in-getD [] j h = absurd (omega arith)
-in-getD (q ∷ qs) zero h = hd refl
-in-getD (q ∷ qs) (suc j) h = tl (in-getD qs j (omega arith))
+use Rattle.relation.proofs.Lists.{getD-in}
 
 -- in ascending rows, place j is before p's place exactly where its row is before p
 rank-index : {qs : List Row} → Asc qs → (p : Row) (j : ℕ) → j < length qs → (getD qs j [] ≺ p → j < rank p qs) × (j < rank p qs → getD qs j [] ≺ p)
@@ -32,13 +28,13 @@ rank-index (amore {r = q} {rs = qs} f s) p (suc j) h = go (rank-index s p j (ome
   where
     go : (getD qs j [] ≺ p → j < rank p qs) × (j < rank p qs → getD qs j [] ≺ p) → (q ≺ p) ⊎ (q ≺ p → ⊥) → (getD qs j [] ≺ p → suc j < rank p (q ∷ qs)) × (suc j < rank p (q ∷ qs) → getD qs j [] ≺ p)
     go ih (inl l) = (λ x. omega (arith, rank-lt p q qs l, ih .0 x), λ x. ih .1 (omega (arith, rank-lt p q qs l, x)))
-    go ih (inr n) = (λ x. absurd (n (trans (f (getD qs j []) (in-getD qs j (omega arith))) x)), λ x. absurd (omega (arith, rank-not p q qs n, x)))
+    go ih (inr n) = (λ x. absurd (n (trans (f (getD qs j []) (getD-in qs j [] (omega arith))) x)), λ x. absurd (omega (arith, rank-not p q qs n, x)))
 
 -- ascending, by places
 asc-getD : {qs : List Row} → Asc qs → (i j : ℕ) → i < j → j < length qs → getD qs i [] ≺ getD qs j []
 asc-getD anone i j l h = absurd (omega arith)
 asc-getD (amore {rs = qs} f s) zero zero l h = absurd (omega arith)
-asc-getD (amore {rs = qs} f s) zero (suc j) l h = f (getD qs j []) (in-getD qs j (omega arith))
+asc-getD (amore {rs = qs} f s) zero (suc j) l h = f (getD qs j []) (getD-in qs j [] (omega arith))
 asc-getD (amore f s) (suc i) zero l h = absurd (omega arith)
 asc-getD (amore f s) (suc i) (suc j) l h = asc-getD s i j (omega arith) (omega arith)
 
@@ -92,9 +88,9 @@ module _ (d : ℕ) (ps qs : List Row) (sp : Asc ps) (wp : Width d ps) (sq : Asc 
 
       go : Tri t p → t ≡ p
       go (eq e) = e
-      go (lt l) = absurd (omega (arith, lo, rank-index sq p j k .0 (take-before d q p (omega (arith, wp p (in-getD ps i h))) l)))
+      go (lt l) = absurd (omega (arith, lo, rank-index sq p j k .0 (take-before d q p (omega (arith, wp p (getD-in ps i [] h))) l)))
       go (gt g) =
-          let n = next-le sp i t h (par q (in-getD qs j k)) g in
+          let n = next-le sp i t h (par q (getD-in qs j [] k)) g in
           absurd (n .1 (beyond (rank-index sq (getD ps (suc i) []) j k .1 (omega (arith, hi, start-at ps qs (suc i) (length qs) (n .0))))))
         where
           beyond : q ≺ getD ps (suc i) [] → t ≺ getD ps (suc i) []
@@ -119,7 +115,7 @@ module _ (d : ℕ) (ps qs : List Row) (sp : Asc ps) (wp : Width d ps) (sq : Asc 
             arith,
             start-at ps qs (suc i) (length qs) l,
             rank-index sq (getD ps (suc i) []) j k .0
-                (take-before d q (getD ps (suc i) []) (omega (arith, wp (getD ps (suc i) []) (in-getD ps (suc i) l))) (subst (λ (z : Row). z ≺ getD ps (suc i) []) (sym e) (asc-getD sp i (suc i) (omega arith) l))),
+                (take-before d q (getD ps (suc i) []) (omega (arith, wp (getD ps (suc i) []) (getD-in ps (suc i) [] l))) (subst (λ (z : Row). z ≺ getD ps (suc i) []) (sym e) (asc-getD sp i (suc i) (omega arith) l))),
           )
       high (no n) = omega (arith, k, start-end ps qs (suc i) (length qs) (omega arith))
 
@@ -133,7 +129,7 @@ module _ (d : ℕ) (ps qs : List Row) (sp : Asc ps) (wp : Width d ps) (sq : Asc 
   -- a row of the group is the parent's row and its key
   pub group-row : (i j : ℕ) → i < length ps → j < length qs → rank (getD ps i []) qs ≤ j → j < getD (startsIn ps qs) (suc i) (length qs) → getD qs j [] ≡ getD ps i [] ++ (getD (getD qs j []) d 0 ∷ [])
   group-row i j h k lo hi =
-      snoc-form d (getD qs j []) (wq (getD qs j []) (in-getD qs j k)) ∙ ap (λ (z : Row). z ++ (getD (getD qs j []) d 0 ∷ [])) (group-in i j h k lo hi)
+      snoc-form d (getD qs j []) (wq (getD qs j []) (getD-in qs j [] k)) ∙ ap (λ (z : Row). z ++ (getD (getD qs j []) d 0 ∷ [])) (group-in i j h k lo hi)
 
   -- the keys of a group ascend
   pub group-rises : (i j : ℕ) → i < length ps → rank (getD ps i []) qs ≤ j → suc j < getD (startsIn ps qs) (suc i) (length qs) → getD (getD qs j []) d 0 < getD (getD qs (suc j) []) d 0
@@ -147,7 +143,7 @@ module _ (d : ℕ) (ps qs : List Row) (sp : Asc ps) (wp : Width d ps) (sq : Asc 
   pub found-place : (i j x : ℕ) → i < length ps → j < length qs → rank (getD ps i []) qs ≤ j → j < getD (startsIn ps qs) (suc i) (length qs) → getD (getD qs j []) d 0 ≡ x → ((getD ps i [] ++ (x ∷ [])) ∈ qs) × (rank (getD ps i [] ++ (x ∷ [])) qs ≡ j)
   found-place i j x h k lo hi e =
       let f : getD qs j [] ≡ getD ps i [] ++ (x ∷ []) = group-row i j h k lo hi ∙ ap (λ (z : ℕ). getD ps i [] ++ (z ∷ [])) e in
-      (subst (λ (z : Row). z ∈ qs) f (in-getD qs j k), ap (λ (z : Row). rank z qs) (sym f) ∙ rank-of sq j k)
+      (subst (λ (z : Row). z ∈ qs) f (getD-in qs j [] k), ap (λ (z : Row). rank z qs) (sym f) ∙ rank-of sq j k)
 
   -- a word that it does not hold: between the smaller keys and the greater ones
   pub new-at : (i pos x : ℕ) → i < length ps → rank (getD ps i []) qs ≤ pos → pos ≤ getD (startsIn ps qs) (suc i) (length qs) → ((j : ℕ) → rank (getD ps i []) qs ≤ j → j < pos → getD (getD qs j []) d 0 < x) → (pos < getD (startsIn ps qs) (suc i) (length qs) → x < getD (getD qs pos []) d 0) → (((getD ps i [] ++ (x ∷ [])) ∈ qs) → ⊥) × (rank (getD ps i [] ++ (x ∷ [])) qs ≡ pos)
@@ -179,7 +175,7 @@ module _ (d : ℕ) (ps qs : List Row) (sp : Asc ps) (wp : Width d ps) (sq : Asc 
               over : Dec (suc i < length ps) → u ≺ getD qs pos []
               over (no m) = absurd (omega (arith, n, start-end ps qs (suc i) (length qs) (omega arith)))
               over (yes m) =
-                  lt-le (snoc-mono x (asc-getD sp i (suc i) (omega arith) m) (wp p (in-getD ps i h) ∙ sym (wp (getD ps (suc i) []) (in-getD ps (suc i) m))))
+                  lt-le (snoc-mono x (asc-getD sp i (suc i) (omega arith) m) (wp p (getD-in ps i [] h) ∙ sym (wp (getD ps (suc i) []) (getD-in ps (suc i) [] m))))
                   (λ (l : getD qs pos [] ≺ getD ps (suc i) []). n (omega (arith, rank-index sq (getD ps (suc i) []) pos k .0 l, start-at ps qs (suc i) (length qs) m)))
 
       place : rank u qs ≡ pos
@@ -269,7 +265,7 @@ module _ (a d : ℕ) (rows : List Row) (w : Width a rows) (h : d < a) where
       hi = getD (intervalsAt d rows) (suc i) (length (keysAt d rows))
 
       wide : length p ≡ d
-      wide = prefixes-width d w (omega arith) p (in-getD (prefixes d rows) i k)
+      wide = prefixes-width d w (omega arith) p (getD-in (prefixes d rows) i [] k)
 
       whole : under p qs ≡ slice (rank p qs) hi qs
       whole =

@@ -10,6 +10,7 @@ use Rattle.relation.specs.Order.{Row}
 use Rattle.relation.specs.Layers.{prefixes, starts, keysUnder, joined, groupsAt}
 use Rattle.relation.specs.Rows.{Width}
 use Rattle.relation.specs.Undamaged.{Ordered}
+use Rattle.relation.proofs.Lists.{getD-any}
 use Rattle.relation.proofs.Layers.{keysAt, intervalsAt, length-intervals}
 use Rattle.relation.proofs.Walks.{sound-ordered, sound-empty}
 use Rattle.relation.proofs.Relations.{between-prefixes}
@@ -65,6 +66,17 @@ getD-map-lt f [] j k = absurd (omega arith)
 getD-map-lt f (q ∷ qs) zero k = refl
 getD-map-lt f (q ∷ qs) (suc j) k = getD-map-lt f qs j (omega arith)
 
+-- a group has a key
+pub begin-end : {a : ℕ} {rows : List Row} (d : ℕ) → Width a rows → d < a → (i : ℕ) → i < length (prefixes d rows) → getD (intervalsAt d rows) i 0 < getD (intervalsAt d rows) (suc i) (length (keysAt d rows))
+begin-end {rows = rows} d w h i k = go (decLt (suc i) (length (intervalsAt d rows)))
+  where
+    o : Ordered (intervalsAt d rows) (keysAt d rows)
+    o = sound-ordered (between-prefixes d w h .0)
+
+    go : Dec (suc i < length (intervalsAt d rows)) → getD (intervalsAt d rows) i 0 < getD (intervalsAt d rows) (suc i) (length (keysAt d rows))
+    go (yes l) = omega (arith, o .ascend i l, getD-any (intervalsAt d rows) (suc i) 0 (length (keysAt d rows)) l)
+    go (no n) = omega (arith, o .inside i (omega (arith, length-intervals d rows)), List·getD-eq-default (intervalsAt d rows) (length (keysAt d rows)) {n = suc i} (omega arith))
+
 pub layer-groups : {a : ℕ} {rows : List Row} (d : ℕ) → Width a rows → d < a → (keysAt d rows ≡ joined (groupsAt d rows)) × (intervalsAt d rows ≡ starts 0 (groupsAt d rows))
 unfolding groupsAt
 layer-groups {a} {rows} d w h =
@@ -80,16 +92,7 @@ layer-groups {a} {rows} d w h =
     o = sound-ordered (between-prefixes d w h .0)
 
     step : Steps ints keys
-    step i k = (go (decLt (suc i) (length ints)), end-le a d rows w h i (omega (arith, length-intervals d rows)))
-      where
-        any : (l : List ℕ) (n x : ℕ) → n < length l → getD l n x ≡ getD l n 0
-        any [] n x q = absurd (omega arith)
-        any (y ∷ ys) zero x q = refl
-        any (y ∷ ys) (suc n) x q = any ys n x (omega arith)
-
-        go : Dec (suc i < length ints) → getD ints i 0 ≤ getD ints (suc i) (length keys)
-        go (yes l) = omega (arith, o .ascend i l, any ints (suc i) (length keys) l)
-        go (no n) = omega (arith, o .inside i (omega arith), List·getD-eq-default ints (length keys) {n = suc i} (omega arith))
+    step i k = let m : i < length (prefixes d rows) = omega (arith, length-intervals d rows) in (omega (arith, begin-end d w h i m), end-le a d rows w h i m)
 
     bare : length ints ≡ 0 → keys ≡ []
     bare e = nil keys (sound-empty (between-prefixes d w h .0) e)

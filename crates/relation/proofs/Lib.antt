@@ -15,3 +15,4 @@ pub mod Groups
 pub mod Insert
 pub mod Words
 pub mod Tables
+pub mod Intervals

@@ -1,7 +1,11 @@
--- Lists that ascend, over any relation: their parts, what is in them determines them, one behind another, and under a map.
+-- Lists that ascend, over any relation: their parts, what is in them determines them, one behind another, and under a map. And places inside a list.
+use Prim.Native.Nat.{ℕ, zero, suc, _<_}
 use mathlib.Core.Path.{_≡_, refl, sym, subst, ap₂, _∙_}
 use mathlib.Core.Logic.{_⊎_, inl, inr, ⊎-elim}
-use mathlib.Core.List.{List, _∷_, _++_, map, List·Memᴰ·append-cases, Memᴰ·of-map}
+use mathlib.Core.List.{List, [], _∷_, _++_, map, List·Memᴰ·append-cases, Memᴰ·of-map}
+use native.Mathlib.Omega.{arith}
+use native.Mathlib.Nat.{le-of-suc-le-suc}
+use lib.ListN.{length, getD}
 use Rattle.relation.specs.Lists.{_∈_, hd, tl, not-in-nil, in-cons, Ascends, anone, amore}
 
 module _ {A : Type 0} {R : A → A → Type 0} where
@@ -44,3 +48,20 @@ module _ {A B : Type 0} {R : A → A → Type 0} {S : B → B → Type 0} (g : A
   ascends-map f anone = anone
   ascends-map f (amore {r = x} {rs = xs} p s) =
       amore (λ b m. let t = Memᴰ·of-map g xs m in subst (S (g x)) (t .2) (f x (t .0) (hd refl) (tl (t .1)) (p (t .0) (t .1)))) (ascends-map (λ a b m m′. f a b (tl m) (tl m′)) s)
+
+-- inside a list it is the same what stands for a place outside
+pub getD-any : (l : List ℕ) (n x y : ℕ) → n < length l → getD l n x ≡ getD l n y
+getD-any [] n x y h = absurd (omega arith)
+getD-any (z ∷ l) zero x y h = refl
+getD-any (z ∷ l) (suc n) x y h = getD-any l n x y (omega arith)
+
+-- members by their places
+module _ {A : Type 0} where
+  pub getD-in : (l : List A) (i : ℕ) (d : A) → i < length l → getD l i d ∈ l
+  getD-in [] i d h = absurd (omega arith)
+  getD-in (x ∷ l) zero d h = hd refl
+  getD-in (x ∷ l) (suc i) d h = tl (getD-in l i d (le-of-suc-le-suc h))
+
+  pub in-getD : {a : A} {l : List A} (d : A) → a ∈ l → (i : ℕ) × (i < length l) × (getD l i d ≡ a)
+  in-getD d (hd e) = (0, omega arith, sym e)
+  in-getD d (tl m) = let t = in-getD d m in (suc (t .0), omega (arith, t .1), t .2)

@@ -11,6 +11,7 @@ use Rattle.relation.specs.Lists.{_∈_, hd, tl, not-in-nil, anone, amore
 use Rattle.relation.specs.Rows.{Sorted, Width, cut, flat}
 use Rattle.relation.proofs.Order.{irrefl, shared}
 use Rattle.relation.proofs.Layers.{keysAt, intervalsAt, build-known, build-keys, build-first, build-new}
+use Rattle.relation.proofs.Lists.{getD-in}
 
 pub length-cut : (n a : ℕ) (ws : List ℕ) → length (cut n a ws) ≡ n
 unfolding cut
@@ -50,15 +51,10 @@ flat-cut (suc n) a ws h =
     sym (take-add a (n * a) ws) ∙
     ap (λ (k : ℕ). take k ws) (let e : a + n * a ≡ suc n * a = omega (arith, suc-mul n a) in e)
 
-in-getD : (qs : List Row) (j : ℕ) → j < length qs → getD qs j [] ∈ qs
-in-getD [] j h = absurd (omega arith)
-in-getD (q ∷ qs) zero h = hd refl
-in-getD (q ∷ qs) (suc j) h = tl (in-getD qs j (omega arith))
-
 sorted-getD : {rows : List Row} → Sorted rows → (i j : ℕ) → i ≤ j → j < length rows → getD rows j [] ≺ getD rows i [] → ⊥
 sorted-getD anone i j h k l = omega arith
 sorted-getD (amore f s) zero zero h k l = irrefl l
-sorted-getD (amore {rs = rs} f s) zero (suc j) h k l = f (getD rs j []) (in-getD rs j (omega arith)) l
+sorted-getD (amore {rs = rs} f s) zero (suc j) h k l = f (getD rs j []) (getD-in rs j [] (omega arith)) l
 sorted-getD (amore f s) (suc i) zero h k l = omega arith
 sorted-getD (amore f s) (suc i) (suc j) h k l = sorted-getD s i j (omega arith) (omega arith) l
 
@@ -77,7 +73,7 @@ front-in (r ∷ rs) (suc n) (suc i) h k = tl (front-in rs n i (omega arith) (ome
 -- the build's turn at row i + 1 of a sorted list, duplicates kept: what each layer gains
 module _ (a : ℕ) (rows : List Row) (w : Width a rows) (s : Sorted rows) (i : ℕ) (h : suc i < length rows) where
   wd : Width a (take (suc i) rows)
-  wd q m = let v = in-front rows (suc i) q m in ap length (v .3) ∙ w (getD rows (v .0) []) (in-getD rows (v .0) (v .2))
+  wd q m = let v = in-front rows (suc i) q m in ap length (v .3) ∙ w (getD rows (v .0) []) (getD-in rows (v .0) [] (v .2))
 
   top : (q : Row) → q ∈ take (suc i) rows → getD rows i [] ≺ q → ⊥
   top q m x = let v = in-front rows (suc i) q m in sorted-getD s (v .0) i (omega (arith, v .1)) (omega arith) (subst (λ (z : Row). getD rows i [] ≺ z) (v .3) x)
@@ -86,13 +82,13 @@ module _ (a : ℕ) (rows : List Row) (w : Width a rows) (s : Sorted rows) (i : �
   more-rows = take-suc rows (suc i) [] h
 
   pub turn-known : (d : ℕ) → d < shared (getD rows i []) (getD rows (suc i) []) → (keysAt d (take (suc (suc i)) rows) ≡ keysAt d (take (suc i) rows)) × (intervalsAt d (take (suc (suc i)) rows) ≡ intervalsAt d (take (suc i) rows))
-  turn-known d k = rw more-rows (build-known a (take (suc i) rows) (getD rows i []) (getD rows (suc i) []) wd (w (getD rows (suc i) []) (in-getD rows (suc i) h)) (front-in rows (suc i) i (omega arith) (omega arith)) top (sorted-getD s i (suc i) (omega arith) h) d k)
+  turn-known d k = rw more-rows (build-known a (take (suc i) rows) (getD rows i []) (getD rows (suc i) []) wd (w (getD rows (suc i) []) (getD-in rows (suc i) [] h)) (front-in rows (suc i) i (omega arith) (omega arith)) top (sorted-getD s i (suc i) (omega arith) h) d k)
 
   pub turn-keys : (d : ℕ) → shared (getD rows i []) (getD rows (suc i) []) ≤ d → d < a → keysAt d (take (suc (suc i)) rows) ≡ keysAt d (take (suc i) rows) ++ (getD (getD rows (suc i) []) d 0 ∷ [])
-  turn-keys d k g = rw more-rows (build-keys a (take (suc i) rows) (getD rows i []) (getD rows (suc i) []) wd (w (getD rows (suc i) []) (in-getD rows (suc i) h)) (front-in rows (suc i) i (omega arith) (omega arith)) top (sorted-getD s i (suc i) (omega arith) h) d k g)
+  turn-keys d k g = rw more-rows (build-keys a (take (suc i) rows) (getD rows i []) (getD rows (suc i) []) wd (w (getD rows (suc i) []) (getD-in rows (suc i) [] h)) (front-in rows (suc i) i (omega arith) (omega arith)) top (sorted-getD s i (suc i) (omega arith) h) d k g)
 
   pub turn-first : (d : ℕ) → d ≡ shared (getD rows i []) (getD rows (suc i) []) → d < a → intervalsAt d (take (suc (suc i)) rows) ≡ intervalsAt d (take (suc i) rows)
-  turn-first d k g = rw more-rows (build-first a (take (suc i) rows) (getD rows i []) (getD rows (suc i) []) wd (w (getD rows (suc i) []) (in-getD rows (suc i) h)) (front-in rows (suc i) i (omega arith) (omega arith)) top (sorted-getD s i (suc i) (omega arith) h) d k g)
+  turn-first d k g = rw more-rows (build-first a (take (suc i) rows) (getD rows i []) (getD rows (suc i) []) wd (w (getD rows (suc i) []) (getD-in rows (suc i) [] h)) (front-in rows (suc i) i (omega arith) (omega arith)) top (sorted-getD s i (suc i) (omega arith) h) d k g)
 
   pub turn-new : (d : ℕ) → shared (getD rows i []) (getD rows (suc i) []) < d → d < a → intervalsAt d (take (suc (suc i)) rows) ≡ intervalsAt d (take (suc i) rows) ++ (length (keysAt d (take (suc i) rows)) ∷ [])
-  turn-new d k g = rw more-rows (build-new a (take (suc i) rows) (getD rows i []) (getD rows (suc i) []) wd (w (getD rows (suc i) []) (in-getD rows (suc i) h)) (front-in rows (suc i) i (omega arith) (omega arith)) top (sorted-getD s i (suc i) (omega arith) h) d k g)
+  turn-new d k g = rw more-rows (build-new a (take (suc i) rows) (getD rows i []) (getD rows (suc i) []) wd (w (getD rows (suc i) []) (getD-in rows (suc i) [] h)) (front-in rows (suc i) i (omega arith) (omega arith)) top (sorted-getD s i (suc i) (omega arith) h) d k g)

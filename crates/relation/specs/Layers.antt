@@ -1,4 +1,4 @@
--- The layers of a relation: at each depth the keys under each beginning, group by group, and where each group starts.
+-- Public: the layers of a relation: at each depth the keys under each beginning, group by group, and where each group starts.
 use Prim.Native.Nat.{ℕ, zero, suc, _+_}
 use mathlib.Core.List.{List, [], _∷_, _++_, map}
 use lib.ListN.{length, take, getD}

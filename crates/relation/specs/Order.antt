@@ -1,4 +1,4 @@
--- Rows of words in lexicographic order: as a test and as a fact.
+-- Public: rows of words in lexicographic order: as a test and as a fact.
 use Prim.Native.Nat.{ℕ, _<_}
 use mathlib.Core.Path.{_≡_}
 use mathlib.Core.Bool.{Bool, true, false}

@@ -1,4 +1,4 @@
--- The rows that layers hold, read from the top.
+-- Public: the rows that layers hold, read from the top.
 use Prim.Native.Nat.{ℕ, suc, _-_}
 use mathlib.Core.List.{List, [], _∷_, _++_}
 use lib.ListN.{getD}

@@ -1,4 +1,4 @@
--- A run of keys, cut at a target.
+-- Public: a run of keys, cut at a target.
 use Prim.Native.Nat.{ℕ}
 use mathlib.Core.List.{List, [], _∷_}
 use lib.Dec.{ltb}

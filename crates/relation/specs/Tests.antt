@@ -1,4 +1,4 @@
--- A test that is made at every index below a bound.
+-- Public: a test that is made at every index below a bound.
 use Prim.Native.Nat.{ℕ, zero, suc}
 use mathlib.Core.Bool.{Bool, true, _&&_}
 

@@ -1,4 +1,4 @@
--- When layers are undamaged: the facts, and the test that decides them.
+-- Public: when layers are undamaged: the facts, and the test that decides them.
 use Prim.Native.Nat.{ℕ, suc, _-_, _≤_, _<_}
 use mathlib.Core.Path.{_≡_}
 use mathlib.Core.Bool.{Bool, true, false, _&&_, _||_}

@@ -6,7 +6,7 @@ use cases::reader::numbers;
 use cases::tally::Tally;
 use cases::tally::is_told;
 use column_trie::ColumnTrie;
-use column_trie_iter::ColumnTrieIter;
+use column_trie_place::ColumnTrieIter;
 use seek::SeekStrategy;
 
 const POOL: usize = 512;
@@ -72,7 +72,7 @@ fn is_key(number: u64, found: bool, key: u64, told: u64, told_key: u64) -> bool 
 // ---- the moves, each with whether its answer is the recorded one. A next's key is the one that is shown then.
 
 fn next(pool: &[u64], table: ColumnTrie, iter: ColumnTrieIter, told: Told) -> Moved {
-    let answer = iter.next(pool, table);
+    let answer = column_trie_iter::next(pool, table, iter);
     let after = answer.iter;
     Moved {
         same: is_key(answer.number, answer.found, answer.key, told.yes, told.key),
@@ -81,7 +81,7 @@ fn next(pool: &[u64], table: ColumnTrie, iter: ColumnTrieIter, told: Told) -> Mo
 }
 
 fn open(pool: &[u64], table: ColumnTrie, iter: ColumnTrieIter, told: Told) -> Moved {
-    let answer = iter.open(pool, table);
+    let answer = column_trie_iter::open(pool, table, iter);
     let after = answer.iter;
     Moved {
         same: is_told(answer.number, answer.opened, told.yes),
@@ -90,7 +90,7 @@ fn open(pool: &[u64], table: ColumnTrie, iter: ColumnTrieIter, told: Told) -> Mo
 }
 
 fn up(pool: &[u64], table: ColumnTrie, iter: ColumnTrieIter, told: Told) -> Moved {
-    let answer = iter.up(pool, table);
+    let answer = column_trie_iter::up(pool, table, iter);
     let after = answer.iter;
     Moved {
         same: is_told(answer.number, answer.risen, told.yes),
@@ -114,7 +114,7 @@ fn seek(
     strategy: SeekStrategy,
     told: Told,
 ) -> Moved {
-    let sought = iter.seek(pool, table, strategy, told.target);
+    let sought = column_trie_iter::seek(pool, table, iter, strategy, told.target);
     let after = sought.iter;
     let same = is_told(sought.number, sought.found, told.yes);
     Moved {
@@ -151,8 +151,8 @@ fn placed(
     told: Told,
     tally: Tally,
 ) -> Tally {
-    let key = iter.key(pool, table);
-    let end = iter.at_end(pool, table);
+    let key = column_trie_iter::key(pool, table, iter);
+    let end = column_trie_iter::at_end(pool, table, iter);
     tally
         .with(is_key(key.number, key.found, key.key, told.found, told.key))
         .with(is_told(end.number, end.at_end, told.end))

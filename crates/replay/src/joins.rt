@@ -8,10 +8,10 @@ use cases::reader::number;
 use cases::reader::numbers;
 use cases::tally::Tally;
 use column_trie::ColumnTrie;
-use leapfrog_triejoin::Atom;
+use join_query::Atom;
+use join_query::Query;
+use join_query::Tables;
 use leapfrog_triejoin::Joined;
-use leapfrog_triejoin::Query;
-use leapfrog_triejoin::Tables;
 use leapfrog_triejoin::join;
 use seek::SeekStrategy;
 
@@ -114,7 +114,7 @@ fn atoms_of(
     from: usize,
     count: usize,
     n: usize,
-    order: [usize; ColumnTrie::MAX_ARITY],
+    order: [usize; Query::MAX_VARIABLES],
 ) -> Posed {
     let mut atoms = no_atoms();
     if Query::MAX_ATOMS < count {
@@ -150,7 +150,7 @@ fn atoms_of(
 
 // The variables in the query's order behind their number; the atoms behind theirs.
 fn query_of(text: &[u8], from: usize) -> Posed {
-    let mut order = [0u64; ColumnTrie::MAX_ARITY];
+    let mut order = [0u64; Query::MAX_VARIABLES];
     let n = number(text, from);
     let behind = numbers(text, n.at, &mut order, n.word as usize);
     let count = number(text, behind);

@@ -7,9 +7,9 @@ use native.Mathlib.Decide.{ℕ-discrete}
 use native.Mathlib.Omega.{arith}
 use lib.ListN.{length, getD, take}
 use Rattle.relation.specs.Lists.{_∈_, not-in-nil, in-cons, Ascends, anone, amore}
-use Rattle.leapfrog_join.specs.declared.Hit.{Hit}
-use Rattle.leapfrog_join.specs.declared.Hit.the-variants.{Key, Nothing}
-use Rattle.leapfrog_join.specs.Ring.{keyOf}
+use Rattle.leapfrog_join.specs.declared.Landed.{Landed}
+use Rattle.leapfrog_join.specs.declared.Landed.the-variants.{Key, Nothing}
+use Rattle.ring_sort.specs.Sorted.{keyAt}
 use Rattle.leapfrog_join.specs.Leapfrog.{Ready, Agreed, Ended}
 use Rattle.leapfrog_join.proofs.Laws.{order-apart, agreed-here}
 use Rattle.replay_leapfrogs.specs.Runs.{inOrder, Run}
@@ -47,7 +47,7 @@ one-more {P} {j} f h a l = go (ℕ-discrete a j)
 
 pub order-ready : {pool at end : List ℕ} {k : ℕ} → 0 < k → k ≤ 8 → length at ≡ 8 → ((a : ℕ) → a < k → Run pool (getD at a 0) (getD end a 0)) → Ready pool at end inOrder k
 order-ready {pool} {at} {end} {k} s f l g = record {
-  some = s;
+  positive = s;
   few = f;
   size = refl;
   places = l;
@@ -55,7 +55,7 @@ order-ready {pool} {at} {end} {k} s f l g = record {
   each = λ a m.
       let b : a < k = omega (arith, up-below k 8 0 a m) in
       let r = g a b in
-      record { atom = omega arith; inside = r .some; ends = r .inside; ascends = r .ascends };
+      record { atom = omega arith; inside = r .nonempty; ends = r .inside; ascends = r .ascends };
 }
 
 -- what an init asks of a ring in atom order
@@ -63,5 +63,5 @@ pub begin-asks : {pool at end ring : List ℕ} {k : ℕ} → ring ≡ inOrder �
 begin-asks {pool} {at} {end} {ring} {k} e g = (rw e g, rw e (order-ascends k))
 
 -- what a next or a seek asks, where the last call found a key
-pub ended-here : {pool at end ring : List ℕ} {k x p : ℕ} {hit : Hit} → hit ≡ Key x p → Ended pool at end ring k hit → Agreed pool at end ring k (keyOf pool at (getD ring p 0)) p
-ended-here {pool} {at} {end} {ring} {k} e g = agreed-here (subst (λ (h : Hit). Ended pool at end ring k h) e g)
+pub ended-here : {pool at end ring : List ℕ} {k x p : ℕ} {landed : Landed} → landed ≡ Key x p → Ended pool at end ring k landed → Agreed pool at end ring k (keyAt pool at (getD ring p 0)) p
+ended-here {pool} {at} {end} {ring} {k} e g = agreed-here (subst (λ (h : Landed). Ended pool at end ring k h) e g)

@@ -14,7 +14,7 @@ use Rattle.replay_leapfrogs.specs.Runs.{Run}
 
 -- the pool from x to i, as far as it is tested
 pub record Rising (pool : List ℕ) (x i : ℕ) : Type 0 where
-  pub some : x < i
+  pub nonempty : x < i
   pub inside : i ≤ length pool
   pub ascends : Ascends _<_ (part pool x i)
   pub top : (a : ℕ) → a ∈ part pool x i → a ≤ getD pool (i - 1) 0
@@ -37,7 +37,7 @@ module _ (pool : List ℕ) (x : ℕ) where
       let e : part pool x (x + 1) ≡ getD pool x 0 ∷ [] = part-cons pool x (x + 1) (omega arith) (omega arith) ∙ ap (λ (r : List ℕ). getD pool x 0 ∷ r) (part-none pool (x + 1) (x + 1) refl) in
       let z : x + 1 - 1 ≡ x = omega arith in
       record {
-        some = omega arith;
+        nonempty = omega arith;
         inside = omega arith;
         ascends = subst (λ (r : List ℕ). Ascends _<_ r) (sym e) (one-ascends (getD pool x 0));
         top = λ a m. omega (arith, List·Memᴰ·eq-of-singleton (subst (λ (r : List ℕ). a ∈ r) e m), ap (λ (n : ℕ). getD pool n 0) z);
@@ -45,10 +45,10 @@ module _ (pool : List ℕ) (x : ℕ) where
 
   pub rising-more : {i : ℕ} → Rising pool x i → i < length pool → getD pool (i - 1) 0 < getD pool i 0 → Rising pool x (i + 1)
   rising-more {i} g l h =
-      let e = part-more i (omega (arith, g .some)) l in
+      let e = part-more i (omega (arith, g .nonempty)) l in
       let z : i + 1 - 1 ≡ i = omega arith in
       record {
-        some = omega (arith, g .some);
+        nonempty = omega (arith, g .nonempty);
         inside = omega arith;
         ascends = subst (λ (r : List ℕ). Ascends _<_ r) (sym e) (ascends-append (g .ascends) (one-ascends (getD pool i 0)) (λ a b m n. omega (arith, g .top a m, List·Memᴰ·eq-of-singleton n)));
         top = λ a m.
@@ -58,4 +58,4 @@ module _ (pool : List ℕ) (x : ℕ) where
 
   -- tested to its end, it is a run
   pub risen : {i e : ℕ} → Rising pool x i → i ≡ e → Run pool x e
-  risen {i} g e = subst (λ (n : ℕ). Run pool x n) e (record { some = g .some; inside = g .inside; ascends = g .ascends })
+  risen {i} g e = subst (λ (n : ℕ). Run pool x n) e (record { nonempty = g .nonempty; inside = g .inside; ascends = g .ascends })

@@ -2,19 +2,19 @@
 ghost use Prim.Native.Nat.{_<_};
 ghost use lib.ListN.{getD, take};
 ghost use mathlib.Core.Path.{_≡_};
-ghost use Rattle.leapfrog_join.specs.Ring.{keyOf};
+ghost use Rattle.ring_sort.specs.Sorted.{keyAt};
 ghost use Rattle.leapfrog_join.specs.Leapfrog.{Ready, Agreed, Ended};
 ghost use Rattle.replay_leapfrogs.specs.Runs.{inOrder};
 use cases::reader::NOWHERE;
 use cases::reader::number;
 use cases::reader::numbers;
 use cases::tally::Tally;
-use leapfrog_join::Hit;
-use leapfrog_join::MAX_ATOMS;
+use leapfrog_join::Landed;
 use leapfrog_join::Searched;
 use leapfrog_join::leapfrog_init;
 use leapfrog_join::leapfrog_next;
 use leapfrog_join::leapfrog_seek;
+use query::MAX_ATOMS;
 use seek::SeekStrategy;
 use std::num::wrapping_add_u64;
 
@@ -68,17 +68,17 @@ fn behind_later(told: Told) -> usize {
 
 // ---- the comparison
 
-fn found_by(hit: Hit) -> u64 {
-    match hit {
-        Hit::Key { key: _, p: _ } => 1,
-        Hit::Nothing { p: _ } => 0,
+fn found_by(landed: Landed) -> u64 {
+    match landed {
+        Landed::Key { key: _, p: _ } => 1,
+        Landed::Nothing { p: _ } => 0,
     }
 }
 
-fn key_of(hit: Hit) -> u64 {
-    match hit {
-        Hit::Key { key, p: _ } => key,
-        Hit::Nothing { p: _ } => 0,
+fn key_of(landed: Landed) -> u64 {
+    match landed {
+        Landed::Key { key, p: _ } => key,
+        Landed::Nothing { p: _ } => 0,
     }
 }
 
@@ -101,11 +101,11 @@ fn compared(
     at: [usize; MAX_ATOMS],
     tally: Tally,
 ) -> Tally {
-    let hit = answer.hit;
+    let landed = answer.landed;
     let gone = told.gone;
     tally
-        .with(found_by(hit) == told.found)
-        .with(key_of(hit) == told.key)
+        .with(found_by(landed) == told.found)
+        .with(key_of(landed) == told.key)
         .with(answer.seeks == told.seeks)
         .with(have_gone(start, at, gone))
 }
@@ -122,7 +122,7 @@ fn begin(
 ) -> Searched
     requires { ⌜ now ring ≡ inOrder ⌝ }
     requires { ⌜ Ready (now pool) (now at) (now end) inOrder k ⌝ }
-    ensures { λ r. ⌜ Ended (now (pool .entry)) (now (at .exit)) (now (end .entry)) (now (ring .exit)) k (r .hit) ⌝ }
+    ensures { λ r. ⌜ Ended (now (pool .entry)) (now (at .exit)) (now (end .entry)) (now (ring .exit)) k (r .landed) ⌝ }
 {
     leapfrog_init(pool, at, end, ring, k, strategy)
 }
@@ -139,8 +139,8 @@ fn step(
     target: u64,
     strategy: SeekStrategy,
 ) -> Searched
-    requires { ⌜ Agreed (now pool) (now at) (now end) (now ring) k (keyOf (now pool) (now at) (getD (now ring) p 0)) p ⌝ }
-    ensures { λ r. ⌜ Ended (now (pool .entry)) (now (at .exit)) (now (end .entry)) (now (ring .entry)) k (r .hit) ⌝ }
+    requires { ⌜ Agreed (now pool) (now at) (now end) (now ring) k (keyAt (now pool) (now at) (getD (now ring) p 0)) p ⌝ }
+    ensures { λ r. ⌜ Ended (now (pool .entry)) (now (at .exit)) (now (end .entry)) (now (ring .entry)) k (r .landed) ⌝ }
 {
     if kind == 1 {
         return leapfrog_next(pool, at, end, ring, k, p, strategy);
@@ -158,21 +158,21 @@ fn later(
     ring: &[usize; MAX_ATOMS],
     k: usize,
     strategy: SeekStrategy,
-    first: Hit,
+    first: Landed,
     count: u64,
     before: Tally,
 ) -> Tally
     requires { ⌜ Ended (now pool) from (now end) (now ring) k first ⌝ }
 {
     let mut at = from;
-    let mut hit = first;
+    let mut landed = first;
     let mut tally = before;
     let mut left = count;
     while 0 < left {
         if tally.at == NOWHERE {
             return tally;
         }
-        let Hit::Key { key: _, p } = hit else {
+        let Landed::Key { key: _, p } = landed else {
             return tally.at(NOWHERE);
         };
         let told = told_at(text, tally.at, k);
@@ -188,7 +188,7 @@ fn later(
             strategy,
         );
         tally = compared(told, answer, start, at, tally.at(behind_later(told)));
-        hit = answer.hit;
+        landed = answer.landed;
         left -= 1;
     }
     tally
@@ -215,7 +215,7 @@ pub fn walk(
     let mut ring = [0usize, 1, 2, 3, 4, 5, 6, 7];
     let answer = begin(pool, &mut at, end, &mut ring, k, strategy);
     let then = compared(told, answer, start, at, tally.at(behind_first(told)));
-    let hit = answer.hit;
+    let landed = answer.landed;
     later(
         text,
         pool,
@@ -225,7 +225,7 @@ pub fn walk(
         &ring,
         k,
         strategy,
-        hit,
+        landed,
         count.word - 1,
         then,
     )

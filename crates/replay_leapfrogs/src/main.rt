@@ -18,7 +18,7 @@ use cases::file::room;
 use cases::reader::NOWHERE;
 use cases::reader::number;
 use cases::tally::Tally;
-use leapfrog_join::MAX_ATOMS;
+use query::MAX_ATOMS;
 use seek::SeekStrategy;
 
 // The calls of a case under each strategy.

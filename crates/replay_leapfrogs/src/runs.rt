@@ -8,7 +8,7 @@ ghost use Rattle.replay_leapfrogs.specs.Runs.{inOrder, Run};
 use cases::reader::NOWHERE;
 use cases::reader::number;
 use cases::reader::numbers;
-use leapfrog_join::MAX_ATOMS;
+use query::MAX_ATOMS;
 
 pub const POOL: usize = 64;
 

@@ -1,4 +1,4 @@
--- What a seek's offset is to be on a run whose keys don't fall, and what the halving rule's is on a part of such a kind.
+-- Of theorems: what a seek's offset is to be on a run whose keys don't fall, and what the halving rule's is on a part of such a kind.
 use mathlib.Core.List.{List}
 use Prim.Native.Nat.{ℕ, _≤_, _<_}
 use lib.ListN.{length, getD}

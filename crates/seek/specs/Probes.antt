@@ -1,4 +1,4 @@
--- What the bounds on probes speak of.
+-- Of theorems: what the bounds on probes speak of.
 use mathlib.Core.Path.{_≡_}
 use mathlib.Core.List.{List}
 use mathlib.Core.Bool.{true, false}

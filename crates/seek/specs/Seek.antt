@@ -1,4 +1,4 @@
--- The rules of seeking, executable, for any run.
+-- Public: the rules of seeking, executable, for any run.
 use Prim.Native.Nat.{ℕ, zero, suc, _+_, _-_, _*_, _/_, min}
 use mathlib.Core.List.{List, [], _∷_}
 use mathlib.Core.Bool.{true, false}

@@ -5,20 +5,21 @@ use mathlib.Core.Logic.{⊎-elim}
 use mathlib.Core.List.{List, _∷_}
 use Rattle.relation.specs.Order.{Row}
 use Rattle.relation.specs.Lists.{_∈_, hd, tl, in-cons}
-use Rattle.relation.specs.Rows.{Members, put}
+use Rattle.relation.specs.Rows.{Members, put, asSet}
 use Rattle.relation.specs.Layers.{layersOf}
-use Rattle.relation.proofs.Sorting.{distinct-sort, asSet-is, put-asc, in-put, put-self, put-old}
+use Rattle.relation.proofs.Sorting.{asSet-is, put-asc, in-put, put-self, put-old}
 use Rattle.column_trie.specs.Pool.{store}
 use Rattle.column_trie.specs.Table.{tableOf, layersIn, rowsIn}
 use Rattle.column_trie.specs.declared.ColumnTrie.{ColumnTrie}
 use Rattle.column_trie.proofs.Layers.{Whole}
 use Rattle.column_trie.proofs.Tables.{holds}
-use Rattle.column_trie_build.specs.Build.{rowsGiven, rowsStored, Builds}
+use Rattle.from_sorted.specs.Given.{rowsGiven}
+use Rattle.column_trie_build.specs.Build.{Builds}
 use Rattle.column_trie_build.specs.declared.Built.{Built}
-use Rattle.column_trie_build.proofs.Leaves.{built-pool, built-table, build-leaves-the-layers-of-the-set-of-rows}
+use Rattle.build_laws.proofs.Leaves.{built-pool, built-table, build-leaves-the-layers-of-the-set-of-rows}
 use Rattle.column_trie_insert.specs.Insert.{Inserts}
 use Rattle.column_trie_insert.specs.declared.Inserted.{Inserted}
-use Rattle.column_trie_insert.proofs.Laws.{Table, insert-leaves-the-layers-of-the-set-of-the-old-rows-and-the-new-one, insert-stores-the-layers-over-the-pool, undamaged-before}
+use Rattle.insert_laws.proofs.Laws.{Table, insert-leaves-the-layers-of-the-set-of-the-old-rows-and-the-new-one, insert-stores-the-layers-over-the-pool, undamaged-before}
 
 -- Two tables, one that an insert into t left and one that was built: the same layers; in the same place also the same header; and over the same pool
 -- every word is the same.
@@ -49,8 +50,5 @@ an-insert-leaves-what-a-build-over-the-old-rows-and-the-new-one-leaves {pool} {p
     left : Table (t .start) (t .arity) (t .capacity) (put tuple (rowsIn pool t)) pool′ (i .table)
     left = insert-leaves-the-layers-of-the-set-of-the-old-rows-and-the-new-one o s y
 
-    same : put tuple (rowsIn pool t) ≡ rowsStored (t .arity) given
-    same =
-        sym
-        (distinct-sort (rowsGiven (t .arity) given)
-        ∙ asSet-is (put-asc tuple (holds o (undamaged-before o s y) .asc)) (λ q. (λ n. put-members tuple (rowsIn pool t) q .0 (m q .0 n), λ n. m q .1 (put-members tuple (rowsIn pool t) q .1 n))))
+    same : put tuple (rowsIn pool t) ≡ asSet (rowsGiven (t .arity) given)
+    same = sym (asSet-is (put-asc tuple (holds o (undamaged-before o s y) .asc)) (λ q. (λ n. put-members tuple (rowsIn pool t) q .0 (m q .0 n), λ n. m q .1 (put-members tuple (rowsIn pool t) q .1 n))))

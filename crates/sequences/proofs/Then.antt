@@ -1,25 +1,25 @@
 -- A build, then inserts, each accepted: they leave the layers of the set of all rows given, to either.
 use Prim.Native.Nat.{ℕ}
-use mathlib.Core.Path.{_≡_, sym, subst, _∙_}
+use mathlib.Core.Path.{_≡_, sym, subst}
 use mathlib.Core.List.{List, _++_}
 use lib.ListN.{length}
 use Rattle.relation.specs.Order.{Row}
 use Rattle.relation.specs.Rows.{asSet}
 use Rattle.relation.specs.Layers.{layersOf}
-use Rattle.relation.proofs.Sorting.{distinct-sort}
 use Rattle.relation.proofs.Tables.{layers-count}
 use Rattle.column_trie.specs.declared.ColumnTrie.{ColumnTrie}
 use Rattle.column_trie.proofs.Layers.{Whole}
 use Rattle.column_trie.proofs.Stored.{header-whole}
-use Rattle.column_trie_build.specs.Build.{rowsGiven, rowsStored, Builds}
+use Rattle.from_sorted.specs.Given.{rowsGiven}
+use Rattle.column_trie_build.specs.Build.{Builds}
 use Rattle.column_trie_build.specs.declared.Built.{Built}
-use Rattle.column_trie_build.proofs.Leaves.{built-accepted, built-table, build-leaves-the-layers-of-the-set-of-rows}
-use Rattle.column_trie_insert.proofs.Laws.{Table, table-of, Inserted-all, inserts-leave-the-set-of-all-rows-given}
+use Rattle.build_laws.proofs.Leaves.{built-accepted, built-table, build-leaves-the-layers-of-the-set-of-rows}
+use Rattle.insert_laws.proofs.Laws.{Table, table-of, Inserted-all, inserts-leave-the-set-of-all-rows-given}
 
 module _ (given lent : List ℕ) (start arity capacity : ℕ) {given′ lent′ : List ℕ} {r : Built} (b : Builds given lent start arity capacity given′ lent′ r) (z : r .number ≡ 0) where
   whole : Whole (r .table)
   whole =
-      let rows = rowsStored arity given in
+      let rows = asSet (rowsGiven arity given) in
       subst Whole (sym (built-table given lent start arity capacity b z))
       (header-whole start arity capacity (layersOf arity rows) (length rows) (layers-count arity 0 rows) (built-accepted given lent start arity capacity b z .few))
 
@@ -28,7 +28,7 @@ module _ (given lent : List ℕ) (start arity capacity : ℕ) {given′ lent′ 
   a-build-leaves-the-set-of-all-rows-given =
       let l = build-leaves-the-layers-of-the-set-of-rows given lent start arity capacity b z in
       subst (λ (x : ColumnTrie). Table (x .start) (x .arity) (x .capacity) (asSet (rowsGiven arity given)) lent′ (r .table)) (built-table given lent start arity capacity b z)
-      (table-of whole (l .undamaged) (l .rows ∙ distinct-sort (rowsGiven arity given)))
+      (table-of whole (l .undamaged) (l .rows))
 
   pub a-build-and-inserts-leave-the-set-of-all-rows-given : {tuples : List Row} {pool : List ℕ} {t : ColumnTrie} → Inserted-all lent′ (r .table) tuples pool t → Table start arity capacity (asSet (tuples ++ rowsGiven arity given)) pool t
   a-build-and-inserts-leave-the-set-of-all-rows-given = inserts-leave-the-set-of-all-rows-given (rowsGiven arity given) a-build-leaves-the-set-of-all-rows-given

@@ -1,4 +1,4 @@
--- What document 01 stars under "Worked on the bench": a table of what is asked and what must come. `comes` asks the definitions that the public calls' contracts cite.
+-- Of theorems: what document 01 stars under "Worked on the bench": a table of what is asked and what must come. `comes` asks the definitions that the public calls' contracts cite.
 use Prim.Native.Nat.{ℕ}
 use mathlib.Core.Bool.{Bool, false, true}
 use mathlib.Core.List.{List, [], _∷_, _++_}
@@ -9,16 +9,19 @@ use Rattle.seek.specs.Seek.{seekOf}
 use Rattle.seek.specs.declared.SeekStrategy.{SeekStrategy}
 use Rattle.seek.specs.declared.SeekStrategy.the-variants.{Linear, Binary, Galloping}
 use Rattle.grade.specs.Word.{wordOf}
+use Rattle.column_trie.specs.Table.{headerWith, padded, emptyTable}
 use Rattle.column_trie.specs.declared.ColumnTrie.{ColumnTrie}
 use Rattle.column_trie_build.specs.Build.{builtAnswer, poolLeft}
 use Rattle.column_trie_insert.specs.Insert.{insertNumber, takesIn}
 use Rattle.column_trie_insert.specs.Insert as inserts
-use Rattle.column_trie_iter.specs.Cursor.{cursor, keyOf, openOf, upOf, remaining}
-use Rattle.column_trie_iter.specs.declared.ColumnTrieIter.{ColumnTrieIter}
-use Rattle.leapfrog_triejoin.specs.Outcome.{outcome, seeksOf}
-use Rattle.leapfrog_triejoin.specs.declared.Atom.{Atom}
-use Rattle.leapfrog_triejoin.specs.declared.Query.{Query}
-use Rattle.leapfrog_triejoin.specs.declared.Tables.{Tables}
+use Rattle.column_trie_place.specs.Checks.{cursor, remaining}
+use Rattle.column_trie_iter.specs.Cursor.{keyOf, openOf, upOf}
+use Rattle.column_trie_place.specs.declared.ColumnTrieIter.{ColumnTrieIter}
+use Rattle.join_query.specs.Outcome.{outcome}
+use Rattle.leapfrog_triejoin.specs.Outcome.{seeksOf}
+use Rattle.join_query.specs.declared.Atom.{Atom}
+use Rattle.join_query.specs.declared.Query.{Query}
+use Rattle.join_query.specs.declared.Tables.{Tables}
 
 pub data Asked : Type 0 where
   -- rows' words, pool, start, arity, capacity
@@ -62,15 +65,7 @@ comes (Grade g) = Word (wordOf g)
 
 -- arity 2, capacity 4, from place 1 of a pool of nines: lengths of data and intervals, count
 abbrev header : ℕ → ℕ → ℕ → ℕ → ℕ → ColumnTrie
-header data₀ ints₀ data₁ ints₁ count =
-    record {
-      start = 1;
-      arity = 2;
-      capacity = 4;
-      «data_len» = data₀ ∷ data₁ ∷ 0 ∷ 0 ∷ 0 ∷ 0 ∷ 0 ∷ 0 ∷ [];
-      «interval_len» = ints₀ ∷ ints₁ ∷ 0 ∷ 0 ∷ 0 ∷ 0 ∷ 0 ∷ 0 ∷ [];
-      «tuple_count» = count;
-    }
+header data₀ ints₀ data₁ ints₁ count = headerWith 1 2 4 (padded (data₀ ∷ data₁ ∷ [])) (padded (ints₀ ∷ ints₁ ∷ [])) count
 
 abbrev nines : List ℕ
 nines = 9 ∷ 9 ∷ 9 ∷ 9 ∷ 9 ∷ 9 ∷ 9 ∷ 9 ∷ 9 ∷ 9 ∷ 9 ∷ 9 ∷ 9 ∷ 9 ∷ 9 ∷ 9 ∷ 9 ∷ 9 ∷ []
@@ -88,15 +83,7 @@ evens = 2 ∷ 4 ∷ 6 ∷ 8 ∷ 10 ∷ 12 ∷ 14 ∷ 16 ∷ []
 
 -- tables of arity 2 and capacity 3, one behind the other, and their words: data, intervals, data, intervals
 abbrev table : ℕ → ℕ → ℕ → ColumnTrie
-table start keys count =
-    record {
-      start = start;
-      arity = 2;
-      capacity = 3;
-      «data_len» = keys ∷ count ∷ 0 ∷ 0 ∷ 0 ∷ 0 ∷ 0 ∷ 0 ∷ [];
-      «interval_len» = 1 ∷ keys ∷ 0 ∷ 0 ∷ 0 ∷ 0 ∷ 0 ∷ 0 ∷ [];
-      «tuple_count» = count;
-    }
+table start keys count = headerWith start 2 3 (padded (keys ∷ count ∷ [])) (padded (1 ∷ keys ∷ [])) count
 
 -- R = (1,2),(1,3),(2,3); S = (2,3),(3,1); T = (1,1),(1,3),(2,1)
 abbrev triangle : List ℕ
@@ -106,11 +93,8 @@ triangle =
     1 ∷ 2 ∷ 0 ∷ 0 ∷ 0 ∷ 0 ∷ 1 ∷ 3 ∷ 1 ∷ 0 ∷ 2 ∷ 0 ∷
     []
 
-abbrev nought : ColumnTrie
-nought = record { start = 0; arity = 0; capacity = 0; «data_len» = 0 ∷ 0 ∷ 0 ∷ 0 ∷ 0 ∷ 0 ∷ 0 ∷ 0 ∷ []; «interval_len» = 0 ∷ 0 ∷ 0 ∷ 0 ∷ 0 ∷ 0 ∷ 0 ∷ 0 ∷ []; «tuple_count» = 0 }
-
 abbrev three : Tables
-three = record { count = 3; tables = table 0 2 3 ∷ table 12 2 2 ∷ table 24 2 3 ∷ nought ∷ nought ∷ nought ∷ nought ∷ nought ∷ [] }
+three = record { count = 3; tables = table 0 2 3 ∷ table 12 2 2 ∷ table 24 2 3 ∷ emptyTable 0 0 0 ∷ emptyTable 0 0 0 ∷ emptyTable 0 0 0 ∷ emptyTable 0 0 0 ∷ emptyTable 0 0 0 ∷ [] }
 
 abbrev atom : ℕ → ℕ → ℕ → Atom
 atom t x y = record { table = t; len = 2; variables = x ∷ y ∷ 0 ∷ 0 ∷ 0 ∷ 0 ∷ 0 ∷ 0 ∷ [] }
@@ -135,7 +119,7 @@ abbrev chained : List ℕ
 chained = 1 ∷ 2 ∷ 0 ∷ 0 ∷ 0 ∷ 0 ∷ 2 ∷ 3 ∷ 0 ∷ 0 ∷ 1 ∷ 0 ∷ []
 
 abbrev single : Tables
-single = record { count = 1; tables = table 0 2 2 ∷ nought ∷ nought ∷ nought ∷ nought ∷ nought ∷ nought ∷ nought ∷ [] }
+single = record { count = 1; tables = table 0 2 2 ∷ emptyTable 0 0 0 ∷ emptyTable 0 0 0 ∷ emptyTable 0 0 0 ∷ emptyTable 0 0 0 ∷ emptyTable 0 0 0 ∷ emptyTable 0 0 0 ∷ emptyTable 0 0 0 ∷ [] }
 
 pub record Line : Type 0 where
   pub asked : Asked

@@ -8,31 +8,30 @@ use mathlib.Core.List.{List, [], _∷_, _++_}
 use native.Mathlib.Omega.{arith}
 use native.Mathlib.Decide.{decLt}
 use native.Mathlib.Nat.{le-of-eq}
-use lib.ListN.{length, getD, take, drop, length-take, length-drop, List·getD-eq-default}
-use lib.Seq.{length-slice, getD-take, getD-drop}
+use lib.ListN.{length, getD, take, drop, length-take, length-drop}
+use lib.Seq.{getD-take, getD-drop}
 use lib.Dec.{ltb, leb}
 use borrow.Author.Tests.{lt-ltb, le-leb}
 use Rattle.relation.specs.Tests.{every}
 use Rattle.relation.specs.Order.{Row}
 use Rattle.relation.specs.Rows.{Width}
-use Rattle.relation.specs.Layers.{Layer, layer, prefixes, keysUnder, layerAt, layersOf}
+use Rattle.relation.specs.Layers.{Layer, layer, prefixes, keysUnder, layerAt}
 use Rattle.relation.specs.Undamaged as layers
 use Rattle.relation.specs.Undamaged.{Ordered}
 use Rattle.relation.proofs.Tests.{and-left, and-true}
-use Rattle.relation.proofs.Layers.{keysAt, intervalsAt, rankedAt, length-intervals, length-keys, prefixes-asc, prefixes-width, parent-in}
+use Rattle.relation.proofs.Lists.{getD-any}
 use Rattle.relation.proofs.Walks.{sound-ordered}
-use Rattle.relation.proofs.Children.{group-row, key-at, begin-is, end-is, end-le, group-keys}
-use Rattle.relation.proofs.Paths.{layer-from}
+use Rattle.relation.proofs.Intervals.{layer-is, keys-many, intervals-many, group-under, group-end, group-rises, group-many, group-key, group-child}
 use Rattle.relation.proofs.Relations.{between-prefixes}
-use Rattle.relation.proofs.Tables.{ranked, ranked-at, every-undamaged-table-is-what-a-build-of-its-own-rows-leaves}
+use Rattle.relation.proofs.Tables.{ranked-at, every-undamaged-table-is-what-a-build-of-its-own-rows-leaves}
 use Rattle.column_trie.specs.Limits.{maxArity}
+use Rattle.column_trie.specs.Groups.{groupFrom, groupTo, keysOf, lies}
 use Rattle.column_trie.specs.Pool.{reads}
 use Rattle.column_trie.specs.Table.{dataLen, intervalLen, layersIn, layerIn, rowsIn, headerSound, pastAt, Undamaged, undamaged}
 use Rattle.column_trie.specs.declared.ColumnTrie.{ColumnTrie}
 use Rattle.column_trie.proofs.Layers.{reads-at}
 use Rattle.column_trie.proofs.Damage.{told-undamaged}
-use Rattle.column_trie_iter.specs.Cursor.{groupFrom, groupTo, keysOf, lies, countUpTo}
-use Rattle.column_trie.proofs.Words.{getD-any}
+use Rattle.column_trie_place.specs.Checks.{countUpTo}
 use Rattle.seek.specs.Offset.{NonFalling}
 use Rattle.seek.proofs.Laws.{leading-one, binary-leading}
 use Rattle.trie_iterator.specs.Cursor.{Layered}
@@ -56,10 +55,6 @@ layer-in pool t e d h =
     let y : getD ns d 0 ≡ intervalLen t d = getD-take (t .arity) (t .«interval_len») d 0 h in
     reads-at (t .start) (t .capacity) ks ns pool d (a ∙ sym b) (omega arith) ∙ cc
 
-layer-of : {a : ℕ} {rows : List Row} → Width a rows → (d : ℕ) → d < a → layer (layersOf a rows) d ≡ layerAt d rows
-layer-of {a} {rows} w d h =
-    ap (λ (ls : List Layer). layer ls d) (sym (ranked w)) ∙ layer-from 0 a rows d h ∙ ap (λ (n : ℕ). rankedAt n rows) (let e : 0 + d ≡ d = omega arith in e) ∙ ranked-at d w h
-
 pub undamaged-layered : {pool : List ℕ} {t : ColumnTrie} → Undamaged pool t → Layered pool t (rowsIn pool t)
 unfolding undamaged
 undamaged-layered {pool} {t} u =
@@ -70,13 +65,13 @@ undamaged-layered {pool} {t} u =
           (told-undamaged pool t u);
       asc = r .asc;
       width = r .width;
-      layers = λ d h. sym (layer-in pool t (u .layers .arity) d h) ∙ ap (λ (ls : List Layer). layer ls d) (r .built) ∙ layer-of (r .width) d h;
+      layers = λ d h. sym (layer-in pool t (u .layers .arity) d h) ∙ ap (λ (ls : List Layer). layer ls d) (r .built) ∙ layer-is (r .width) d h;
     }
 
 -- ---- the groups of one layer of a relation
 
 -- Interval i of the layer l at depth d, that of the beginning p.
-pub record Group (l : Layer) (rows : List Row) (d i : ℕ) (p : Row) : Type 0 where
+pub record GroupHolds (l : Layer) (rows : List Row) (d i : ℕ) (p : Row) : Type 0 where
   -- its group lies in the layer, holds the keys under p, and is as long as they are many
   pub lies : lies l i ≡ true
   pub keys : keysOf l i ≡ keysUnder p rows
@@ -101,103 +96,70 @@ rising l f a (suc b) h k = go (decLt a (suc b)) (λ (q : a ≤ b). rising l f a 
     go (no q) ih = le-of-eq (ap (λ (n : ℕ). getD l n 0) (let e : a ≡ suc b = omega arith in e))
 
 module _ {a : ℕ} {rows : List Row} (w : Width a rows) (d : ℕ) (h : d < a) where
-  ordered : Ordered (intervalsAt d rows) (keysAt d rows)
-  ordered = sound-ordered (between-prefixes d w h .0)
+  abbrev here : Layer
+  here = layerAt d rows
+
+  ordered : Ordered (here .intervals) (here .keys)
+  ordered = subst (λ (l : Layer). Ordered (l .intervals) (l .keys)) (ranked-at d w h) (sound-ordered (between-prefixes d w h .0))
 
   module _ (i : ℕ) (k : i < length (prefixes d rows)) where
-    grows : groupFrom (rankedAt d rows) i < groupTo (rankedAt d rows) i
-    grows = go (decLt (suc i) (length (intervalsAt d rows)))
-      where
-        go : Dec (suc i < length (intervalsAt d rows)) → groupFrom (rankedAt d rows) i < groupTo (rankedAt d rows) i
-        go (yes l) = omega (arith, ordered .ascend i l, getD-any (intervalsAt d rows) (suc i) 0 (length (keysAt d rows)) l)
-        go (no n) = omega (arith, ordered .inside i (omega (arith, length-intervals d rows)), List·getD-eq-default (intervalsAt d rows) (length (keysAt d rows)) {n = suc i} (omega arith))
+    abbrev keys : List ℕ
+    keys = keysUnder (getD (prefixes d rows) i []) rows
 
-    stops : groupTo (rankedAt d rows) i ≤ length (keysAt d rows)
-    stops = end-le a d rows w h i k
-
-    group-ranked : keysOf (rankedAt d rows) i ≡ keysUnder (getD (prefixes d rows) i []) rows
-    group-ranked = group-keys a d rows w h i k
-
-    lies-ranked : lies (rankedAt d rows) i ≡ true
+    lies-here : lies here i ≡ true
     unfolding lies
-    lies-ranked =
-        let l = rankedAt d rows in
-        and-true (ltb i (length (l .intervals))) (leb (groupFrom l i) (groupTo l i) && leb (groupTo l i) (length (l .keys))) (lt-ltb i (length (l .intervals)) (omega (arith, length-intervals d rows)))
-        (and-true (leb (groupFrom l i) (groupTo l i)) (leb (groupTo l i) (length (l .keys))) (le-leb (groupFrom l i) (groupTo l i) (omega (arith, grows))) (le-leb (groupTo l i) (length (l .keys)) stops))
-
-    -- as many keys under a beginning as its group is long
-    many-ranked : length (keysUnder (getD (prefixes d rows) i []) rows) ≡ groupTo (rankedAt d rows) i - groupFrom (rankedAt d rows) i
-    many-ranked = ap length (sym group-ranked) ∙ length-slice (groupFrom (rankedAt d rows) i) (groupTo (rankedAt d rows) i) (keysAt d rows) stops
-
-    key-ranked : (o : ℕ) → o < length (keysUnder (getD (prefixes d rows) i []) rows) → getD (keysUnder (getD (prefixes d rows) i []) rows) o 0 ≡ getD (keysAt d rows) (groupFrom (rankedAt d rows) i + o) 0
-    key-ranked o m =
-        let l = rankedAt d rows in
-        ap (λ (ks : List ℕ). getD ks o 0) (sym group-ranked) ∙
-        getD-drop (groupFrom l i) (take (groupTo l i) (keysAt d rows)) o 0 ∙
-        getD-take (groupTo l i) (keysAt d rows) (groupFrom l i + o) 0 (omega (arith, m, many-ranked))
+    lies-here =
+        and-true (ltb i (length (here .intervals))) (leb (groupFrom here i) (groupTo here i) && leb (groupTo here i) (length (here .keys))) (lt-ltb i (length (here .intervals)) (omega (arith, intervals-many w d h)))
+        (and-true (leb (groupFrom here i) (groupTo here i)) (leb (groupTo here i) (length (here .keys))) (le-leb (groupFrom here i) (groupTo here i) (omega (arith, group-rises w d h i k))) (le-leb (groupTo here i) (length (here .keys)) (group-end w d h i k)))
 
     -- the place of a key is the place of its beginning with it
-    child-ranked : (o : ℕ) → o < length (keysUnder (getD (prefixes d rows) i []) rows) → let j = groupFrom (rankedAt d rows) i + o in (j < length (prefixes (suc d) rows)) × (getD (prefixes (suc d) rows) j [] ≡ getD (prefixes d rows) i [] ++ (getD (keysUnder (getD (prefixes d rows) i []) rows) o 0 ∷ []))
-    child-ranked o m =
-        let ps = prefixes d rows in
-        let qs = prefixes (suc d) rows in
-        let j = groupFrom (rankedAt d rows) i + o in
-        let b : j < groupTo (rankedAt d rows) i = omega (arith, m, many-ranked) in
-        let c : j < length qs = omega (arith, b, stops, length-keys d rows) in
-        let r = group-row d ps qs (prefixes-asc d rows) (prefixes-width d w (omega arith)) (prefixes-asc (suc d) rows) (prefixes-width (suc d) w h) (λ q x. parent-in d rows x)
-        i j k c (omega (arith, begin-is a d rows w h i k)) (omega (arith, b, end-is a d rows w h i)) in
-        (c, r ∙ ap (λ (n : ℕ). getD ps i [] ++ (n ∷ [])) (sym (key-at a d rows w h j (omega (arith, b, stops))) ∙ sym (key-ranked o m)))
+    child-here : (o : ℕ) → o < length keys → (groupFrom here i + o < length (prefixes (suc d) rows)) × (getD (prefixes (suc d) rows) (groupFrom here i + o) [] ≡ getD (prefixes d rows) i [] ++ (getD keys o 0 ∷ []))
+    child-here o m =
+        let c = group-child w d h i (groupFrom here i + o) k (omega arith) (omega (arith, m, group-many w d h i k)) in
+        (c .0, c .1 ∙ ap (λ (n : ℕ). getD (prefixes d rows) i [] ++ (n ∷ [])) (sym (group-key w d h i k o m)))
 
     -- the intervals not above it are those up to i
-    owner-ranked : (o : ℕ) → o < length (keysUnder (getD (prefixes d rows) i []) rows) → countUpTo (groupFrom (rankedAt d rows) i + o) (intervalsAt d rows) ≡ suc i
-    owner-ranked o m =
-        let ints = intervalsAt d rows in
-        let j = groupFrom (rankedAt d rows) i + o in
+    owner-here : (o : ℕ) → o < length keys → countUpTo (groupFrom here i + o) (here .intervals) ≡ suc i
+    owner-here o m =
+        let ints = here .intervals in
+        let j = groupFrom here i + o in
         let f = rising ints (ordered .ascend) in
         leading-one ints (j + 1) (countUpTo j ints) (suc i) (binary-leading ints (j + 1) f)
         (record {
-          inside = omega (arith, length-intervals d rows);
-          before = λ x l. omega (arith, f x i (omega arith) (omega (arith, length-intervals d rows)));
-          stops = λ l. omega (arith, m, many-ranked, getD-any ints (suc i) 0 (length (keysAt d rows)) l);
+          inside = omega (arith, intervals-many w d h);
+          before = λ x l. omega (arith, f x i (omega arith) (omega (arith, intervals-many w d h)));
+          stops = λ l. omega (arith, m, group-many w d h i k, getD-any ints (suc i) 0 (length (here .keys)) l);
         })
 
     -- the keys from any on don't fall
-    rises-ranked : (o : ℕ) → NonFalling (drop o (keysUnder (getD (prefixes d rows) i []) rows))
-    rises-ranked o x y l m =
-        let ks = keysUnder (getD (prefixes d rows) i []) rows in
-        omega (arith, getD-drop o ks x 0, getD-drop o ks y 0, rising ks step (o + x) (o + y) (omega arith) (omega (arith, m, length-drop o ks)))
+    rises-here : (o : ℕ) → NonFalling (drop o keys)
+    rises-here o x y l m = omega (arith, getD-drop o keys x 0, getD-drop o keys y 0, rising keys step (o + x) (o + y) (omega arith) (omega (arith, m, length-drop o keys)))
       where
-        step : (x : ℕ) → suc x < length (keysUnder (getD (prefixes d rows) i []) rows) → getD (keysUnder (getD (prefixes d rows) i []) rows) x 0 < getD (keysUnder (getD (prefixes d rows) i []) rows) (suc x) 0
+        step : (x : ℕ) → suc x < length keys → getD keys x 0 < getD keys (suc x) 0
         step x m =
-            let from = groupFrom (rankedAt d rows) i in
+            let from = groupFrom here i in
             let e : from + suc x ≡ suc (from + x) = omega arith in
-            let r = ordered .groups i (from + x) (omega (arith, length-intervals d rows)) (omega arith) (omega (arith, m, many-ranked)) in
-            omega (arith, r, key-ranked x (omega arith), key-ranked (suc x) m ∙ ap (λ (n : ℕ). getD (keysAt d rows) n 0) e)
+            let r = ordered .groups i (from + x) (omega (arith, intervals-many w d h)) (omega arith) (omega (arith, m, group-many w d h i k)) in
+            omega (arith, r, group-key w d h i k x (omega arith), group-key w d h i k (suc x) m ∙ ap (λ (n : ℕ). getD (here .keys) n 0) e)
 
-    ranked-group : Group (rankedAt d rows) rows d i (getD (prefixes d rows) i [])
-    ranked-group =
+    group-here : GroupHolds here rows d i (getD (prefixes d rows) i [])
+    group-here =
         record {
-          lies = lies-ranked;
-          keys = group-ranked;
-          long = omega (arith, grows, many-ranked);
-          child = child-ranked;
-          owner = owner-ranked;
-          rises = rises-ranked;
+          lies = lies-here;
+          keys = group-under w d h i k;
+          long = omega (arith, group-rises w d h i k, group-many w d h i k);
+          child = child-here;
+          owner = owner-here;
+          rises = rises-here;
         }
 
 -- ---- the same of a table in the pool
 
 module _ {pool : List ℕ} {t : ColumnTrie} {rows : List Row} (H : Layered pool t rows) {d : ℕ} (h : d < t .arity) where
-  layer-ranked : layerIn pool t d ≡ rankedAt d rows
-  layer-ranked = H .layers d h ∙ sym (ranked-at d (H .width) h)
+  -- a key for each beginning of one word more
+  pub keys-held : length (layerIn pool t d .keys) ≡ length (prefixes (suc d) rows)
+  keys-held = ap (λ (l : Layer). length (l .keys)) (H .layers d h) ∙ keys-many (H .width) d h
 
-  -- an interval for each beginning of d words, a key for each of one more
-  pub intervals-many : length (layerIn pool t d .intervals) ≡ length (prefixes d rows)
-  intervals-many = ap (λ (l : Layer). length (l .intervals)) layer-ranked ∙ length-intervals d rows
-
-  pub keys-many : length (layerIn pool t d .keys) ≡ length (prefixes (suc d) rows)
-  keys-many = ap (λ (l : Layer). length (l .keys)) layer-ranked ∙ length-keys d rows
-
-  pub held-group : {i : ℕ} → i < length (prefixes d rows) → {p : Row} → getD (prefixes d rows) i [] ≡ p → Group (layerIn pool t d) rows d i p
+  pub held-group : {i : ℕ} → i < length (prefixes d rows) → {p : Row} → getD (prefixes d rows) i [] ≡ p → GroupHolds (layerIn pool t d) rows d i p
   held-group {i} k {p} e =
-      subst (λ (l : Layer). Group l rows d i p) (sym layer-ranked) (subst (Group (rankedAt d rows) rows d i) e (ranked-group (H .width) d h i k))
+      subst (λ (l : Layer). GroupHolds l rows d i p) (sym (H .layers d h)) (subst (GroupHolds (layerAt d rows) rows d i) e (group-here (H .width) d h i k))

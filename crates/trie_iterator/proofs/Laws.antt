@@ -13,9 +13,10 @@ use Rattle.relation.specs.Layers.{keysUnder}
 use Rattle.relation.proofs.Tests.{not-both}
 use Rattle.column_trie.specs.Table.{Undamaged, rowsIn}
 use Rattle.column_trie.specs.declared.ColumnTrie.{ColumnTrie}
-use Rattle.column_trie_iter.specs.Cursor.{fresh, past, soughtOf, seekIn, openOf, upOf}
-use Rattle.column_trie_iter.specs.declared.ColumnTrieIter.{ColumnTrieIter}
-use Rattle.column_trie_iter.proofs.Seeks.{some-drop}
+use Rattle.column_trie_place.specs.Checks.{atRoot, past}
+use Rattle.column_trie_iter.specs.Cursor.{soughtOf, seekIn, openOf, upOf}
+use Rattle.column_trie_place.specs.declared.ColumnTrieIter.{ColumnTrieIter}
+use Rattle.column_trie_iter.proofs.Seeks.{nonempty-drop}
 use Rattle.seek.specs.Seek.{seekOf}
 use Rattle.seek.specs.Offset.{Leading}
 use Rattle.seek.specs.declared.SeekStrategy.{SeekStrategy}
@@ -74,7 +75,7 @@ module _ {pool : List ℕ} {t : ColumnTrie} {rows : List Row} (H : Layered pool 
             iter = λ j. record { depth = it .depth; «interval_i» = it .«interval_i»; «slice_offset» = z j };
           }
       go (k ∷ ks) l =
-          record { passed = seekOf x (k ∷ ks) target .offset; leads = l; number = refl; found = sym (some-drop (k ∷ ks) (seekOf x (k ∷ ks) target .offset)); iter = refl }
+          record { passed = seekOf x (k ∷ ks) target .offset; leads = l; number = refl; found = sym (nonempty-drop (k ∷ ks) (seekOf x (k ∷ ks) target .offset)); iter = refl }
 
   -- the strategies differ in their probes alone
   pub seeks-agree : {s : State} {it : ColumnTrieIter} → Stands (t .arity) rows s it → (x y : SeekStrategy) (target : ℕ) → (soughtOf pool t it x target .found ≡ soughtOf pool t it y target .found) × (soughtOf pool t it x target .iter ≡ soughtOf pool t it y target .iter)
@@ -107,13 +108,13 @@ module _ {pool : List ℕ} {t : ColumnTrie} {rows : List Row} (H : Layered pool 
 
 -- ---- on an undamaged table, from the root, by any sequence of calls
 
-pub a-cursor-moves-as-the-trie-iterator : {pool : List ℕ} {t : ColumnTrie} → Undamaged pool t → (cs : List Call) → Follows pool t (rowsIn pool t) root fresh cs
+pub a-cursor-moves-as-the-trie-iterator : {pool : List ℕ} {t : ColumnTrie} → Undamaged pool t → (cs : List Call) → Follows pool t (rowsIn pool t) root atRoot cs
 a-cursor-moves-as-the-trie-iterator u cs = follows (undamaged-layered u) (at-root refl) cs
 
 module _ {pool : List ℕ} {t : ColumnTrie} (u : Undamaged pool t) (cs : List Call) where
   -- the cursor that they leave
   abbrev cursor : ColumnTrieIter
-  cursor = movedAll pool t fresh cs
+  cursor = movedAll pool t atRoot cs
 
   pub a-seek-after-any-calls-stops-at-the-first-key-not-below : (x : SeekStrategy) (target : ℕ) → Stopped (left (follow (t .arity) (rowsIn pool t) root cs)) target cursor (soughtOf pool t cursor x target)
   a-seek-after-any-calls-stops-at-the-first-key-not-below = a-seek-stops-at-the-first-key-not-below (undamaged-layered u) (a-cursor-moves-as-the-trie-iterator u cs .stands)

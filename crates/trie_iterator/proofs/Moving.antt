@@ -11,19 +11,21 @@ use lib.Dec.{ltb}
 use borrow.Author.Tests.{ltb-true, lt-ltb, le-ltb, ne-eqb}
 use Rattle.relation.specs.Order.{Row, pick}
 use Rattle.relation.specs.Layers.{prefixes, keysUnder}
-use Rattle.relation.specs.Lists.{_∈_, hd}
+use Rattle.relation.specs.Lists.{_∈_, hd, nonempty}
 use Rattle.relation.proofs.Tests.{and-left, and-right, not-both}
 use Rattle.relation.proofs.Rank.{rank, rank-at}
-use Rattle.relation.proofs.Children.{rank-of, in-getD}
+use Rattle.relation.proofs.Children.{rank-of}
 use Rattle.relation.proofs.Layers.{prefixes-asc, prefixes-width, prefix-in}
 use Rattle.relation.proofs.Relations.{length-prefixes, roots}
+use Rattle.column_trie.specs.Groups.{groupFrom, groupTo, lies}
 use Rattle.column_trie.specs.Table.{layerIn}
 use Rattle.column_trie.proofs.Header.{header-told}
 use Rattle.column_trie.specs.declared.ColumnTrie.{ColumnTrie}
-use Rattle.column_trie_iter.specs.Cursor.{past, groupFrom, groupTo, lies}
+use Rattle.column_trie_place.specs.Checks.{past}
+use Rattle.column_trie_place.specs.Checks as checks
 use Rattle.column_trie_iter.specs.Cursor as cursor
-use Rattle.column_trie_iter.specs.declared.ColumnTrieIter.{ColumnTrieIter}
-use Rattle.column_trie_iter.proofs.Rests.{answers}
+use Rattle.column_trie_place.specs.declared.ColumnTrieIter.{ColumnTrieIter}
+use Rattle.column_trie_place.proofs.Rests.{answers}
 use Rattle.column_trie_iter.proofs.Rises.{rises-in, up-top, up-root, up-below}
 use Rattle.relation.specs.Runs.{from}
 use Rattle.relation.proofs.Runs.{from-drop}
@@ -31,10 +33,11 @@ use Rattle.seek.specs.Seek.{seekOf}
 use Rattle.seek.specs.Offset.{NonFalling, Leading}
 use Rattle.seek.specs.declared.SeekStrategy.{SeekStrategy}
 use Rattle.seek.proofs.Laws.{leading}
-use Rattle.trie_iterator.specs.TrieIterator.{State, root, level, levels, left, path, goNext, goSeek, goDown, goUp, opens, rises, some, shown, says}
+use Rattle.trie_iterator.specs.TrieIterator.{State, root, level, levels, left, path, goNext, goSeek, goDown, goUp, opens, rises, shown, says}
 use Rattle.trie_iterator.specs.Cursor.{Layered, Below, Stands, at-root, at-level, ofKey, ofNext, ofSeek, ofEnd, ofOpen, ofUp}
-use Rattle.trie_iterator.proofs.Held.{held-group, keys-many}
+use Rattle.trie_iterator.proofs.Held.{held-group, keys-held}
 use Rattle.trie_iterator.proofs.Standing.{group-at, clear, same-left, key-is, next-is, seek-is, end-is}
+use Rattle.relation.proofs.Lists.{getD-in}
 
 -- n siblings further
 past-below : {a : ℕ} {rows : List Row} {above : State} {ks : List ℕ} {it : ColumnTrieIter} (n : ℕ) → n ≤ length ks → Below a rows above ks it → Below a rows above (drop n ks) (past it n)
@@ -59,10 +62,10 @@ module _ {pool : List ℕ} {t : ColumnTrie} {rows : List Row} (H : Layered pool 
       same [] = refl
       same (k ∷ ks) = refl
 
-  pub end-answers : {s : State} {it : ColumnTrieIter} → Stands (t .arity) rows s it → ofEnd (cursor.endOf pool t it) ≡ says (not (some (left s)))
+  pub end-answers : {s : State} {it : ColumnTrieIter} → Stands (t .arity) rows s it → ofEnd (cursor.endOf pool t it) ≡ says (not (nonempty (left s)))
   end-answers {s} w = ap ofEnd (end-is H w) ∙ same (left s)
     where
-      same : (ks : List ℕ) → ofEnd (cursor.endIn ks) ≡ says (not (some ks))
+      same : (ks : List ℕ) → ofEnd (cursor.endIn ks) ≡ says (not (nonempty ks))
       same [] = refl
       same (k ∷ ks) = refl
 
@@ -99,18 +102,14 @@ module _ {pool : List ℕ} {t : ColumnTrie} {rows : List Row} (H : Layered pool 
   seek-from : {s : State} {it : ColumnTrieIter} → Stands (t .arity) rows s it → (x : SeekStrategy) (target : ℕ) → drop (seekOf x (left s) target .offset) (left s) ≡ from target (left s)
   seek-from {s} w x target = let l = seek-leads w x target in sym (from-drop target (left s) (seekOf x (left s) target .offset) (l .inside) (l .before) (l .stops))
 
-  pub seek-answers : {s : State} {it : ColumnTrieIter} → Stands (t .arity) rows s it → (x : SeekStrategy) (target : ℕ) → ofSeek (cursor.soughtOf pool t it x target) ≡ says (some (left (goSeek target s)))
+  pub seek-answers : {s : State} {it : ColumnTrieIter} → Stands (t .arity) rows s it → (x : SeekStrategy) (target : ℕ) → ofSeek (cursor.soughtOf pool t it x target) ≡ says (nonempty (left (goSeek target s)))
   unfolding from
   seek-answers {s} {it} w x target = ap ofSeek (seek-is H w x target) ∙ same s (seek-from w x target)
     where
-      found : (ks : List ℕ) → says (cursor.some ks) ≡ says (some ks)
-      found [] = refl
-      found (k ∷ ks) = refl
-
-      same : (s : State) → drop (seekOf x (left s) target .offset) (left s) ≡ from target (left s) → ofSeek (cursor.seekIn x target it (left s)) ≡ says (some (left (goSeek target s)))
+      same : (s : State) → drop (seekOf x (left s) target .offset) (left s) ≡ from target (left s) → ofSeek (cursor.seekIn x target it (left s)) ≡ says (nonempty (left (goSeek target s)))
       same root e = refl
       same (level [] above) e = refl
-      same (level (k ∷ ks) above) e = found (drop (seekOf x (k ∷ ks) target .offset) (k ∷ ks)) ∙ ap (λ (l : List ℕ). says (some l)) e
+      same (level (k ∷ ks) above) e = ap (λ (l : List ℕ). says (nonempty l)) e
 
   pub seek-stands : {s : State} {it : ColumnTrieIter} → Stands (t .arity) rows s it → (x : SeekStrategy) (target : ℕ) → Stands (t .arity) rows (goSeek target s) (cursor.soughtOf pool t it x target .iter)
   unfolding from
@@ -130,10 +129,10 @@ module _ {pool : List ℕ} {t : ColumnTrie} {rows : List Row} (H : Layered pool 
   depth-is (at-level w b) = b .depth
 
   -- data in layer 0 exactly if there are rows
-  root-keys : 0 < t .arity → ltb 0 (length (layerIn pool t 0 .keys)) ≡ some rows
-  root-keys h = go rows (keys-many H h)
+  root-keys : 0 < t .arity → ltb 0 (length (layerIn pool t 0 .keys)) ≡ nonempty rows
+  root-keys h = go rows (keys-held H h)
     where
-      go : (rs : List Row) → length (layerIn pool t 0 .keys) ≡ length (prefixes 1 rs) → ltb 0 (length (layerIn pool t 0 .keys)) ≡ some rs
+      go : (rs : List Row) → length (layerIn pool t 0 .keys) ≡ length (prefixes 1 rs) → ltb 0 (length (layerIn pool t 0 .keys)) ≡ nonempty rs
       go [] e = le-ltb 0 (length (layerIn pool t 0 .keys)) (omega (arith, e, length-prefixes 1 []))
       go (q ∷ qs) e =
           let m : q ∈ (q ∷ qs) = hd refl in
@@ -143,10 +142,10 @@ module _ {pool : List ℕ} {t : ColumnTrie} {rows : List Row} (H : Layered pool 
   unfolding cursor.opens
   opens-is (at-root e) =
       subst (λ (x : ColumnTrieIter). cursor.opens pool t x ≡ opens (t .arity) rows root) (sym e)
-      (ap (λ (b : Bool). ltb 0 (t .arity) && b) (root-keys (header-told (length pool) t (H .sound) .some)))
+      (ap (λ (b : Bool). ltb 0 (t .arity) && b) (root-keys (header-told (length pool) t (H .sound) .positive)))
   opens-is (at-level {above} {it = it} w b) =
-      ap (λ (x : Bool). ltb (it .depth) (t .arity) && pick x (ltb 0 (length (layerIn pool t 0 .keys))) (cursor.some (cursor.remaining pool t it))) (ne-eqb (it .depth) 0 (λ z. omega (arith, b .depth))) ∙
-      ap₂ {C = Bool} (λ n ks. ltb n (t .arity) && cursor.some ks) (b .depth) (same-left H (at-level w b))
+      ap (λ (x : Bool). ltb (it .depth) (t .arity) && pick x (ltb 0 (length (layerIn pool t 0 .keys))) (nonempty (checks.remaining pool t it))) (ne-eqb (it .depth) 0 (λ z. omega (arith, b .depth))) ∙
+      ap₂ {C = Bool} (λ n ks. ltb n (t .arity) && nonempty ks) (b .depth) (same-left H (at-level w b))
 
   -- the interval of the children is that of the keys so far
   pub record Child (s : State) (i : ℕ) : Type 0 where
@@ -161,9 +160,9 @@ module _ {pool : List ℕ} {t : ColumnTrie} {rows : List Row} (H : Layered pool 
       (h, ap (λ (m : List ℕ). cursor.first m) f)
 
   root-child : opens (t .arity) rows root ≡ true → Child root 0
-  root-child o = record { deep = ltb-true 0 (t .arity) (and-left (ltb 0 (t .arity)) (some rows) o); known = many rows (and-right (ltb 0 (t .arity)) (some rows) o); under = only (roots rows) }
+  root-child o = record { deep = ltb-true 0 (t .arity) (and-left (ltb 0 (t .arity)) (nonempty rows) o); known = many rows (and-right (ltb 0 (t .arity)) (nonempty rows) o); under = only (roots rows) }
     where
-      many : (rs : List Row) → some rs ≡ true → 0 < length (prefixes 0 rs)
+      many : (rs : List Row) → nonempty rs ≡ true → 0 < length (prefixes 0 rs)
       many [] e = not-both false e refl
       many (q ∷ qs) e = let m : q ∈ (q ∷ qs) = hd refl in omega (arith, rank-at (prefixes-asc 0 (q ∷ qs)) (prefix-in 0 m) .0)
 
@@ -171,9 +170,9 @@ module _ {pool : List ℕ} {t : ColumnTrie} {rows : List Row} (H : Layered pool 
       only (inl e) = ap (λ (l : List Row). getD l 0 []) e
       only (inr e) = ap (λ (l : List Row). getD l 0 []) e
 
-  child-of : {s : State} {it : ColumnTrieIter} → Stands (t .arity) rows s it → opens (t .arity) rows s ≡ true → Child s (cursor.child pool t it)
-  unfolding cursor.child
-  child-of (at-root e) o = subst (λ (x : ColumnTrieIter). Child root (cursor.child pool t x)) (sym e) (root-child o)
+  child-of : {s : State} {it : ColumnTrieIter} → Stands (t .arity) rows s it → opens (t .arity) rows s ≡ true → Child s (checks.child pool t it)
+  unfolding checks.child
+  child-of (at-root e) o = subst (λ (x : ColumnTrieIter). Child root (checks.child pool t x)) (sym e) (root-child o)
   child-of (at-level {above} {ks = []} w b) o = not-both false (and-right (ltb (suc (levels above)) (t .arity)) false o) refl
   child-of (at-level {above} {ks = k ∷ ks} {it = it} w b) o =
       let f = first-of (keysUnder (path above) rows) (it .«slice_offset») (b .rest) in
@@ -185,29 +184,29 @@ module _ {pool : List ℕ} {t : ColumnTrie} {rows : List Row} (H : Layered pool 
         under = g .1 ∙ ap (λ (n : ℕ). path above ++ (n ∷ [])) (f .1);
       })
     where
-      place : Below (t .arity) rows above (k ∷ ks) it → cursor.child pool t it ≡ groupFrom (layerIn pool t (levels above)) (it .«interval_i») + it .«slice_offset»
+      place : Below (t .arity) rows above (k ∷ ks) it → checks.child pool t it ≡ groupFrom (layerIn pool t (levels above)) (it .«interval_i») + it .«slice_offset»
       place b =
           simp (ne-eqb (it .depth) 0 (λ z. omega (arith, b .depth)))
           (ap (λ (n : ℕ). groupFrom (layerIn pool t n) (it .«interval_i») + it .«slice_offset») (let e : it .depth - 1 ≡ levels above = omega (arith, b .depth) in e))
 
   -- the two answers
   module _ {s : State} {it : ColumnTrieIter} (w : Stands (t .arity) rows s it) where
-    open-is : cursor.openOf pool t it ≡ pick (opens (t .arity) rows s) (cursor.openAt pool t it (cursor.child pool t it)) (cursor.unopened it 0)
+    open-is : cursor.openOf pool t it ≡ pick (opens (t .arity) rows s) (cursor.openAt pool t it (checks.child pool t it)) (cursor.unopened it 0)
     unfolding cursor.openOf
     open-is =
-        sym (answers (cursor.unopened it) (pick (cursor.opens pool t it) (cursor.openAt pool t it (cursor.child pool t it)) (cursor.unopened it 0)) (clear H w)) ∙
-        ap (λ (b : Bool). pick b (cursor.openAt pool t it (cursor.child pool t it)) (cursor.unopened it 0)) (opens-is w)
+        sym (answers (cursor.unopened it) (pick (cursor.opens pool t it) (cursor.openAt pool t it (checks.child pool t it)) (cursor.unopened it 0)) (clear H w)) ∙
+        ap (λ (b : Bool). pick b (cursor.openAt pool t it (checks.child pool t it)) (cursor.unopened it 0)) (opens-is w)
 
     open-not : opens (t .arity) rows s ≡ false → cursor.openOf pool t it ≡ cursor.unopened it 0
-    open-not e = open-is ∙ ap (λ (b : Bool). pick b (cursor.openAt pool t it (cursor.child pool t it)) (cursor.unopened it 0)) e
+    open-not e = open-is ∙ ap (λ (b : Bool). pick b (cursor.openAt pool t it (checks.child pool t it)) (cursor.unopened it 0)) e
 
-    open-does : opens (t .arity) rows s ≡ true → cursor.openOf pool t it ≡ record { number = 0; opened = true; iter = cursor.cursor (it .depth + 1) (cursor.child pool t it) 0 }
+    open-does : opens (t .arity) rows s ≡ true → cursor.openOf pool t it ≡ record { number = 0; opened = true; iter = checks.cursor (it .depth + 1) (checks.child pool t it) 0 }
     open-does e =
         let c = child-of w e in
         open-is ∙
-        ap (λ (b : Bool). pick b (cursor.openAt pool t it (cursor.child pool t it)) (cursor.unopened it 0)) e ∙
-        ap (λ (b : Bool). pick b (record { number = 0; opened = true; iter = cursor.cursor (it .depth + 1) (cursor.child pool t it) 0 }) (cursor.unopened it 6))
-        (ap (λ (n : ℕ). lies (layerIn pool t n) (cursor.child pool t it)) (depth-is w) ∙ held-group H (c .deep) (c .known) (c .under) .lies)
+        ap (λ (b : Bool). pick b (cursor.openAt pool t it (checks.child pool t it)) (cursor.unopened it 0)) e ∙
+        ap (λ (b : Bool). pick b (record { number = 0; opened = true; iter = checks.cursor (it .depth + 1) (checks.child pool t it) 0 }) (cursor.unopened it 6))
+        (ap (λ (n : ℕ). lies (layerIn pool t n) (checks.child pool t it)) (depth-is w) ∙ held-group H (c .deep) (c .known) (c .under) .lies)
 
     pub open-answers : ofOpen (cursor.openOf pool t it) ≡ says (opens (t .arity) rows s)
     open-answers = go (opens (t .arity) rows s) refl
@@ -219,10 +218,10 @@ module _ {pool : List ℕ} {t : ColumnTrie} {rows : List Row} (H : Layered pool 
     pub open-stands : Stands (t .arity) rows (goDown (t .arity) rows s) (cursor.openOf pool t it .iter)
     open-stands = go (opens (t .arity) rows s) refl
       where
-        opened : opens (t .arity) rows s ≡ true → Stands (t .arity) rows (level (keysUnder (path s) rows) s) (cursor.cursor (it .depth + 1) (cursor.child pool t it) 0)
+        opened : opens (t .arity) rows s ≡ true → Stands (t .arity) rows (level (keysUnder (path s) rows) s) (checks.cursor (it .depth + 1) (checks.child pool t it) 0)
         opened e =
             let c = child-of w e in
-            at-level {it = cursor.cursor (it .depth + 1) (cursor.child pool t it) 0} w
+            at-level {it = checks.cursor (it .depth + 1) (checks.child pool t it) 0} w
             (record { deep = c .deep; depth = omega (arith, depth-is w); known = c .known; under = c .under; inside = omega arith; rest = refl })
 
         go : (b : Bool) → opens (t .arity) rows s ≡ b → Stands (t .arity) rows (goDown (t .arity) rows s) (cursor.openOf pool t it .iter)
@@ -241,7 +240,7 @@ module _ {pool : List ℕ} {t : ColumnTrie} {rows : List Row} (H : Layered pool 
 
   -- a beginning among those of d words has d words
   long : (d i : ℕ) {p : Row} → d ≤ t .arity → i < length (prefixes d rows) → getD (prefixes d rows) i [] ≡ p → length p ≡ d
-  long d i h k e = ap length (sym e) ∙ prefixes-width d (H .width) h (getD (prefixes d rows) i []) (in-getD (prefixes d rows) i k)
+  long d i h k e = ap length (sym e) ∙ prefixes-width d (H .width) h (getD (prefixes d rows) i []) (getD-in (prefixes d rows) i [] k)
 
   -- the owner's interval, and the offset in its group
   owned : {above : State} {k : ℕ} {js ks : List ℕ} {it it′ : ColumnTrieIter} → Below (t .arity) rows above (k ∷ js) it → Below (t .arity) rows (level (k ∷ js) above) ks it′
@@ -259,7 +258,7 @@ module _ {pool : List ℕ} {t : ColumnTrie} {rows : List Row} (H : Layered pool 
       let q : suc i - 1 ≡ i = omega arith in
       let x : it′ .depth - 1 ≡ it .depth = omega (arith, b .depth, c .depth) in
       let z : it′ .«interval_i» - groupFrom l i ≡ o = omega arith in
-      sym (rises-in l it′ {n = suc i} (sym (ap (λ (n : ℕ). cursor.countUpTo n (l .intervals)) e ∙ g .owner o (f .0))) (λ (y : suc i ≡ 0). omega arith)
+      sym (rises-in l it′ {n = suc i} (sym (ap (λ (n : ℕ). checks.countUpTo n (l .intervals)) e ∙ g .owner o (f .0))) (λ (y : suc i ≡ 0). omega arith)
       (ap (lies l) q ∙ g .lies) (subst (λ (n : ℕ). it′ .«interval_i» < groupTo l n) (sym q) (omega (arith, g .long, f .0)))) ∙
       ap (cursor.risenTo l it′) q ∙
       (λ j. record { number = 0; risen = true; iter = record { depth = x j; «interval_i» = i; «slice_offset» = z j } })

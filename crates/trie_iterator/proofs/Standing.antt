@@ -9,35 +9,37 @@ use lib.ListN.{length, drop}
 use borrow.Author.Tests.{ne-eqb}
 use Rattle.relation.specs.Order.{Row, pick}
 use Rattle.relation.specs.Layers.{Layer}
+use Rattle.column_trie.specs.Groups.{lies, keysOf}
 use Rattle.column_trie.specs.Table.{layerIn}
 use Rattle.column_trie.specs.declared.ColumnTrie.{ColumnTrie}
-use Rattle.column_trie_iter.specs.Cursor.{fresh, lies, keysOf, layerOf, refusal, remaining, unless, noKey, keyIn, keyOf, unmoved, nextIn, nextOf, unsought, seekIn, soughtOf, noEnd, endIn, endOf}
-use Rattle.column_trie_iter.specs.Cursor as cursor
-use Rattle.column_trie_iter.specs.declared.ColumnTrieIter.{ColumnTrieIter}
-use Rattle.column_trie_iter.proofs.Places.{stands-there, stands-below}
-use Rattle.column_trie_iter.proofs.Rests.{answers}
+use Rattle.column_trie_place.specs.Checks.{atRoot, layerOf, refusal, remaining, unless}
+use Rattle.column_trie_iter.specs.Cursor.{noKey, keyIn, keyOf, unmoved, nextIn, nextOf, unsought, seekIn, soughtOf, noEnd, endIn, endOf}
+use Rattle.column_trie_place.specs.Checks as checks
+use Rattle.column_trie_place.specs.declared.ColumnTrieIter.{ColumnTrieIter}
+use Rattle.column_trie_place.proofs.Places.{stands-there, stands-below}
+use Rattle.column_trie_place.proofs.Rests.{answers}
 use Rattle.seek.specs.declared.SeekStrategy.{SeekStrategy}
 use Rattle.trie_iterator.specs.TrieIterator.{State, levels, left, path}
 use Rattle.trie_iterator.specs.Cursor.{Layered, Below, Stands, at-root, at-level}
-use Rattle.trie_iterator.proofs.Held.{Group, held-group}
+use Rattle.trie_iterator.proofs.Held.{GroupHolds, held-group}
 
 module _ {pool : List ℕ} {t : ColumnTrie} {rows : List Row} (H : Layered pool t rows) where
   -- the group in which the cursor stands
-  pub group-at : {above : State} {ks : List ℕ} {it : ColumnTrieIter} → Below (t .arity) rows above ks it → Group (layerIn pool t (levels above)) rows (levels above) (it .«interval_i») (path above)
+  pub group-at : {above : State} {ks : List ℕ} {it : ColumnTrieIter} → Below (t .arity) rows above ks it → GroupHolds (layerIn pool t (levels above)) rows (levels above) (it .«interval_i») (path above)
   group-at b = held-group H (b .deep) (b .known) (b .under)
 
   -- and the layer, by the cursor's depth
   layer-at : {above : State} {ks : List ℕ} {it : ColumnTrieIter} → Below (t .arity) rows above ks it → layerOf pool t it ≡ layerIn pool t (levels above)
   layer-at {above} {ks} {it} b = ap (layerIn pool t) (let e : it .depth - 1 ≡ levels above = omega (arith, b .depth) in e)
 
-  cleared : (it : ColumnTrieIter) → cursor.stands pool t it ≡ true → refusal pool t it ≡ 0
+  cleared : (it : ColumnTrieIter) → checks.stands pool t it ≡ true → refusal pool t it ≡ 0
   unfolding refusal
   cleared it e = ap₂ {C = ℕ} (λ x y. pick x (pick y 0 7) 6) (H .sound) e
 
   -- not refused
   pub clear : {s : State} {it : ColumnTrieIter} → Stands (t .arity) rows s it → refusal pool t it ≡ 0
-  unfolding cursor.stands
-  clear (at-root {it} e) = subst (λ (x : ColumnTrieIter). refusal pool t x ≡ 0) (sym e) (cleared fresh refl)
+  unfolding checks.stands
+  clear (at-root {it} e) = subst (λ (x : ColumnTrieIter). refusal pool t x ≡ 0) (sym e) (cleared atRoot refl)
   clear (at-level {it = it} w b) =
       let g = group-at b in
       let l = layer-at b in

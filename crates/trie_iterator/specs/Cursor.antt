@@ -1,4 +1,4 @@
--- A cursor as the trie iterator: its answers, and when it stands at a state of the iterator.
+-- Of theorems: a cursor as the trie iterator: its answers, and when it stands at a state of the iterator.
 use Prim.Native.Nat.{ℕ, suc, _≤_, _<_}
 use mathlib.Core.Path.{_≡_}
 use mathlib.Core.Bool.{true}
@@ -11,8 +11,9 @@ use Rattle.relation.specs.Rows.{Asc, Width}
 use Rattle.relation.specs.Layers.{prefixes, keysUnder, layerAt}
 use Rattle.column_trie.specs.Table.{headerSound, layerIn}
 use Rattle.column_trie.specs.declared.ColumnTrie.{ColumnTrie}
-use Rattle.column_trie_iter.specs.Cursor.{fresh, past, unless, keyOf, nextOf, soughtOf, endOf, openOf, upOf}
-use Rattle.column_trie_iter.specs.declared.ColumnTrieIter.{ColumnTrieIter}
+use Rattle.column_trie_place.specs.Checks.{atRoot, past, unless}
+use Rattle.column_trie_iter.specs.Cursor.{keyOf, nextOf, soughtOf, endOf, openOf, upOf}
+use Rattle.column_trie_place.specs.declared.ColumnTrieIter.{ColumnTrieIter}
 use Rattle.column_trie_iter.specs.declared.KeyAnswer.{KeyAnswer}
 use Rattle.column_trie_iter.specs.declared.NextAnswer.{NextAnswer}
 use Rattle.column_trie_iter.specs.declared.SeekAnswer.{SeekAnswer}
@@ -85,9 +86,9 @@ pub record Below (a : ℕ) (rows : List Row) (above : State) (ks : List ℕ) (it
   pub inside : it .«slice_offset» ≤ length (keysUnder (path above) rows)
   pub rest : drop (it .«slice_offset») (keysUnder (path above) rows) ≡ ks
 
--- A cursor stands at a state: at the root it is fresh; else it is below the place above, at which some cursor, its parent, stands.
+-- A cursor stands at a state: at the root, or else it is below the place above, at which some cursor, its parent, stands.
 pub data Stands (a : ℕ) (rows : List Row) : State → ColumnTrieIter → Type 0 where
-  at-root : {it : ColumnTrieIter} → it ≡ fresh → Stands a rows root it
+  at-root : {it : ColumnTrieIter} → it ≡ atRoot → Stands a rows root it
   at-level : {above : State} {ks : List ℕ} {parent it : ColumnTrieIter} → Stands a rows above parent → Below a rows above ks it → Stands a rows (level ks above) it
 
 -- After a sequence of calls, made of the cursor and of the iterator over the rows: the same answers, and the cursor stands where the iterator does.

@@ -1,10 +1,11 @@
--- The trie iterator of Veldhuizen 2014 (arXiv 1210.0481), section 3, over a relation: rows of a words, ascending. The rows seen as a trie have at
+-- Of theorems: the trie iterator of Veldhuizen 2014 (arXiv 1210.0481), section 3, over a relation: rows of a words, ascending. The rows seen as a trie have at
 -- each depth the keys that go on from the keys above. The paper does not say what its operations do outside their preconditions; document 01 does,
 -- and the second sentence at each operation has it.
 use Prim.Native.Nat.{ℕ, suc}
 use mathlib.Core.Bool.{Bool, true, false, not, _&&_}
 use mathlib.Core.List.{List, [], _∷_, _++_}
 use lib.Dec.{ltb}
+use Rattle.relation.specs.Lists.{nonempty}
 use Rattle.relation.specs.Order.{Row, pick}
 use Rattle.relation.specs.Runs.{from}
 use Rattle.relation.specs.Layers.{keysUnder}
@@ -53,14 +54,10 @@ abbrev pub goSeek : ℕ → State → State
 goSeek target root = root
 goSeek target (level ks above) = level (from target ks) above
 
-abbrev pub some : {A : Type 0} → List A → Bool
-some [] = false
-some (x ∷ xs) = true
-
 -- there is a key to go down from: the root has children if there are rows
 abbrev pub stands : List Row → State → Bool
-stands rows root = some rows
-stands rows (level ks above) = some ks
+stands rows root = nonempty rows
+stands rows (level ks above) = nonempty ks
 
 -- open proceeds to the first key at the next depth. At full depth, at the end and at the root of no rows it says no and moves nothing.
 abbrev pub opens : ℕ → List Row → State → Bool
@@ -110,10 +107,10 @@ shown (k ∷ ks) = shows k
 abbrev pub answer : ℕ → List Row → State → Call → Answer
 answer a rows s Key = shown (left s)
 answer a rows s Next = shown (left (goNext s))
-answer a rows s AtEnd = says (not (some (left s)))
+answer a rows s AtEnd = says (not (nonempty (left s)))
 answer a rows s Open = says (opens a rows s)
 answer a rows s Up = says (rises s)
-answer a rows s (Seek x target) = says (some (left (goSeek target s)))
+answer a rows s (Seek x target) = says (nonempty (left (goSeek target s)))
 
 abbrev pub after : ℕ → List Row → State → Call → State
 after a rows s Key = s

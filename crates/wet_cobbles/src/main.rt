@@ -5,9 +5,9 @@
 // cut keys would have chosen: the first that the same join lists over the same tables with every word cut.
 use column_trie::ColumnTrie;
 use column_trie_build::build;
-use leapfrog_triejoin::Atom;
-use leapfrog_triejoin::Query;
-use leapfrog_triejoin::Tables;
+use join_query::Atom;
+use join_query::Query;
+use join_query::Tables;
 use leapfrog_triejoin::join;
 use seek::SeekStrategy;
 use show::number;

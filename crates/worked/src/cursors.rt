@@ -10,7 +10,7 @@ use cases::reader::number;
 use cases::reader::numbers;
 use cases::tally::Tally;
 use column_trie::ColumnTrie;
-use column_trie_iter::ColumnTrieIter;
+use column_trie_place::ColumnTrieIter;
 
 // The text's next cursor, and how far the text was read.
 struct Stood {
@@ -70,29 +70,29 @@ fn answered(text: &[u8], tally: Tally, came: Answer) -> Tally {
 // ---- the calls
 
 fn key(pool: &[u64], table: ColumnTrie, iter: ColumnTrieIter) -> Answer {
-    let came = iter.key(pool, table);
+    let came = column_trie_iter::key(pool, table, iter);
     told(came.number, came.found, came.key, 0, iter)
 }
 
 fn next(pool: &[u64], table: ColumnTrie, iter: ColumnTrieIter) -> Answer {
-    let came = iter.next(pool, table);
+    let came = column_trie_iter::next(pool, table, iter);
     let after = came.iter;
     told(came.number, came.found, came.key, 0, after)
 }
 
 fn at_end(pool: &[u64], table: ColumnTrie, iter: ColumnTrieIter) -> Answer {
-    let came = iter.at_end(pool, table);
+    let came = column_trie_iter::at_end(pool, table, iter);
     told(came.number, came.at_end, 0, 0, iter)
 }
 
 fn open(pool: &[u64], table: ColumnTrie, iter: ColumnTrieIter) -> Answer {
-    let came = iter.open(pool, table);
+    let came = column_trie_iter::open(pool, table, iter);
     let after = came.iter;
     told(came.number, came.opened, 0, 0, after)
 }
 
 fn up(pool: &[u64], table: ColumnTrie, iter: ColumnTrieIter) -> Answer {
-    let came = iter.up(pool, table);
+    let came = column_trie_iter::up(pool, table, iter);
     let after = came.iter;
     told(came.number, came.risen, 0, 0, after)
 }
@@ -126,7 +126,7 @@ fn call(kind: u64, pool: &[u64], table: ColumnTrie, iter: ColumnTrieIter) -> Ans
 fn seek(text: &[u8], tally: Tally, pool: &[u64], table: ColumnTrie, iter: ColumnTrieIter) -> Tally {
     let strategy = choice(text, tally.at, 3);
     let target = number(text, strategy.at);
-    let came = iter.seek(pool, table, strategy_of(strategy.word), target.word);
+    let came = column_trie_iter::seek(pool, table, iter, strategy_of(strategy.word), target.word);
     let after = came.iter;
     let sought = told(came.number, came.found, 0, came.probes, after);
     answered(text, tally.at(target.at), sought)

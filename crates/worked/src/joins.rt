@@ -7,9 +7,9 @@ use crate::lists::left;
 use cases::reader::number;
 use cases::tally::Tally;
 use column_trie::ColumnTrie;
-use leapfrog_triejoin::Atom;
-use leapfrog_triejoin::Query;
-use leapfrog_triejoin::Tables;
+use join_query::Atom;
+use join_query::Query;
+use join_query::Tables;
 use leapfrog_triejoin::join;
 use seek::SeekStrategy;
 

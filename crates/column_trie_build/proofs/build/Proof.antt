@@ -3,15 +3,14 @@ use mathlib.Core.Path.{sym, ap, _∙_, subst}
 use mathlib.Core.List.{List}
 use lib.ListN.{length}
 use Rattle.relation.specs.Order.{Row}
-use Rattle.relation.specs.Rows.{distinct}
 use Rattle.relation.specs.Layers.{layersOf}
 use Rattle.column_trie.specs.Pool.{store}
 use Rattle.column_trie.specs.Table.{emptyTable, tableOf}
 use Rattle.column_trie.specs.declared.ColumnTrie.{ColumnTrie}
-use Rattle.column_trie_build.specs.Build.{rowsGiven}
-use Rattle.column_trie_build.specs.Push.{Filling, Fills}
+use Rattle.from_sorted.specs.Given.{rowsGiven}
+use Rattle.from_sorted.specs.Push.{Filling, Fills}
 use Rattle.column_trie_build.proofs.Numbers.{Accepted, accepted}
-use Rattle.column_trie_build.proofs.Outcomes.{builds-refused, builds-built, sorted-rows, filling}
+use Rattle.column_trie_build.proofs.Outcomes.{builds-refused, builds-built, set-of-rows, filling}
 use borrow.Author.Needs.{needs}
 use Rattle.column_trie_build.proofs.build.Statement.{statement}
 use Rattle.column_trie_build.proofs.build.Tie as tie
@@ -32,7 +31,7 @@ returns c =
     builds-refused (s .rows .now) (s .pool .now) (s .start) (s .arity) (s .capacity) (c .before .before .build-number .ensures) (c .before .if1 .taken) (c .empty .ensures)
 
 sort-rows-requires : tie.Need-sort-rows-requires
-sort-rows-requires c κs = let a = passed (c .before) in (a .some, a .whole)
+sort-rows-requires c κs = let a = passed (c .before) in (a .positive, a .whole)
 
 empty-requires-2 : tie.Need-empty-requires-2
 empty-requires-2 c κs = search needs
@@ -59,10 +58,10 @@ returns-2 c =
     let s = k .before .before .before .before .args in
     let rows = s .rows .now in
     let pool = s .pool .now in
-    let e = sorted-rows rows (passed k) (w .ensures) in
+    let e = set-of-rows rows (passed k) (w .ensures) in
     let g : Fills pool (emptyTable (s .start) (s .arity) (s .capacity)) (rowsGiven (s .arity) (w .last .0)) (f .last .0) (f .result) = subst (λ (u : ColumnTrie). Fills pool u (rowsGiven (u .arity) (w .last .0)) (f .last .0) (f .result)) (c .before .before .before .before .empty2 .ensures) (f .ensures) in
-    builds-built rows pool (s .start) (s .arity) (s .capacity) (k .before .build-number .ensures) (k .if1 .left) (g .header ∙ ap (λ (rs : List Row). tableOf (s .start) (s .arity) (s .capacity) (distinct rs)) e) (w .ensures)
-    (g .words ∙ ap (λ (rs : List Row). store (s .start) (s .capacity) (layersOf (s .arity) (distinct rs)) pool) e)
+    builds-built rows pool (s .start) (s .arity) (s .capacity) (k .before .build-number .ensures) (k .if1 .left) (g .header ∙ ap (tableOf (s .start) (s .arity) (s .capacity)) e) (w .ensures)
+    (g .words ∙ ap (λ (rs : List Row). store (s .start) (s .capacity) (layersOf (s .arity) rs) pool) e)
 
 pub build-spec : {M : Type 1} → statement M
 build-spec =

@@ -4,7 +4,7 @@ use mathlib.Core.Path.{_≡_, refl, sym, subst, _∙_}
 use mathlib.Core.Logic.{inl, inr, ⊎-elim}
 use native.Mathlib.Omega.{arith}
 use borrow.Author.Needs.{needs}
-use Rattle.relation.proofs.Insert.{number}
+use Rattle.relation.proofs.Insert.{rankOf}
 use Rattle.column_trie.specs.Table.{rowsIn}
 use Rattle.column_trie.specs.declared.ColumnTrie.{ColumnTrie}
 use Rattle.column_trie.proofs.Layers.{Whole}
@@ -29,7 +29,7 @@ can s = ready (whole s) (s .pre)
 settled :
     (c : tie.Joined2 Inv-loop μ-loop) →
     Growing (c .before .before .before .before .before .before .before .args .pool .now) (c .before .before .before .before .before .before .before .args .t) (rowsIn (c .before .before .before .before .before .before .before .args .pool .now) (c .before .before .before .before .before .before .before .args .t)) (c .before .before .before .before .before .before .before .args .tuple .now) (c .before .before .before .loop .pool) (c .before .before .before .loop .out) (c .before .before .before .loop .d) (c .before .before .before .loop .i) (c .if2 .at) (c .before .before .before .loop .fresh) ×
-    (c .if2 .at ≡ number (rowsIn (c .before .before .before .before .before .before .before .args .pool .now) (c .before .before .before .before .before .before .before .args .t)) (c .before .before .before .before .before .before .before .args .tuple .now) (suc (c .before .before .before .loop .d)))
+    (c .if2 .at ≡ rankOf (rowsIn (c .before .before .before .before .before .before .before .args .pool .now) (c .before .before .before .before .before .before .before .args .t)) (c .before .before .before .before .before .before .before .args .tuple .now) (suc (c .before .before .before .loop .d)))
 settled c =
     placed (can (c .before .before .before .before .before .before .before)) (c .before .before .before .loop .inv) (c .before .if1 .taken) (c .if2 .at)
     (⊎-elim (λ w. inl (w .0 .taken, w .3 ∙ w .2 .ensures)) (λ w. inr (w .0 .left, w .1)) (c .if2 .came))

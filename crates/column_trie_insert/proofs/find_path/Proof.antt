@@ -13,7 +13,7 @@ use Rattle.column_trie.proofs.Damage.{undamaged-told, undamaged-header}
 use Rattle.column_trie.proofs.Stored.{in-pool}
 use Rattle.column_trie.proofs.Tables.{Holds, holds}
 use Rattle.column_trie.proofs.Words.{layer-is}
-use Rattle.column_trie_insert.specs.Grow.{Grouped, PlaceOf}
+use Rattle.column_trie_insert.specs.Grow.{Grouped, KeyPlaceOf}
 use Rattle.column_trie_insert.proofs.Walks.{Walking, walking-start, walking-grouped, walking-found, walking-left, walking-end}
 use Rattle.column_trie_insert.proofs.find_path.Statement.{statement}
 use Rattle.column_trie_insert.proofs.find_path.Tie as tie
@@ -39,11 +39,11 @@ layer-words : (s : tie.Start Inv-loop μ-loop) (d : _) → d < s .args .t .arity
 layer-words s d h = layer-is (whole s) (in-pool (sound s)) (held s) d h
 
 -- what the search in a group found
-place : (c : tie.After-find-place Inv-loop μ-loop) → PlaceOf (rankedAt (c .before .before .before .before .loop .d) (rowsIn (c .before .before .before .before .before .before .before .args .pool .now) (c .before .before .before .before .before .before .before .args .t))) (c .before .before .before .before .loop .i) (getD (c .before .before .before .before .before .before .before .args .tuple .now) (c .before .before .before .before .loop .d) 0) (c .find-place .result)
+place : (c : tie.After-find-place Inv-loop μ-loop) → KeyPlaceOf (rankedAt (c .before .before .before .before .loop .d) (rowsIn (c .before .before .before .before .before .before .before .args .pool .now) (c .before .before .before .before .before .before .before .args .t))) (c .before .before .before .before .loop .i) (getD (c .before .before .before .before .before .before .before .args .tuple .now) (c .before .before .before .before .loop .d) 0) (c .find-place .result)
 place c =
     let s = c .before .before .before .before .before .before .before in
     let d = c .before .before .before .before .loop .d in
-    subst (λ (l : Layer). PlaceOf l (c .before .before .before .before .loop .i) (getD (s .args .tuple .now) d 0) (c .find-place .result)) (layer-words s d (c .before .before .if1 .taken)) (c .find-place .ensures)
+    subst (λ (l : Layer). KeyPlaceOf l (c .before .before .before .before .loop .i) (getD (s .args .tuple .now) d 0) (c .find-place .result)) (layer-words s d (c .before .before .if1 .taken)) (c .find-place .ensures)
 
 loop-holds : tie.Need-loop-holds Inv-loop μ-loop
 loop-holds c = let s = c .before .before in walking-start (s .args .t .arity) (rowsIn (s .args .pool .now) (s .args .t)) (s .args .tuple .now) (omega (arith, held s .counted, s .pre .2))

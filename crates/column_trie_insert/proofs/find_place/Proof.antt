@@ -10,7 +10,7 @@ use Rattle.seek.specs.declared.SeekStrategy.the-variants.{Binary}
 use Rattle.seek.specs.Probes.{digits}
 use Rattle.seek.proofs.Laws.{leading, binary-cost}
 use Rattle.column_trie.proofs.Header.{LayerFits, layer-fits, header-told}
-use Rattle.column_trie_insert.proofs.Places.{Group, index-small, group-fits, run, run-long, run-rises, place-found, place-end}
+use Rattle.column_trie_insert.proofs.Places.{GroupAt, index-small, group-fits, run, run-long, run-rises, place-found, place-end}
 use Rattle.column_trie_insert.proofs.find_place.Statement.{statement}
 use Rattle.column_trie_insert.proofs.find_place.Tie as tie
 
@@ -19,7 +19,7 @@ told : (s : tie.Start) → LayerFits (length (s .args .pool .now)) (s .args .t) 
 told s = layer-fits (header-told (length (s .args .pool .now)) (s .args .t) (s .pre .0)) (s .pre .1)
 
 -- where the group lies, once its ends are read
-group : (c : tie.After-layer-at) → Group (c .before .before .before .before .args .pool .now) (c .before .before .before .before .args .t) (c .before .before .before .before .args .d) (c .before .before .before .before .args .i) (c .layer-at .result) (c .before .before .begins .result) (c .before .begins2 .result)
+group : (c : tie.After-layer-at) → GroupAt (c .before .before .before .before .args .pool .now) (c .before .before .before .before .args .t) (c .before .before .before .before .args .d) (c .before .before .before .before .args .i) (c .layer-at .result) (c .before .before .begins .result) (c .before .begins2 .result)
 group c =
     let s = c .before .before .before .before in
     record {

@@ -6,10 +6,10 @@ use Rattle.replay_leapfrogs.proofs.calls.later.Statement.{statement}
 use Rattle.replay_leapfrogs.proofs.calls.later.Tie as tie
 
 abbrev Inv-loop : tie.InvT-loop
-Inv-loop text pool start end ring k strategy count at₀ hit₀ tally₀ left₀ at hit tally left = Ended pool at end ring k hit
+Inv-loop text pool start end ring k strategy count at₀ landed₀ tally₀ left₀ at landed tally left = Ended pool at end ring k landed
 
 abbrev μ-loop : tie.MeasureT-loop
-μ-loop text pool start end ring k strategy count at₀ hit₀ tally₀ left₀ at hit tally left = left
+μ-loop text pool start end ring k strategy count at₀ landed₀ tally₀ left₀ at landed tally left = left
 
 loop-holds : tie.Need-loop-holds Inv-loop μ-loop
 loop-holds c = c .before .before .pre
@@ -17,8 +17,8 @@ loop-holds c = c .before .before .pre
 returns : tie.Need-returns Inv-loop μ-loop
 returns c = search needs
 
-enum-known-hit : tie.Need-enum-known-hit Inv-loop μ-loop
-enum-known-hit c = c .match .keys1
+enum-known-landed : tie.Need-enum-known-landed Inv-loop μ-loop
+enum-known-landed c = c .match .keys1
 
 enum-told : tie.Need-enum-told Inv-loop μ-loop
 enum-told c = c .match .keys2
@@ -33,7 +33,7 @@ told-at-requires : tie.Need-told-at-requires Inv-loop μ-loop
 told-at-requires c κs = search needs
 
 step-requires : tie.Need-step-requires Inv-loop μ-loop
-step-requires c κs = ended-here (c .before .before .before .hit .given .1) (c .before .before .before .before .before .before .before .before .loop .inv)
+step-requires c κs = ended-here (c .before .before .before .landed .given .1) (c .before .before .before .before .before .before .before .before .loop .inv)
 
 behind-later-requires : tie.Need-behind-later-requires Inv-loop μ-loop
 behind-later-requires c κs = search needs
@@ -64,7 +64,7 @@ later-spec =
     μ-loop
     loop-holds
     returns
-    enum-known-hit
+    enum-known-landed
     enum-told
     at-requires
     returns-2

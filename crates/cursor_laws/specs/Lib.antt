@@ -1,0 +1,2 @@
+-- Own says what a cursor's answers depend on.
+pub mod Own

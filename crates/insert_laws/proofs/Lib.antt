@@ -1,0 +1,4 @@
+pub mod Exactly
+pub mod Kept
+pub mod Laws
+pub mod Untouched

@@ -1,0 +1,99 @@
+-- A query that passed the checks: what each of them tells of it, its atoms by number, and that it passes as the theory of joins asks.
+use Prim.Native.Nat.{ℕ, zero, suc, _<_}
+use native.Mathlib.Omega.{arith}
+use mathlib.Core.Path.{_≡_, refl, sym, subst, ap, _∙_}
+use mathlib.Core.Bool.{true}
+use mathlib.Core.List.{List, [], _∷_, map-map}
+use lib.ListN.{length, getD, length-map, List·getD-map}
+use lib.Seq.{length-take-le, getD-take}
+use Rattle.relation.specs.Lists.{_∈_}
+use Rattle.relation.specs.Rows.{Asc, Width}
+use Rattle.relation.proofs.Tests.{every-at}
+use Rattle.relation.proofs.Tables.{Relation, every-undamaged-table-is-what-a-build-of-its-own-rows-leaves}
+use Rattle.query.specs.Meaning as meaning
+use Rattle.query.specs.Meaning.{follows, Table, Passes}
+use Rattle.query.specs.Descend.{nobody}
+use Rattle.query.specs.Checks.{covers}
+use Rattle.query.proofs.Meet.{in-getD}
+use Rattle.query.proofs.Checks.{true-permutes, passes-of}
+use Rattle.column_trie.specs.Table.{layersIn, rowsIn, Undamaged}
+use Rattle.column_trie.specs.declared.ColumnTrie.{ColumnTrie}
+use Rattle.column_trie.proofs.Damage.{undamaged-told}
+use Rattle.join_query.specs.Query.{noAtom, atomAt, atomTable, orderOf, varsOf, atomsIn, atomOf, atomsOf, listOk, soundAt, Accepted}
+use Rattle.join_query.specs.Facts.{Ordered, Named}
+use Rattle.join_query.specs.declared.Query.{Query}
+use Rattle.join_query.specs.declared.Tables.{Tables}
+use Rattle.join_query.proofs.Lists.{Passed, passed-all, order-told, named-told, Listing, listed-told, named-at, sound-named}
+
+-- ---- a table's rows
+
+module _ {pool : List ℕ} {t : ColumnTrie} (u : Undamaged pool t) where
+  pub related : Relation (t .arity) (layersIn pool t) (t .«tuple_count»)
+  related = every-undamaged-table-is-what-a-build-of-its-own-rows-leaves (u .arity .0) (u .layers)
+
+  pub table-asc : Asc (rowsIn pool t)
+  table-asc = related .asc
+
+  pub table-wide : Width (t .arity) (rowsIn pool t)
+  table-wide = related .width
+
+-- inside a list the default does not matter
+pub getD-default : (l : List meaning.Atom) (i : ℕ) (a b : meaning.Atom) → i < length l → getD l i a ≡ getD l i b
+getD-default [] i a b k = absurd (omega arith)
+getD-default (x ∷ l) zero a b k = refl
+getD-default (x ∷ l) (suc i) a b k = getD-default l i a b (omega arith)
+
+-- ---- a query that passed
+
+module _ {pool : List ℕ} {ts : Tables} {q : Query} (z : Accepted pool ts q) where
+  checks : Passed pool ts q
+  checks = passed-all pool ts q (z .passed)
+
+  pub sized : Ordered q
+  sized = order-told q (checks .order)
+
+  pub names : Named (ts .count) q
+  names = named-told (ts .count) q (checks .names)
+
+  pub lists : (i : ℕ) → i < q .«atom_count» → Listing q (atomAt q i) (atomTable ts q i .arity)
+  lists i h = listed-told q (atomAt q i) (atomTable ts q i .arity) (every-at (listOk ts q) (q .«atom_count») (checks .lists) i h)
+
+  pub sound : (i : ℕ) → i < q .«atom_count» → Undamaged pool (atomTable ts q i)
+  sound i h =
+      let t = atomAt q i .table in
+      undamaged-told pool (atomTable ts q i)
+      (sym (sound-named pool ts q t (named-at q (z .whole) (names .few) t i h refl)) ∙ every-at (soundAt pool ts q) (ts .count) (checks .sound) t (names .each i h))
+
+  -- its atoms, by number
+  pub atoms-length : length (atomsOf pool ts q) ≡ q .«atom_count»
+  atoms-length = length-map (atomsIn q) (atomOf pool ts) ∙ length-take-le (q .«atom_count») (q .atoms) (omega (arith, names .few, z .whole))
+
+  pub atoms-at : (i : ℕ) → i < q .«atom_count» → getD (atomsOf pool ts q) i nobody ≡ atomOf pool ts (atomAt q i)
+  atoms-at i h =
+      getD-default (atomsOf pool ts q) i nobody (atomOf pool ts noAtom) (omega (arith, atoms-length))
+      ∙ List·getD-map (atomOf pool ts) (atomsIn q) i noAtom
+      ∙ ap (atomOf pool ts) (getD-take (q .«atom_count») (q .atoms) i noAtom h)
+
+  -- what holds of each by number holds of each
+  by-number : (P : meaning.Atom → Type 0) → ((i : ℕ) → i < q .«atom_count» → P (atomOf pool ts (atomAt q i))) → (a : meaning.Atom) → a ∈ atomsOf pool ts q → P a
+  by-number P f a m =
+      let t = in-getD nobody m in
+      let h : t .0 < q .«atom_count» = omega (arith, t .1, atoms-length) in
+      subst P (sym (atoms-at (t .0) h) ∙ t .2) (f (t .0) h)
+
+  pub tables : (a : meaning.Atom) → a ∈ atomsOf pool ts q → Table a
+  tables = by-number Table λ i h.
+      let u = sound i h in
+      let e : length (varsOf (atomAt q i)) ≡ atomTable ts q i .arity = lists i h .exact in
+      record {
+        positive = omega (arith, u .arity);
+        wide = λ r m. table-wide u r m ∙ sym e;
+        ascending = table-asc u;
+      }
+
+  pub passes : Passes (q .n) (orderOf q) (atomsOf pool ts q)
+  passes =
+      passes-of (q .n) (orderOf q) (atomsOf pool ts q) (true-permutes (q .n) (orderOf q) (sized .permutation))
+      (by-number (λ a. follows (orderOf q) (a .vars) ≡ true) (λ i h. lists i h .follow))
+      (ap (covers (q .n)) (map-map (λ (a : meaning.Atom). a .vars) (atomOf pool ts) (atomsIn q)) ∙ checks .covered)
+      tables

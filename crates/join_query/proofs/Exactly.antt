@@ -1,0 +1,233 @@
+-- Each number of the checks is given exactly when document 01 says: from the facts of a query, and not from the tests that the code makes. A test too strict
+-- or too lax would be refused here. What `join` answers crates/demand_3 says from these.
+use Prim.Native.Nat.{ℕ, zero, suc, _<_}
+use native.Mathlib.Omega.{arith}
+use mathlib.Core.Path.{_≡_, refl, sym, subst, ap, _∙_}
+use mathlib.Core.Bool.{Bool, true, false, _&&_}
+use mathlib.Core.Logic.{_⊎_, inl, inr}
+use mathlib.Core.List.{List, Memᴰ·map, Memᴰ·of-map}
+use lib.ListN.{length}
+use lib.Seq.{getD-take, length-take-le}
+use lib.Dec.{eqb, ltb, leb}
+use borrow.Author.Tests.{eqb-true, eq-eqb, le-leb, lt-ltb}
+use Rattle.relation.specs.Order.{pick}
+use Rattle.relation.specs.Lists.{_∈_}
+use Rattle.relation.specs.Exactly.{Exactly}
+use Rattle.relation.specs.Tests as index
+use Rattle.relation.proofs.Tests.{and-true, every-at, every-all}
+use Rattle.relation.proofs.Sequence.{exactly-then, exactly-same, turned, here, later, neither}
+use Rattle.query.specs.Meaning.{follows}
+use Rattle.query.specs.Checks.{permutes, listed, covers}
+use Rattle.query.specs.Window.{Progress}
+use Rattle.query.specs.Outcome.{told, refused}
+use Rattle.query.proofs.Meet.{getD-in, in-getD}
+use Rattle.query.proofs.Checks.{true-permutes, listed-is, follows-sublist, sublist-follows, some-in, covers-true, true-covers}
+use Rattle.query.proofs.Solved.{follow-in}
+use Rattle.column_trie.specs.Limits.{maxArity}
+use Rattle.column_trie.proofs.Damage.{undamaged-told, told-undamaged}
+use Rattle.query.specs.Limits.{maxAtoms}
+use Rattle.join_query.specs.Query.{maxTables, maxVariables, noAtom, atomAt, tableAt, orderOf, varsOf, atomsIn, listsOf, orderOk, namedOk, listedAt, listOk, named, soundAt, joinNumber}
+use Rattle.join_query.specs.Facts.{Typed, Ordered, Named, Follows, AllFollow, Covered, SoundTables, Passing}
+use Rattle.join_query.specs.Outcome.{answered}
+use Rattle.join_query.specs.declared.Atom.{Atom}
+use Rattle.join_query.specs.declared.Query.{Query}
+use Rattle.join_query.specs.declared.Tables.{Tables}
+use Rattle.join_query.proofs.Lists.{order-told, named-told, listed-told, named-at, sound-named, sound-unnamed}
+
+-- ---- each test decides its fact, where the facts before it hold
+
+order-decides : (q : Query) → Exactly (orderOk q ≡ true) (Ordered q)
+unfolding orderOk
+order-decides q = (
+  order-told q,
+  λ o. and-true (leb (q .n) maxVariables) (permutes (q .n) (orderOf q)) (le-leb (q .n) maxVariables (o .few)) (true-permutes (q .n) (orderOf q) (o .permutation)),
+)
+
+names-decide : (count : ℕ) (q : Query) → Exactly (namedOk count q ≡ true) (Named count q)
+unfolding namedOk
+names-decide count q = (named-told count q, back)
+  where
+    names : ℕ → Bool
+    names i = ltb (atomAt q i .table) count
+
+    back : Named count q → namedOk count q ≡ true
+    back f =
+        and-true (leb (q .«atom_count») maxAtoms) (leb count maxTables && index.every (q .«atom_count») names) (le-leb (q .«atom_count») maxAtoms (f .few))
+        (and-true (leb count maxTables) (index.every (q .«atom_count») names) (le-leb count maxTables (f .bounded))
+        (every-all names (q .«atom_count») (λ i h. lt-ltb (atomAt q i .table) count (f .each i h))))
+
+list-decides : (q : Query) (a : Atom) (arity : ℕ) → Ordered q → length (a .variables) ≡ maxArity → Exactly (listedAt q a arity ≡ true) (Follows q a arity)
+unfolding listedAt
+list-decides q a arity o whole = (tells, back)
+  where
+    tells : listedAt q a arity ≡ true → Follows q a arity
+    tells e =
+        let l = listed-told q a arity e in
+        record {
+          exact = sym (length-take-le (a .len) (a .variables) (omega (arith, whole, l .short))) ∙ l .exact;
+          short = l .short;
+          below = λ x m. o .permutation .below x (follow-in (orderOf q) (varsOf a) (l .follow) m);
+          strictly = follows-sublist (orderOf q) (varsOf a) (l .follow);
+        }
+
+    back : Follows q a arity → listedAt q a arity ≡ true
+    back f =
+        let long : length (varsOf a) ≡ arity = length-take-le (a .len) (a .variables) (omega (arith, whole, f .short)) ∙ f .exact in
+        and-true (leb (a .len) maxArity) (listed (q .n) (orderOf q) arity (varsOf a)) (le-leb (a .len) maxArity (f .short))
+        (listed-is (o .permutation) arity (varsOf a)
+        ∙ and-true (eqb (length (varsOf a)) arity) (follows (orderOf q) (varsOf a)) (eq-eqb (length (varsOf a)) arity long) (sublist-follows (orderOf q) (varsOf a) (f .strictly)))
+
+module _ (q : Query) (y : Typed q) where
+  lists-decide : (ts : Tables) → Ordered q → Named (ts .count) q → Exactly (index.every (q .«atom_count») (listOk ts q) ≡ true) (AllFollow ts q)
+  lists-decide ts o n = (
+    λ e i h. one i h .0 (every-at (listOk ts q) (q .«atom_count») e i h),
+    λ f. every-all (listOk ts q) (q .«atom_count») (λ i h. one i h .1 (f i h)),
+  )
+    where
+      one : (i : ℕ) → i < q .«atom_count» → Exactly (listOk ts q i ≡ true) (Follows q (atomAt q i) (tableAt ts (atomAt q i .table) .arity))
+      one i h = list-decides q (atomAt q i) (tableAt ts (atomAt q i .table) .arity) o (y .variables i (omega (arith, n .few)))
+
+  -- the atoms are those with a number
+  module _ {count : ℕ} (n : Named count q) where
+    size : length (atomsIn q) ≡ q .«atom_count»
+    size = length-take-le (q .«atom_count») (q .atoms) (omega (arith, n .few, y .atoms))
+
+    atom-in : (i : ℕ) → i < q .«atom_count» → atomAt q i ∈ atomsIn q
+    atom-in i h = subst (λ (a : Atom). a ∈ atomsIn q) (getD-take (q .«atom_count») (q .atoms) i noAtom h) (getD-in (atomsIn q) i noAtom (omega (arith, size)))
+
+    in-atom : {a : Atom} → a ∈ atomsIn q → (i : ℕ) × (i < q .«atom_count») × (atomAt q i ≡ a)
+    in-atom m =
+        let t = in-getD noAtom m in
+        let h : t .0 < q .«atom_count» = omega (arith, t .1, size) in
+        (t .0, h, sym (getD-take (q .«atom_count») (q .atoms) (t .0) noAtom h) ∙ t .2)
+
+    covering-decides : Exactly (covers (q .n) (listsOf q) ≡ true) (Covered q)
+    covering-decides = (
+      λ e x h.
+          let u = covers-true (q .n) (listsOf q) e x h in
+          let v = Memᴰ·of-map varsOf (atomsIn q) (u .1) in
+          let t = in-atom (v .1) in
+          (t .0, t .1, subst (λ (l : List ℕ). x ∈ l) (sym (ap varsOf (t .2) ∙ v .2)) (u .2)),
+      λ f. true-covers (q .n) (listsOf q) (λ x h. let t = f x h in (varsOf (atomAt q (t .0)), Memᴰ·map varsOf (atom-in (t .0) (t .1)), t .2)),
+    )
+
+  module _ (pool : List ℕ) (ts : Tables) (n : Named (ts .count) q) where
+    tables-decide : Exactly (index.every (ts .count) (soundAt pool ts q) ≡ true) (SoundTables pool ts q)
+    unfolding named
+    tables-decide = (
+      λ e i h.
+          let t = atomAt q i .table in
+          undamaged-told pool (tableAt ts t)
+          (sym (sound-named pool ts q t (named-at q (y .atoms) (n .few) t i h refl)) ∙ every-at (soundAt pool ts q) (ts .count) e t (n .each i h)),
+      λ f. every-all (soundAt pool ts q) (ts .count) (λ t h. passes f t (named q t) refl),
+    )
+      where
+        passes : SoundTables pool ts q → (t : ℕ) (b : Bool) → named q t ≡ b → soundAt pool ts q t ≡ true
+        passes f t false e = sound-unnamed pool ts q t e
+        passes f t true e =
+            let u = some-in (λ (a : Atom). eqb (a .table) t) (atomsIn q) e in
+            let v = in-atom n (u .1) in
+            let d : atomAt q (v .0) .table ≡ t = ap (λ (a : Atom). a .table) (v .2) ∙ eqb-true (u .0 .table) t (u .2) in
+            sound-named pool ts q t e ∙ told-undamaged pool (tableAt ts t) (rw d at (f (v .0) (v .1)))
+
+-- ---- the number of the first check that fails
+
+module _ (pool : List ℕ) (ts : Tables) (q : Query) (y : Typed q) where
+  abbrev number : ℕ
+  number = joinNumber pool ts q
+
+  abbrev last : ℕ
+  last = pick (index.every (ts .count) (soundAt pool ts q)) 0 6
+
+  abbrev fourth : ℕ
+  fourth = pick (covers (q .n) (listsOf q)) last 11
+
+  abbrev third : ℕ
+  third = pick (index.every (q .«atom_count») (listOk ts q)) fourth 10
+
+  abbrev second : ℕ
+  second = pick (namedOk (ts .count) q) third 9
+
+  in-sequence : number ≡ pick (orderOk q) second 8
+  unfolding joinNumber
+  in-sequence = simp turned
+
+  -- the numbers behind a check are others than its own, and none is 12
+  last-not : (k : ℕ) → 6 < k → last ≡ k → ⊥
+  last-not k h = neither (index.every (ts .count) (soundAt pool ts q)) 6 0 k (λ e. omega arith) (λ e. omega arith)
+
+  fourth-not : (k : ℕ) → 6 < k → (11 ≡ k → ⊥) → fourth ≡ k → ⊥
+  fourth-not k h f = neither (covers (q .n) (listsOf q)) 11 last k f (last-not k h)
+
+  third-not : (k : ℕ) → 6 < k → (11 ≡ k → ⊥) → (10 ≡ k → ⊥) → third ≡ k → ⊥
+  third-not k h f g = neither (index.every (q .«atom_count») (listOk ts q)) 10 fourth k g (fourth-not k h f)
+
+  second-not : (k : ℕ) → 6 < k → (11 ≡ k → ⊥) → (10 ≡ k → ⊥) → (9 ≡ k → ⊥) → second ≡ k → ⊥
+  second-not k h f g n = neither (namedOk (ts .count) q) 9 third k n (third-not k h f g)
+
+  pub not-12 : joinNumber pool ts q ≡ 12 → ⊥
+  not-12 e =
+      neither (orderOk q) 8 second 12 (λ d. omega arith) (second-not 12 (omega arith) (λ d. omega arith) (λ d. omega arith) (λ d. omega arith)) (sym in-sequence ∙ e)
+
+  -- past a check
+  past-order : (k : ℕ) {Q : Type 0} → (8 ≡ k → ⊥) → (Ordered q → Exactly (second ≡ k) Q) → Exactly (number ≡ k) (Ordered q × Q)
+  past-order k f g = exactly-then (exactly-same in-sequence) (later (orderOk q) (order-decides q) 8 second k f g)
+
+  past-names : (k : ℕ) {Q : Type 0} → (9 ≡ k → ⊥) → (Named (ts .count) q → Exactly (third ≡ k) Q) → Exactly (second ≡ k) (Named (ts .count) q × Q)
+  past-names k f g = later (namedOk (ts .count) q) (names-decide (ts .count) q) 9 third k f g
+
+  module _ (o : Ordered q) (n : Named (ts .count) q) where
+    past-lists : (k : ℕ) {Q : Type 0} → (10 ≡ k → ⊥) → (AllFollow ts q → Exactly (fourth ≡ k) Q) → Exactly (third ≡ k) (AllFollow ts q × Q)
+    past-lists k f g = later (index.every (q .«atom_count») (listOk ts q)) (lists-decide q y ts o n) 10 fourth k f g
+
+    past-covering : (k : ℕ) {Q : Type 0} → (11 ≡ k → ⊥) → (Covered q → Exactly (last ≡ k) Q) → Exactly (fourth ≡ k) (Covered q × Q)
+    past-covering k f g = later (covers (q .n) (listsOf q)) (covering-decides q y n) 11 last k f g
+
+  pub checks-8 : Exactly (joinNumber pool ts q ≡ 8) (Ordered q → ⊥)
+  checks-8 =
+      exactly-then (exactly-same in-sequence)
+      (here (orderOk q) (order-decides q) 8 second (second-not 8 (omega arith) (λ e. omega arith) (λ e. omega arith) (λ e. omega arith)))
+
+  pub checks-9 : Exactly (joinNumber pool ts q ≡ 9) (Ordered q × (Named (ts .count) q → ⊥))
+  checks-9 =
+      past-order 9 (λ e. omega arith) λ o.
+      here (namedOk (ts .count) q) (names-decide (ts .count) q) 9 third (third-not 9 (omega arith) (λ e. omega arith) (λ e. omega arith))
+
+  pub checks-10 : Exactly (joinNumber pool ts q ≡ 10) (Ordered q × (Named (ts .count) q × (AllFollow ts q → ⊥)))
+  checks-10 =
+      past-order 10 (λ e. omega arith) λ o. past-names 10 (λ e. omega arith) λ n.
+      here (index.every (q .«atom_count») (listOk ts q)) (lists-decide q y ts o n) 10 fourth (fourth-not 10 (omega arith) (λ e. omega arith))
+
+  pub checks-11 : Exactly (joinNumber pool ts q ≡ 11) (Ordered q × (Named (ts .count) q × (AllFollow ts q × (Covered q → ⊥))))
+  checks-11 =
+      past-order 11 (λ e. omega arith) λ o. past-names 11 (λ e. omega arith) λ n. past-lists o n 11 (λ e. omega arith) λ f.
+      here (covers (q .n) (listsOf q)) (covering-decides q y n) 11 last (last-not 11 (omega arith))
+
+  pub checks-6 : Exactly (joinNumber pool ts q ≡ 6) (Ordered q × (Named (ts .count) q × (AllFollow ts q × (Covered q × (SoundTables pool ts q → ⊥)))))
+  checks-6 =
+      past-order 6 (λ e. omega arith) λ o. past-names 6 (λ e. omega arith) λ n. past-lists o n 6 (λ e. omega arith) λ f. past-covering o n 6 (λ e. omega arith) λ c.
+      here (index.every (ts .count) (soundAt pool ts q)) (tables-decide q y pool ts n) 6 0 (λ e. omega arith)
+
+  pub checks-0 : Exactly (joinNumber pool ts q ≡ 0) (Passing pool ts q)
+  checks-0 =
+      exactly-then
+      (past-order 0 (λ e. omega arith) λ o. past-names 0 (λ e. omega arith) λ n. past-lists o n 0 (λ e. omega arith) λ f. past-covering o n 0 (λ e. omega arith) λ c.
+      later (index.every (ts .count) (soundAt pool ts q)) (tables-decide q y pool ts n) 6 0 0 (λ e. omega arith) (λ s. exactly-same refl)) (
+        λ t. record { ordered = t .0; named = t .1 .0; follow = t .1 .1 .0; covered = t .1 .1 .1 .0; sound = t .1 .1 .1 .1 .0 },
+        λ p. (p .ordered, (p .named, (p .follow, (p .covered, (p .sound, refl))))),
+      )
+
+-- ---- of the outcome
+
+-- a number but 0 and 12 is that of the checks
+pub answered-by : (n k : ℕ) (window : List ℕ) (s : Progress) → (k ≡ 0 → ⊥) → (k ≡ 12 → ⊥) → Exactly (answered n window s .number ≡ k) (n ≡ k)
+unfolding answered told refused
+answered-by zero k window s f g = (λ e. absurd (neither (s .full) 0 12 k (λ d. f (sym d)) (λ d. g (sym d)) e), λ e. absurd (f (sym e)))
+answered-by (suc n) k window s f g = (λ e. e, λ e. e)
+
+-- and 0 and 12 are given where they found nothing
+pub answered-late : (n k : ℕ) (window : List ℕ) (s : Progress) → (n ≡ 12 → ⊥) → (k ≡ 0) ⊎ (k ≡ 12) → answered n window s .number ≡ k → n ≡ 0
+unfolding answered refused
+answered-late zero k window s f w e = refl
+answered-late (suc n) k window s f (inl w) e = absurd (omega (arith, e))
+answered-late (suc n) k window s f (inr w) e = absurd (f (e ∙ w))

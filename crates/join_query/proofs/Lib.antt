@@ -1,0 +1,5 @@
+pub mod Lists
+pub mod Whole
+pub mod Accepted
+pub mod Outcome
+pub mod Exactly

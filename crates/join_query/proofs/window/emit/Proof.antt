@@ -1,0 +1,119 @@
+-- `window::emit` meets its contract: v words of the row are pasted into the window, behind the rows that it holds.
+use Prim.Native.Nat.{ℕ, _+_, _*_, _-_, _≤_}
+use native.Mathlib.Omega.{arith}
+use native.Mathlib.Nat.{add-mul, one-mul}
+use native.Mathlib.Numerals.{add-one}
+use mathlib.Core.Path.{_≡_, sym, ap, _∙_}
+use mathlib.Core.Bool.{false}
+use mathlib.Core.List.{List}
+use lib.ListN.{length, take}
+use lib.Seq.{paste, paste-zero, paste-suc, length-paste}
+use borrow.Author.Needs.{needs}
+use Rattle.query.specs.Window.{Progress}
+use Rattle.query.proofs.Window.{emit-room, emit-out, paste-row}
+use Rattle.join_query.specs.Query.{maxVariables}
+use Rattle.join_query.specs.Window.{written}
+use Rattle.join_query.proofs.window.emit.Statement.{statement}
+use Rattle.join_query.proofs.window.emit.Tie as tie
+
+abbrev Inv-loop : tie.InvT-loop
+Inv-loop window₀ n rows row base v₀ window v = (v ≤ n) × (base + n ≤ length window₀) × (window ≡ paste window₀ base row v)
+
+abbrev μ-loop : tie.MeasureT-loop
+μ-loop window₀ n rows row base v₀ window v = n - v
+
+-- what the parameter's type says
+long : (s : tie.Start Inv-loop μ-loop) → length (s .args .t2) ≡ maxVariables
+long s = search needs
+
+more : (s : tie.Start Inv-loop μ-loop) → (s .args .rows + 1) * s .args .n ≡ s .args .rows * s .args .n + s .args .n
+more s = add-mul (s .args .rows) 1 (s .args .n) ∙ ap (λ (x : ℕ). s .args .rows * s .args .n + x) (one-mul (s .args .n))
+
+-- the window keeps its length
+kept : (c : tie.At-loop Inv-loop μ-loop) → length (c .loop .window) ≡ length (c .before .before .args .window .now)
+kept c =
+    let s = c .before .before in
+    ap length (c .loop .inv .2) ∙ length-paste (s .args .window .now) (s .args .rows * s .args .n) (s .args .t2) (c .loop .v) (omega (arith, c .loop .inv .0, c .loop .inv .1)) (omega (arith, c .loop .inv .0, long s, s .pre))
+
+mul-base : tie.Need-mul-base Inv-loop μ-loop
+mul-base c = omega (arith, c .pre)
+
+sub-if1 : tie.Need-sub-if1 Inv-loop μ-loop
+sub-if1 c = omega (arith, c .pre)
+
+returns : tie.Need-returns Inv-loop μ-loop
+returns c =
+    let s = c .before in
+    let a = s .args in
+    sym (emit-out (a .n) (a .window .now) (a .rows) (take (a .n) (a .t2)) (omega (arith, more s, s .pre)))
+
+loop-holds : tie.Need-loop-holds Inv-loop μ-loop
+loop-holds c = let s = c .before in (omega arith, omega (arith, s .pre), paste-zero (s .args .window .now) (s .args .rows * s .args .n) (s .args .t2))
+
+mul-window : tie.Need-mul-window Inv-loop μ-loop
+mul-window c = omega arith
+
+array-read-window : tie.Need-array-read-window Inv-loop μ-loop
+array-read-window c = omega arith
+
+add-window : tie.Need-add-window Inv-loop μ-loop
+add-window c = let l = c .before .loop in omega (arith, l .inv .1)
+
+mul-window-2 : tie.Need-mul-window-2 Inv-loop μ-loop
+mul-window-2 c = omega arith
+
+slice-write-window : tie.Need-slice-write-window Inv-loop μ-loop
+slice-write-window c = let l = c .before .loop in omega (arith, l .inv .1, kept (c .before))
+
+add-v : tie.Need-add-v Inv-loop μ-loop
+add-v c = omega arith
+
+loop-less : tie.Need-loop-less Inv-loop μ-loop
+loop-less c = omega arith
+
+loop-again : tie.Need-loop-again Inv-loop μ-loop
+loop-again c =
+    let s = c .before .before .before in
+    let l = c .before .loop in (
+      omega arith,
+      l .inv .1,
+      rw (add-one (l .v), l .inv .2) (paste-suc (s .args .window .now) (s .args .rows * s .args .n) (s .args .t2) (l .v) 0 (omega (arith, l .inv .1)) (omega (arith, long s, s .pre))),
+    )
+
+add-t8 : tie.Need-add-t8 Inv-loop μ-loop
+add-t8 c = omega (arith, c .before .before .before .pre)
+
+same-length : tie.Need-same-length Inv-loop μ-loop
+same-length c = kept (c .before)
+
+returns-2 : tie.Need-returns-2 Inv-loop μ-loop
+returns-2 c =
+    let s = c .before .before .before in
+    let a = s .args in
+    let l = c .before .loop in
+    let d : l .v ≡ a .n = omega arith in
+    let w = l .inv .2 ∙ ap (paste (a .window .now) (a .rows * a .n) (a .t2)) d ∙ paste-row (a .window .now) (a .rows * a .n) (a .n) (a .t2) (omega (arith, long s, s .pre)) in
+    ap {B = Progress} (λ (x : List ℕ). written x (a .rows + 1) false) w
+    ∙ sym (emit-room (a .n) (a .window .now) (a .rows) (take (a .n) (a .t2)) (omega (arith, l .inv .1, more s)))
+
+pub emit-spec : {M : Type 1} → statement M
+emit-spec =
+    tie.close
+    (tie.spec
+    Inv-loop
+    μ-loop
+    mul-base
+    sub-if1
+    returns
+    loop-holds
+    mul-window
+    array-read-window
+    add-window
+    mul-window-2
+    slice-write-window
+    add-v
+    loop-less
+    loop-again
+    add-t8
+    same-length
+    returns-2)

@@ -1,0 +1,58 @@
+-- Of theorems: what document 01 asks of a query, as facts: one record for each number, in the sequence of the checks. They say nothing of how a check is made.
+use Prim.Native.Nat.{ℕ, _≤_, _<_}
+use mathlib.Core.Path.{_≡_}
+use mathlib.Core.List.{List, Sublistᴰ}
+use lib.ListN.{length}
+use Rattle.relation.specs.Lists.{_∈_}
+use Rattle.query.specs.Meaning.{Permutation}
+use Rattle.column_trie.specs.Limits.{maxArity}
+use Rattle.column_trie.specs.Table.{Undamaged}
+use Rattle.query.specs.Limits.{maxAtoms}
+use Rattle.join_query.specs.Query.{maxTables, maxVariables, atomAt, tableAt, orderOf, varsOf}
+use Rattle.join_query.specs.declared.Atom.{Atom}
+use Rattle.join_query.specs.declared.Query.{Query}
+use Rattle.join_query.specs.declared.Tables.{Tables}
+
+-- the arrays are as long as their types say
+pub record Typed (q : Query) : Type 0 where
+  pub atoms : length (q .atoms) ≡ maxAtoms
+  pub variables : (i : ℕ) → i < maxAtoms → length (atomAt q i .variables) ≡ maxArity
+
+-- not 8: the order, n numbers long, is a permutation of 0 to n - 1, and n is not over 8
+pub record Ordered (q : Query) : Type 0 where
+  pub few : q .n ≤ maxVariables
+  pub permutation : Permutation (q .n) (orderOf q)
+
+-- not 9: not over 8 atoms or tables, and each atom names a table
+pub record Named (count : ℕ) (q : Query) : Type 0 where
+  pub few : q .«atom_count» ≤ maxAtoms
+  pub bounded : count ≤ maxTables
+  pub each : (i : ℕ) → i < q .«atom_count» → atomAt q i .table < count
+
+-- not 10, of one atom: its list is as long as its table's arity, which is not over 8, holds no number from n up, and strictly follows the order: it is
+-- the order with some variables left out
+pub record Follows (q : Query) (a : Atom) (arity : ℕ) : Type 0 where
+  pub exact : a .len ≡ arity
+  pub short : a .len ≤ maxArity
+  pub below : (x : ℕ) → x ∈ varsOf a → x < q .n
+  pub strictly : Sublistᴰ (varsOf a) (orderOf q)
+
+-- of each
+abbrev pub AllFollow : Tables → Query → Type 0
+AllFollow ts q = (i : ℕ) → i < q .«atom_count» → Follows q (atomAt q i) (tableAt ts (atomAt q i .table) .arity)
+
+-- not 11: each variable is in some atom's list
+abbrev pub Covered : Query → Type 0
+Covered q = (x : ℕ) → x < q .n → (i : ℕ) × (i < q .«atom_count») × (x ∈ varsOf (atomAt q i))
+
+-- not 6: each table that an atom names is undamaged
+abbrev pub SoundTables : List ℕ → Tables → Query → Type 0
+SoundTables pool ts q = (i : ℕ) → i < q .«atom_count» → Undamaged pool (tableAt ts (atomAt q i .table))
+
+-- none of these numbers
+pub record Passing (pool : List ℕ) (ts : Tables) (q : Query) : Type 0 where
+  pub ordered : Ordered q
+  pub named : Named (ts .count) q
+  pub follow : AllFollow ts q
+  pub covered : Covered q
+  pub sound : SoundTables pool ts q

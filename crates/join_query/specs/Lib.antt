@@ -1,0 +1,5 @@
+pub mod Query
+pub mod Facts
+pub mod Outcome
+pub mod Checking
+pub mod Window

@@ -1,0 +1,105 @@
+-- Public: a query in the call's words, as the theory of joins has it: its numbers as lists, its atoms with the relations of their tables, and its checks.
+use Prim.Native.Nat.{ℕ}
+use mathlib.Core.Path.{_≡_}
+use mathlib.Core.Bool.{Bool, _&&_, _||_, not}
+use mathlib.Core.List.{List, [], map}
+use lib.ListN.{length, take, getD}
+use lib.Dec.{eqb, ltb, leb}
+use Rattle.relation.specs.Order.{pick}
+use Rattle.relation.specs.Tests as index
+use Rattle.query.specs.Meaning as meaning
+use Rattle.query.specs.Checks.{some, permutes, listed, covers}
+use Rattle.column_trie.specs.Limits.{maxArity}
+use Rattle.column_trie.specs.Table.{noTable, rowsIn, undamaged}
+use Rattle.column_trie.specs.declared.ColumnTrie.{ColumnTrie}
+use Rattle.query.specs.Limits.{maxAtoms}
+use Rattle.join_query.specs.declared.Atom.{Atom}
+use Rattle.join_query.specs.declared.Query.{Query}
+use Rattle.join_query.specs.declared.Tables.{Tables}
+
+-- how many tables and variables there may be: the code's associated constants are these. The limit on atoms is query's
+abbrev pub maxTables : ℕ
+maxTables = 8
+
+abbrev pub maxVariables : ℕ
+maxVariables = 8
+
+-- what stands where an atom is looked up by a number that none has
+abbrev pub noAtom : Atom
+noAtom = record { table = 0; len = 0; variables = [] }
+
+abbrev pub atomAt : Query → ℕ → Atom
+atomAt q i = getD (q .atoms) i noAtom
+
+abbrev pub tableAt : Tables → ℕ → ColumnTrie
+tableAt ts i = getD (ts .tables) i noTable
+
+-- the order, n numbers long; an atom's list; the atoms; their lists
+abbrev pub orderOf : Query → List ℕ
+orderOf q = take (q .n) (q .order)
+
+abbrev pub varsOf : Atom → List ℕ
+varsOf a = take (a .len) (a .variables)
+
+abbrev pub atomsIn : Query → List Atom
+atomsIn q = take (q .«atom_count») (q .atoms)
+
+abbrev pub listsOf : Query → List (List ℕ)
+listsOf q = map varsOf (atomsIn q)
+
+-- the atoms of the theory: their lists, with the rows that their tables hold in the pool
+abbrev pub atomOf : List ℕ → Tables → Atom → meaning.Atom
+atomOf pool ts a = record { vars = varsOf a; rows = rowsIn pool (tableAt ts (a .table)) }
+
+abbrev pub atomsOf : List ℕ → Tables → Query → List meaning.Atom
+atomsOf pool ts q = map (atomOf pool ts) (atomsIn q)
+
+-- atom i's table
+abbrev pub atomTable : Tables → Query → ℕ → ColumnTrie
+atomTable ts q i = tableAt ts (atomAt q i .table)
+
+-- ---- the checks, in document 01's sequence
+
+-- not 8: the order is a permutation of 0 to n - 1, and n is at most 8
+unfoldable pub orderOk : Query → Bool
+unfolding permutes
+orderOk q = leb (q .n) maxVariables && permutes (q .n) (orderOf q)
+
+-- not 9: at most 8 atoms and tables, and each atom names a table
+unfoldable pub namedOk : ℕ → Query → Bool
+unfolding index.every
+namedOk count q = leb (q .«atom_count») maxAtoms && (leb count maxTables && index.every (q .«atom_count») (λ (i : ℕ). ltb (atomAt q i .table) count))
+
+-- not 10, of one atom
+unfoldable pub listedAt : Query → Atom → ℕ → Bool
+unfolding listed
+listedAt q a arity = leb (a .len) maxArity && listed (q .n) (orderOf q) arity (varsOf a)
+
+abbrev pub listOk : Tables → Query → ℕ → Bool
+listOk ts q i = listedAt q (atomAt q i) (tableAt ts (atomAt q i .table) .arity)
+
+-- an atom names table t
+unfoldable pub named : Query → ℕ → Bool
+unfolding some
+named q t = some (λ (a : Atom). eqb (a .table) t) (atomsIn q)
+
+-- not 6, of one table: undamaged, where an atom names it
+unfoldable pub soundAt : List ℕ → Tables → Query → ℕ → Bool
+unfolding named undamaged
+soundAt pool ts q t = not (named q t) || undamaged pool (tableAt ts t)
+
+-- the refusal, or 0
+unfoldable pub joinNumber : List ℕ → Tables → Query → ℕ
+unfolding orderOk namedOk listedAt covers soundAt
+joinNumber pool ts q =
+    pick (not (orderOk q)) 8
+    (pick (not (namedOk (ts .count) q)) 9
+    (pick (not (index.every (q .«atom_count») (listOk ts q))) 10
+    (pick (not (covers (q .n) (listsOf q))) 11
+    (pick (not (index.every (ts .count) (soundAt pool ts q))) 6
+    0))))
+
+-- the query passed the checks; that its array of atoms is full is what its type says
+pub record Accepted (pool : List ℕ) (ts : Tables) (q : Query) : Type 0 where
+  pub passed : joinNumber pool ts q ≡ 0
+  pub whole : length (q .atoms) ≡ maxAtoms

@@ -1,0 +1,40 @@
+// A query over tables in the pool, without an engine that answers it: its types, the checks that refuse it, the outcome that any answer must have, and how a
+// row is written into the window.
+//
+// The number of the first check that a query fails is `joinNumber` (specs/Query.antt), and given exactly when document 01 says (proofs/Exactly.antt). What a join
+// writes and answers is `outcome` (specs/Outcome.antt), a function of pool, tables, query and window alone. Nothing here knows how the rows are found.
+pub mod checks;
+pub mod window;
+
+use column_trie::ColumnTrie;
+
+#[repr(C)]
+pub struct Atom {
+    pub table: usize,
+    pub len: usize,
+    pub variables: [usize; ColumnTrie::MAX_ARITY],
+}
+
+#[repr(C)]
+pub struct Query {
+    pub n: usize,
+    pub order: [usize; Query::MAX_VARIABLES],
+    pub atom_count: usize,
+    pub atoms: [Atom; Query::MAX_ATOMS],
+}
+
+impl Query {
+    pub const MAX_ATOMS: usize = query::MAX_ATOMS;
+
+    pub const MAX_VARIABLES: usize = 8;
+}
+
+#[repr(C)]
+pub struct Tables {
+    pub count: usize,
+    pub tables: [ColumnTrie; Tables::MAX_TABLES],
+}
+
+impl Tables {
+    pub const MAX_TABLES: usize = 8;
+}

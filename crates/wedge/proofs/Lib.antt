@@ -1,0 +1,2 @@
+pub mod Raises
+pub mod Shifts
