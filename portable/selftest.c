@@ -63,10 +63,10 @@ static void seeks(void)
 {
     uint64_t run[1024], n = numbers(run, COUNT(run), number());
     for (uint64_t left = number(); left > 0; left--) {
-        uint64_t target = number(), offset = number(), probes = number();
+        uint64_t target = number(), offset = number(), probes = number(), hit = number();
         for (uint64_t strategy = 0; strategy < 3; strategy++) {
             ducatbriar_sought s = ducatbriar_partition_point(strategy, run, n, target);
-            same(s.offset == offset);
+            same(s.offset == offset && s.hit == hit);
             if (strategy == 0)
                 same(s.probes == probes);
         }
@@ -131,7 +131,7 @@ static void cursors(void)
             } else {
                 uint64_t target = number(), probes = number();
                 ducatbriar_seek_answer a = ducatbriar_seek(pool, COUNT(pool), t, c, strategy, target);
-                same(a.number == 0 && a.found == yes && (strategy != 0 || a.probes == probes));
+                same(a.number == 0 && a.found == yes && a.hit == (found && key == target) && (strategy != 0 || a.probes == probes));
                 c = a.cursor;
             }
             ducatbriar_key_answer k = ducatbriar_key(pool, COUNT(pool), t, c);
@@ -288,7 +288,7 @@ static void walk(const uint64_t *pool, uint64_t len, ducatbriar_table t)
         } else {
             uint64_t strategy = draw(4), target = key();
             ducatbriar_seek_answer a = ducatbriar_seek(pool, len, t, c, strategy, target);
-            add_number(a.number), add(a.found), add(a.probes), add_cursor(c = a.cursor);
+            add_number(a.number), add(a.found), add(a.hit), add(a.probes), add_cursor(c = a.cursor);
         }
         ducatbriar_key_answer k = ducatbriar_key(pool, len, t, c);
         ducatbriar_end_answer e = ducatbriar_at_end(pool, len, t, c);
@@ -414,7 +414,7 @@ static void round_of_calls(void)
     for (uint64_t strategy = 0; strategy < 4; strategy++, calls += 3) {
         uint64_t word = key(), from = draw(COUNT(pool)), len = draw(COUNT(pool) - from);
         ducatbriar_sought s = ducatbriar_partition_point(strategy, len ? pool + from : NULL, len, word);
-        add(s.offset), add(s.probes);
+        add(s.offset), add(s.probes), add(s.hit);
         int64_t grade = ducatbriar_grade_of(word);
         add((uint64_t)grade), add(grade < 0), add(ducatbriar_word_of(grade));
     }
@@ -513,7 +513,7 @@ static void limits(void)
         ducatbriar_joined j = ducatbriar_join(strategy, pool, COUNT(pool), ts, q, window, COUNT(window));
         add_number(j.number), add(j.rows), add(j.seeks), add_words(window, COUNT(window));
         ducatbriar_sought s = ducatbriar_partition_point(strategy, pool + from, COUNT(pool) - from, target);
-        add(s.offset), add(s.probes);
+        add(s.offset), add(s.probes), add(s.hit);
     }
 }
 #endif

@@ -103,7 +103,7 @@ static void walk(ducatbriar_table table)
     done("open", top.number);
     ducatbriar_seek_answer icy = ducatbriar_seek(pool, COUNT(pool), table, top.cursor, DUCATBRIAR_BINARY, ICY_COBBLES);
     done("seek", icy.number);
-    printf("icy cobbles: %s, probes %" PRIu64 "\n", icy.found ? "found" : "not found", icy.probes);
+    printf("icy cobbles: %s, probes %" PRIu64 "\n", icy.hit ? "hit" : "no hit", icy.probes);
     ducatbriar_open_answer below = ducatbriar_open(pool, COUNT(pool), table, icy.cursor);
     done("open", below.number);
     print_stretches(table, below.cursor);

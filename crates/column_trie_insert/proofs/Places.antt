@@ -1,17 +1,16 @@
 -- A key's place in its group: the group's words stand in the pool as the code cuts them out, and ascend, so the offset that a seek finds in them leads
 -- there, and is the key's place once the group's start is added.
 use Prim.Native.Nat.{ℕ, _+_, _-_, _≤_, _<_}
-use mathlib.Core.Path.{_≡_, refl, sym, ap, subst, _∙_}
-use mathlib.Core.Bool.{false}
+use mathlib.Core.Path.{_≡_, sym, ap, subst, _∙_}
 use mathlib.Core.List.{List}
 use native.Mathlib.Omega.{arith}
 use lib.Arith.{lt-of-le-ne}
 use lib.ListN.{length, take, drop, getD}
-use lib.Dec.{eqb}
-use borrow.Author.Tests.{eqb-true, eqb-false}
 use Rattle.relation.proofs.Tests.{not-both}
 use Rattle.seek.specs.Offset.{NonFalling, Leading}
 use Rattle.seek.specs.Probes.{digits}
+use Rattle.seek.specs.Seek.{hitAt}
+use Rattle.seek.proofs.Laws.{hit-means, hit-given}
 use Rattle.column_trie.specs.Groups.{groupFrom, groupTo}
 use Rattle.column_trie.specs.Limits.{maxCapacity}
 use Rattle.column_trie.specs.Pool.{spot}
@@ -88,25 +87,16 @@ module _ {pool : List ℕ} {t : ColumnTrie} {d i data-from from to : ℕ} (u : G
         let e : from + (j - from) ≡ j = omega (arith, starts) in
         subst (λ (n : ℕ). getD (layerIn pool t d .keys) n 0 < key) e (omega (arith, l .before (j - from) (omega (arith, starts)), run-at (j - from) (omega (arith, starts, l .inside, run-long))))
 
-    pub place-found : offset < length (run pool data-from from to) → KeyPlaceOf (layerIn pool t d) i key (record { at = from + offset; there = eqb (getD (run pool data-from from to) offset 0) key; probes = probes })
-    place-found h =
-        let word = getD (run pool data-from from to) offset 0 in
+    pub place-sought : KeyPlaceOf (layerIn pool t d) i key (record { at = from + offset; there = hitAt (run pool data-from from to) key offset; probes = probes })
+    place-sought =
+        let words = run pool data-from from to in
         record {
           from = omega (arith, starts);
-          to = omega (arith, ends, run-long);
+          to = omega (arith, ends, run-long, l .inside, group-fits);
           below = before;
-          found = λ e. (omega (arith, ends, run-long), sym (run-at offset (omega (arith, run-long))) ∙ eqb-true word key e);
-          absent = λ e k. omega (arith, run-at offset (omega (arith, run-long)), lt-of-le-ne (l .stops h) (λ q. eqb-false word key e (sym q)));
-          few = probes-few c;
-        }
-
-    pub place-end : length (run pool data-from from to) ≤ offset → KeyPlaceOf (layerIn pool t d) i key (record { at = to; there = false; probes = probes })
-    place-end h =
-        record {
-          from = omega (arith, starts, group-fits);
-          to = omega (arith, ends);
-          below = λ j a b. before j a (omega (arith, run-long, group-fits));
-          found = λ e. not-both false e refl;
-          absent = λ e k. absurd (omega (arith, ends));
+          found = λ e. let h = hit-means words key offset e in (omega (arith, ends, run-long, h .0), sym (run-at offset (omega (arith, run-long, h .0))) ∙ h .1);
+          absent = λ e k.
+              let h : offset < length words = omega (arith, ends, run-long) in
+              omega (arith, run-at offset (omega (arith, run-long)), lt-of-le-ne (l .stops h) (λ q. not-both (hitAt words key offset) (hit-given words key offset h (sym q)) e));
           few = probes-few c;
         }

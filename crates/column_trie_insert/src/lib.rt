@@ -77,17 +77,9 @@ fn find_place(pool: &[u64], t: ColumnTrie, d: usize, i: usize, key: u64) -> KeyP
     let run_to = data_from + to;
     let run = &pool[run_from..run_to];
     let sought = partition_point(SeekStrategy::Binary, run, key);
-    let offset = sought.offset;
-    if offset < run.len() {
-        return KeyPlace {
-            at: from + offset,
-            there: run[offset] == key,
-            probes: sought.probes,
-        };
-    }
     KeyPlace {
-        at: to,
-        there: false,
+        at: from + sought.offset,
+        there: sought.hit,
         probes: sought.probes,
     }
 }

@@ -59,17 +59,18 @@ module _ {pool : List ℕ} {t : ColumnTrie} {it : ColumnTrieIter} {p : Place} (w
 
     -- a run with keys is searched
     searched : (run : List ℕ) {n : ℕ} → length run ≡ n → 0 < n → {x : Sought} → x ≡ seekOf s run target → {it′ : ColumnTrieIter} → it′ ≡ past it (x .offset)
-        → record { number = 0; found = ltb (x .offset) n; probes = x .probes; iter = it′ } ≡ seekIn s target it run
+        → record { number = 0; found = ltb (x .offset) n; hit = x .hit; probes = x .probes; iter = it′ } ≡ seekIn s target it run
     searched [] e h q i = absurd (omega arith)
     searched (k ∷ ks) {n} e h {x} q {it′} i =
         let f : ltb (x .offset) n ≡ nonempty (drop (seekOf s (k ∷ ks) target .offset) (k ∷ ks)) =
         ap (ltb (x .offset)) (sym e) ∙ nonempty-drop (k ∷ ks) (x .offset) ∙ ap (λ (y : Sought). nonempty (drop (y .offset) (k ∷ ks))) q in
         let j : it′ ≡ past it (seekOf s (k ∷ ks) target .offset) = i ∙ ap (λ (y : Sought). past it (y .offset)) q in
         let r : x .probes ≡ seekOf s (k ∷ ks) target .probes = ap (λ (y : Sought). y .probes) q in
+        let b : x .hit ≡ seekOf s (k ∷ ks) target .hit = ap (λ (y : Sought). y .hit) q in
         cc
 
     pub sought-some : p .at < p .end → {x : Sought} → x ≡ seekOf s (take (p .end - p .at) (drop (p .at) pool)) target → {it′ : ColumnTrieIter} → it′ ≡ past it (x .offset)
-        → record { number = 0; found = ltb (x .offset) (p .end - p .at); probes = x .probes; iter = it′ } ≡ soughtOf pool t it s target
+        → record { number = 0; found = ltb (x .offset) (p .end - p .at); hit = x .hit; probes = x .probes; iter = it′ } ≡ soughtOf pool t it s target
     unfolding soughtOf
     sought-some h q i =
         searched (take (p .end - p .at) (drop (p .at) pool)) (length-part pool (p .at) (p .end - p .at) (omega arith)) (omega arith) q i ∙ by-rest w (unsought it) (seekIn s target it) (w .left h)

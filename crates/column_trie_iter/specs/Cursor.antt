@@ -51,7 +51,7 @@ unfoldable pub nextOf : List ℕ → ColumnTrie → ColumnTrieIter → NextAnswe
 nextOf pool t it = unless (refusal pool t it) (unmoved it) (nextIn it (remaining pool t it))
 
 abbrev pub unsought : ColumnTrieIter → ℕ → SeekAnswer
-unsought it n = record { number = n; found = false; probes = 0; iter = it }
+unsought it n = record { number = n; found = false; hit = false; probes = 0; iter = it }
 
 -- past the siblings that the strategy passes, by its probes; where no sibling is left nothing is searched
 abbrev pub seekIn : SeekStrategy → ℕ → ColumnTrieIter → List ℕ → SeekAnswer
@@ -60,6 +60,7 @@ seekIn s target it (k ∷ ks) =
     record {
       number = 0;
       found = nonempty (drop (seekOf s (k ∷ ks) target .offset) (k ∷ ks));
+      hit = seekOf s (k ∷ ks) target .hit;
       probes = seekOf s (k ∷ ks) target .probes;
       iter = past it (seekOf s (k ∷ ks) target .offset);
     }

@@ -31,6 +31,7 @@ pub struct NextAnswer {
 pub struct SeekAnswer {
     pub number: u64,
     pub found: bool,
+    pub hit: bool,
     pub probes: usize,
     pub iter: ColumnTrieIter,
 }
@@ -106,8 +107,8 @@ pub fn next(pool: &[u64], table: ColumnTrie, iter: ColumnTrieIter) -> NextAnswer
     }
 }
 
-// To the first sibling not yet passed that is not below the target, if there is one, else to the end. The strategy is handed the words
-// from the present key to the group's end.
+// To the first sibling not yet passed that is not below the target, if there is one, else to the end; whether that sibling is the target. The
+// strategy is handed the words from the present key to the group's end.
 pub fn seek(
     pool: &[u64],
     table: ColumnTrie,
@@ -124,6 +125,7 @@ pub fn seek(
         return SeekAnswer {
             number: p.number,
             found: false,
+            hit: false,
             probes: 0,
             iter,
         };
@@ -132,6 +134,7 @@ pub fn seek(
     SeekAnswer {
         number: 0,
         found: s.offset < end - at,
+        hit: s.hit,
         probes: s.probes,
         iter: iter.past(s.offset),
     }

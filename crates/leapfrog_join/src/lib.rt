@@ -10,16 +10,16 @@ ghost use mathlib.Core.Path.{_≡_};
 ghost use Prim.Native.Nat.{_+_, _<_, _≤_};
 ghost use lib.ListN.{length, getD, take};
 ghost use Rattle.relation.specs.Lists.{Ascends};
-ghost use Rattle.seek.specs.Seek.{seekOf};
+ghost use Rattle.seek.specs.Seek.{probedBy};
 ghost use Rattle.leapfrog.specs.Search.{searchOf, nextOf, seekTo};
 ghost use Rattle.ring_sort.specs.Sorted.{keyAt};
 ghost use Rattle.leapfrog_join.specs.Ring.{Follows};
-ghost use Rattle.leapfrog_join.specs.Leapfrog.{part, runsIn, Ready, Ordered, Agreed, Ran, Begun};
+ghost use Rattle.leapfrog_join.specs.Leapfrog.{part, runsIn, Ready, Ordered, Agreed, Ran, Begun, hitOn, RanFor};
 use query::MAX_ATOMS;
 use ring_sort::sort_ring;
+use seek::Probed;
 use seek::SeekStrategy;
-use seek::Sought;
-use seek::partition_point;
+use seek::probe;
 
 // How a search ends: with the key on which all stand, p being the place from which `leapfrog_next` or `leapfrog_seek` goes on, or with none, p being the place of
 // the atom that has no key left, from where nothing goes on.
@@ -32,6 +32,13 @@ pub enum Landed {
 pub struct Searched {
     pub landed: Landed,
     pub seeks: u64,
+}
+
+// What a leapfrog's seek answers: besides, whether it hit: it found a common key, and that key is its target.
+pub struct SearchedFor {
+    pub landed: Landed,
+    pub seeks: u64,
+    pub hit: bool,
 }
 
 // The place of the ring after p.
@@ -51,11 +58,11 @@ fn before(p: usize, k: usize) -> usize
 }
 
 // One seek in the run from x to e: where it ended behind x, and its probes, which tell the strategy. It is handed the keys not yet passed.
-fn seek_run(pool: &[u64], x: usize, e: usize, target: u64, strategy: SeekStrategy) -> Sought
+fn seek_run(pool: &[u64], x: usize, e: usize, target: u64, strategy: SeekStrategy) -> Probed
     requires { ⌜ (x ≤ e) × (e ≤ length (now pool)) ⌝ }
-    ensures { λ r. ⌜ r ≡ seekOf strategy (part (now (pool .entry)) x e) target ⌝ }
+    ensures { λ r. ⌜ r ≡ probedBy strategy (part (now (pool .entry)) x e) target ⌝ }
 {
-    partition_point(strategy, &pool[x..e], target)
+    probe(strategy, &pool[x..e], target)
 }
 
 // Algorithm 2, from place `start` of an ordered ring: the atom with the least key seeks the greatest, until all agree or one has no key left.
@@ -139,8 +146,8 @@ pub fn leapfrog_next(
     leapfrog_search(pool, at, end, ring, k, after(p, k), strategy)
 }
 
-// Algorithm 4, where all agree: the atom at p seeks `target`, and the search goes on from the next place. A target not above the common key finds that key.
-pub fn leapfrog_seek(
+// Algorithm 4, where all agree: the atom at p seeks `target`, and the search goes on from the next place.
+fn seek_on(
     pool: &[u64],
     at: &mut [usize; MAX_ATOMS],
     end: &[usize; MAX_ATOMS],
@@ -169,4 +176,35 @@ pub fn leapfrog_seek(
     let after = s.seeks;
     let seeks = after + 1;
     Searched { landed, seeks }
+}
+
+// Whether a search that ended so hit the target.
+fn hits(landed: Landed, target: u64) -> bool
+    ensures { λ r. ⌜ r ≡ hitOn target landed ⌝ }
+{
+    let Landed::Key { key, p: _ } = landed else {
+        return false;
+    };
+    key == target
+}
+
+// Algorithm 4, with whether it hit. A target not above the common key finds that key.
+pub fn leapfrog_seek(
+    pool: &[u64],
+    at: &mut [usize; MAX_ATOMS],
+    end: &[usize; MAX_ATOMS],
+    ring: &[usize; MAX_ATOMS],
+    k: usize,
+    p: usize,
+    target: u64,
+    strategy: SeekStrategy,
+) -> SearchedFor
+    requires { ⌜ Agreed (now pool) (now at) (now end) (now ring) k (keyAt (now pool) (now at) (getD (now ring) p 0)) p ⌝ }
+    ensures { λ r. ⌜ RanFor (now (pool .entry)) (now (end .entry)) (now (ring .entry)) k (now (at .entry)) (now (at .exit)) target (seekTo target (runsIn (now (pool .entry)) (now (at .entry)) (now (end .entry)) (now (ring .entry)) k) p) r ⌝ }
+{
+    let s = seek_on(pool, at, end, ring, k, p, target, strategy);
+    let landed = s.landed;
+    let seeks = s.seeks;
+    let hit = hits(landed, target);
+    SearchedFor { landed, seeks, hit }
 }

@@ -98,6 +98,11 @@ fn up(pool: &[u64], table: ColumnTrie, iter: ColumnTrieIter, told: Told) -> Move
     }
 }
 
+// Whether a seek that says `hit` stands on its target exactly then: the key that it shows is recorded.
+fn is_hit(hit: bool, told: Told) -> bool {
+    hit == (told.found == 1 && told.key == told.target)
+}
+
 // Probes are recorded of the linear strategy alone.
 fn is_probed(same: bool, strategy: SeekStrategy, probes: usize, told: u64) -> bool {
     match strategy {
@@ -116,7 +121,7 @@ fn seek(
 ) -> Moved {
     let sought = column_trie_iter::seek(pool, table, iter, strategy, told.target);
     let after = sought.iter;
-    let same = is_told(sought.number, sought.found, told.yes);
+    let same = is_told(sought.number, sought.found, told.yes) && is_hit(sought.hit, told);
     Moved {
         same: is_probed(same, strategy, sought.probes, told.probes),
         iter: after,

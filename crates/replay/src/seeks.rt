@@ -1,33 +1,52 @@
-// Recorded seeks: a run, and for each target the offset, which is the same under every strategy, and the probes of the linear one.
+// Recorded seeks: a run, and for each target the offset, the probes of the linear strategy, and whether it is a hit; offset and hit are the same under every
+// strategy.
 use cases::reader::NOWHERE;
 use cases::reader::cut;
 use cases::reader::number;
 use cases::reader::numbers;
 use cases::tally::Tally;
+use cases::tally::is_told;
 use seek::SeekStrategy;
 use seek::partition_point;
 
 const RUN: usize = 1024;
 
-// The answers for the first n words.
-fn asked(words: &[u64], n: usize, target: u64, offset: u64, probes: u64, tally: Tally) -> Tally {
-    let len = cut(words, n);
-    let run = &words[..len];
-    let linear = partition_point(SeekStrategy::Linear, run, target);
-    let binary = partition_point(SeekStrategy::Binary, run, target);
-    let galloping = partition_point(SeekStrategy::Galloping, run, target);
-    tally
-        .with(linear.offset as u64 == offset)
-        .with(linear.probes as u64 == probes)
-        .with(binary.offset as u64 == offset)
-        .with(galloping.offset as u64 == offset)
+// What is recorded of a target.
+struct Told {
+    target: u64,
+    offset: u64,
+    probes: u64,
+    hit: u64,
 }
 
-// One target: itself, the offset, the probes.
+// The answers for the first n words.
+fn asked(words: &[u64], n: usize, told: Told, tally: Tally) -> Tally {
+    let len = cut(words, n);
+    let run = &words[..len];
+    let linear = partition_point(SeekStrategy::Linear, run, told.target);
+    let binary = partition_point(SeekStrategy::Binary, run, told.target);
+    let galloping = partition_point(SeekStrategy::Galloping, run, told.target);
+    tally
+        .with(linear.offset as u64 == told.offset)
+        .with(linear.probes as u64 == told.probes)
+        .with(is_told(0, linear.hit, told.hit))
+        .with(binary.offset as u64 == told.offset)
+        .with(is_told(0, binary.hit, told.hit))
+        .with(galloping.offset as u64 == told.offset)
+        .with(is_told(0, galloping.hit, told.hit))
+}
+
+// One target.
 fn one(text: &[u8], words: &[u64], n: usize, tally: Tally) -> Tally {
-    let mut told = [0u64; 3];
-    let at = numbers(text, tally.at, &mut told, 3);
-    asked(words, n, told[0], told[1], told[2], tally.at(at))
+    let mut words_told = [0u64; 4];
+    let at = numbers(text, tally.at, &mut words_told, 4);
+    let told = Told {
+        target: words_told[0],
+        offset: words_told[1],
+        probes: words_told[2],
+        hit: words_told[3],
+    };
+    asked(words, n, told, tally.at(at))
 }
 
 // So many targets, as far as the text goes.

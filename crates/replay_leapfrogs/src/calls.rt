@@ -11,6 +11,7 @@ use cases::reader::numbers;
 use cases::tally::Tally;
 use leapfrog_join::Landed;
 use leapfrog_join::Searched;
+use leapfrog_join::SearchedFor;
 use leapfrog_join::leapfrog_init;
 use leapfrog_join::leapfrog_next;
 use leapfrog_join::leapfrog_seek;
@@ -94,9 +95,14 @@ fn have_gone(start: [usize; MAX_ATOMS], at: [usize; MAX_ATOMS], gone: [u64; MAX_
     true
 }
 
+// Whether the recorded call is a seek that came to its target.
+fn is_hit(told: Told) -> bool {
+    told.kind == 2 && told.found == 1 && told.key == told.target
+}
+
 fn compared(
     told: Told,
-    answer: Searched,
+    answer: SearchedFor,
     start: [usize; MAX_ATOMS],
     at: [usize; MAX_ATOMS],
     tally: Tally,
@@ -107,10 +113,23 @@ fn compared(
         .with(found_by(landed) == told.found)
         .with(key_of(landed) == told.key)
         .with(answer.seeks == told.seeks)
+        .with(answer.hit == is_hit(told))
         .with(have_gone(start, at, gone))
 }
 
 // ---- the calls
+
+// Of a call that seeks nothing.
+fn unsought(s: Searched) -> SearchedFor
+    ensures { λ r. ⌜ r .landed ≡ s .landed ⌝ }
+{
+    let landed = s.landed;
+    SearchedFor {
+        landed,
+        seeks: s.seeks,
+        hit: false,
+    }
+}
 
 fn begin(
     pool: &[u64],
@@ -119,12 +138,12 @@ fn begin(
     ring: &mut [usize; MAX_ATOMS],
     k: usize,
     strategy: SeekStrategy,
-) -> Searched
+) -> SearchedFor
     requires { ⌜ now ring ≡ inOrder ⌝ }
     requires { ⌜ Ready (now pool) (now at) (now end) inOrder k ⌝ }
     ensures { λ r. ⌜ Ended (now (pool .entry)) (now (at .exit)) (now (end .entry)) (now (ring .exit)) k (r .landed) ⌝ }
 {
-    leapfrog_init(pool, at, end, ring, k, strategy)
+    unsought(leapfrog_init(pool, at, end, ring, k, strategy))
 }
 
 // A next, or else a seek.
@@ -138,12 +157,12 @@ fn step(
     kind: u64,
     target: u64,
     strategy: SeekStrategy,
-) -> Searched
+) -> SearchedFor
     requires { ⌜ Agreed (now pool) (now at) (now end) (now ring) k (keyAt (now pool) (now at) (getD (now ring) p 0)) p ⌝ }
     ensures { λ r. ⌜ Ended (now (pool .entry)) (now (at .exit)) (now (end .entry)) (now (ring .entry)) k (r .landed) ⌝ }
 {
     if kind == 1 {
-        return leapfrog_next(pool, at, end, ring, k, p, strategy);
+        return unsought(leapfrog_next(pool, at, end, ring, k, p, strategy));
     }
     leapfrog_seek(pool, at, end, ring, k, p, target, strategy)
 }

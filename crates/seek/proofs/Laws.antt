@@ -1,19 +1,21 @@
 -- The laws of seeking that other crates cite, over the rules of specs/Seek.antt and for any run. On a non-falling run every strategy's
--- offset leads, and only one offset does, so the strategies agree. What each strategy and the halving rule cost stands beside it.
-use mathlib.Core.Path.{_≡_, refl}
+-- offset leads, and only one offset does, so the strategies agree, on hits too: there is one exactly when the target is one of the keys. What each
+-- strategy and the halving rule cost stands beside it.
+use mathlib.Core.Path.{_≡_, refl, ap}
 use mathlib.Core.List.{List}
 use mathlib.Core.Bool.{Bool, true, false}
-use Prim.Native.Nat.{ℕ, _≤_}
+use Prim.Native.Nat.{ℕ, _≤_, _<_}
 use native.Mathlib.Omega.{arith}
-use lib.ListN.{length}
+use lib.ListN.{length, getD}
 use lib.Dec.{ltb}
 use borrow.Author.Tests.{ltb-true, ltb-false}
 use Rattle.seek.specs.declared.SeekStrategy.{SeekStrategy}
 use Rattle.seek.specs.declared.SeekStrategy.the-variants.{Linear, Binary, Galloping}
-use Rattle.seek.specs.Seek.{binaryOf, seekOf}
-use Rattle.seek.specs.Offset.{NonFalling, Leading}
+use Rattle.seek.specs.Seek.{binaryOf, hitAt, seekOf}
+use Rattle.seek.specs.Offset.{NonFalling, Leading, IsKey}
 use Rattle.seek.specs.Probes.{digits}
 use Rattle.seek.proofs.Digits.{below-digits}
+pub use Rattle.seek.proofs.Hits.{hit-means, hit-given}
 pub use Rattle.seek.proofs.HalvingLaws.{halving-within, halving-leading-in, halving-leading, halving-cost-power, halving-cost}
 pub use Rattle.seek.proofs.ScanningLaws.{linear-leading, linear-cost}
 pub use Rattle.seek.proofs.GallopingLaws.{galloping-leading, galloping-cost}
@@ -48,3 +50,32 @@ leading Galloping run t asc = galloping-leading run t asc
 -- .. so the strategies agree on it.
 pub agree : (s s′ : SeekStrategy) (run : List ℕ) (t : ℕ) → NonFalling run → seekOf s run t .offset ≡ seekOf s′ run t .offset
 agree s s′ run t asc = leading-one run t (seekOf s run t .offset) (seekOf s′ run t .offset) (leading s run t asc) (leading s′ run t asc)
+
+-- A hit on any run finds the target among its keys ..
+pub a-hit-is-a-key : (s : SeekStrategy) (run : List ℕ) (t : ℕ) → seekOf s run t .hit ≡ true → IsKey run t
+a-hit-is-a-key s run t e =
+    let h = hit-means run t (seekOf s run t .offset) e in
+    record { place = seekOf s run t .offset; inside = h .0; there = h .1 }
+
+-- .. and on a non-falling run a target that is one of the keys is hit.
+pub a-key-is-hit : (s : SeekStrategy) (run : List ℕ) (t : ℕ) → NonFalling run → IsKey run t → seekOf s run t .hit ≡ true
+a-key-is-hit s run t asc k = hit-given run t o within (omega (arith, l .stops within, asc o (k .place) not-past (k .inside), k .there))
+  where
+    o : ℕ
+    o = seekOf s run t .offset
+
+    l : Leading run t o
+    l = leading s run t asc
+
+    not-past : o ≤ k .place
+    not-past = test (ltb (k .place) o) refl
+      where
+        test : (b : Bool) → ltb (k .place) o ≡ b → o ≤ k .place
+        test true e = absurd (omega (arith, l .before (k .place) (ltb-true (k .place) o e), k .there))
+        test false e = ltb-false (k .place) o e
+
+    within : o < length run
+    within = omega (arith, k .inside, not-past)
+
+pub hits-agree : (s s′ : SeekStrategy) (run : List ℕ) (t : ℕ) → NonFalling run → seekOf s run t .hit ≡ seekOf s′ run t .hit
+hits-agree s s′ run t asc = ap (hitAt run t) (agree s s′ run t asc)

@@ -7,12 +7,12 @@ use native.Mathlib.Omega.{arith}
 use lib.ListN.{length, getD}
 use lib.Dec.{ltb}
 use borrow.Author.Tests.{ltb-true, ltb-false}
-use Rattle.seek.specs.declared.Sought.{Sought}
+use Rattle.seek.specs.declared.Probed.{Probed}
 use Rattle.seek.specs.Seek.{scans, linearOf}
 use Rattle.seek.specs.Offset.{Leading}
 
 -- o of the keys that follow the first i are passed
-record Scanned (run : List ℕ) (t i : ℕ) (s : Sought) : Type 0 where
+record Scanned (run : List ℕ) (t i : ℕ) (s : Probed) : Type 0 where
   o : ℕ
   there : s .offset ≡ i + o
   leads : Leading run t o

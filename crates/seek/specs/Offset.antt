@@ -1,4 +1,5 @@
 -- Of theorems: what a seek's offset is to be on a run whose keys don't fall, and what the halving rule's is on a part of such a kind.
+use mathlib.Core.Path.{_≡_}
 use mathlib.Core.List.{List}
 use Prim.Native.Nat.{ℕ, _≤_, _<_}
 use lib.ListN.{length, getD}
@@ -12,6 +13,12 @@ pub record Leading (run : List ℕ) (t o : ℕ) : Type 0 where
   pub inside : o ≤ length run
   pub before : (k : ℕ) → k < o → getD run k 0 < t
   pub stops : o < length run → t ≤ getD run o 0
+
+-- the target is one of the keys
+pub record IsKey (run : List ℕ) (t : ℕ) : Type 0 where
+  pub place : ℕ
+  pub inside : place < length run
+  pub there : getD run place 0 ≡ t
 
 -- the same of the part from..to, whatever stands outside it
 abbrev pub NonFallingIn : List ℕ → ℕ → ℕ → Type 0

@@ -5,7 +5,7 @@ use mathlib.Core.Bool.{true, false}
 use Prim.Native.Nat.{ℕ, zero, suc, _+_, _*_, _/_, _^_, _≤_, _<_}
 use lib.ListN.{length}
 use lib.Dec.{ltb}
-use Rattle.seek.specs.declared.Sought.{Sought}
+use Rattle.seek.specs.declared.Probed.{Probed}
 
 -- the number of binary digits of n, none of 0, where n is at most `fuel`
 unfoldable pub digitsIn : ℕ → ℕ → ℕ
@@ -22,7 +22,7 @@ pub record LeastPower (d j : ℕ) : Type 0 where
 
 -- What galloping costs: nothing on an empty run; on any other one probe to offset 0, at most two to 1, and at most 2 j + 1 to a
 -- later d, j the least with 2 ^ j not below d.
-pub record GallopCost (run : List ℕ) (s : Sought) : Type 0 where
+pub record GallopCost (run : List ℕ) (s : Probed) : Type 0 where
   pub none : length run ≡ 0 → s .probes ≡ 0
   pub first : 0 < length run → s .offset ≡ 0 → s .probes ≡ 1
   pub second : s .offset ≡ 1 → s .probes ≤ 2

@@ -2,13 +2,15 @@
 -- same, and the cursor stands where the iterator does. Each call by itself, and what follows for up and seek, stand beside it.
 use Prim.Native.Nat.{ℕ, _+_}
 use mathlib.Core.Path.{_≡_, refl, sym, ap, ap₂, _∙_, subst}
-use mathlib.Core.Bool.{Bool, true, false}
+use mathlib.Core.Bool.{Bool, true, false, false≢true}
 use mathlib.Core.List.{List, [], _∷_}
 use native.Mathlib.Omega.{arith}
 use lib.ListN.{length}
 use lib.Dec.{ltb, eqb}
 use Rattle.relation.specs.Order.{Row, pick}
-use Rattle.relation.specs.Lists.{_∈_, hd, tl}
+use Rattle.relation.specs.Lists.{_∈_, hd, tl, not-in-nil}
+use Rattle.relation.specs.Exactly.{Exactly}
+use Rattle.relation.proofs.Lists.{getD-in, in-getD}
 use Rattle.relation.specs.Layers.{keysUnder}
 use Rattle.relation.proofs.Tests.{not-both}
 use Rattle.column_trie.specs.Table.{Undamaged, rowsIn}
@@ -16,16 +18,17 @@ use Rattle.column_trie.specs.declared.ColumnTrie.{ColumnTrie}
 use Rattle.column_trie_place.specs.Checks.{atRoot, past}
 use Rattle.column_trie_iter.specs.Cursor.{soughtOf, seekIn, openOf, upOf}
 use Rattle.column_trie_place.specs.declared.ColumnTrieIter.{ColumnTrieIter}
+use Rattle.column_trie_iter.specs.declared.SeekAnswer.{SeekAnswer}
 use Rattle.column_trie_iter.proofs.Seeks.{nonempty-drop}
 use Rattle.seek.specs.Seek.{seekOf}
-use Rattle.seek.specs.Offset.{Leading}
+use Rattle.seek.specs.Offset.{NonFalling, Leading}
 use Rattle.seek.specs.declared.SeekStrategy.{SeekStrategy}
-use Rattle.seek.proofs.Laws.{leading-one}
+use Rattle.seek.proofs.Laws.{leading-one, a-hit-is-a-key, a-key-is-hit}
 use Rattle.trie_iterator.specs.TrieIterator.{State, root, level, left, path, opens, Call, Key, Next, AtEnd, Open, Up, Seek, amongSiblings, Answer, says, refused, answer, after, answers, follow}
 use Rattle.trie_iterator.specs.Cursor.{heard, moved, heardAll, movedAll, Layered, Stands, at-root, at-level, Follows, Stopped}
 use Rattle.trie_iterator.proofs.Held.{undamaged-layered}
 use Rattle.trie_iterator.proofs.Standing.{seek-is}
-use Rattle.trie_iterator.proofs.Moving.{key-answers, end-answers, next-answers, next-stands, seek-leads, seek-answers, seek-stands, open-answers, open-stands, up-returns, up-answers, up-stands}
+use Rattle.trie_iterator.proofs.Moving.{key-answers, end-answers, next-answers, next-stands, left-rises, seek-leads, seek-answers, seek-stands, open-answers, open-stands, up-returns, up-answers, up-stands}
 
 module _ {pool : List ℕ} {t : ColumnTrie} {rows : List Row} (H : Layered pool t rows) where
   -- ---- any call
@@ -85,6 +88,15 @@ module _ {pool : List ℕ} {t : ColumnTrie} {rows : List Row} (H : Layered pool 
       let e : p .passed ≡ q .passed = leading-one (left s) target (p .passed) (q .passed) (p .leads) (q .leads) in
       (p .found ∙ ap (λ (n : ℕ). ltb n (length (left s))) e ∙ sym (q .found), p .iter ∙ ap (past it) e ∙ sym (q .iter))
 
+  -- it hits exactly when its target is one of the keys not yet passed, so under every strategy alike
+  pub a-seek-hits-exactly-the-keys-not-yet-passed : {s : State} {it : ColumnTrieIter} → Stands (t .arity) rows s it → (x : SeekStrategy) (target : ℕ) → Exactly (soughtOf pool t it x target .hit ≡ true) (target ∈ left s)
+  a-seek-hits-exactly-the-keys-not-yet-passed {s} {it} w x target = subst (λ (y : SeekAnswer). Exactly (y .hit ≡ true) (target ∈ left s)) (sym (seek-is H w x target)) (go (left s) (left-rises H w))
+    where
+      go : (ks : List ℕ) → NonFalling ks → Exactly (seekIn x target it ks .hit ≡ true) (target ∈ ks)
+      go [] r = (λ e. absurd (false≢true e), λ m. absurd (not-in-nil m))
+      go (k ∷ ks) r =
+          (λ e. let h = a-hit-is-a-key x (k ∷ ks) target e in subst (λ (y : ℕ). y ∈ (k ∷ ks)) (h .there) (getD-in (k ∷ ks) (h .place) 0 (h .inside)), λ m. let p = in-getD 0 m in a-key-is-hit x (k ∷ ks) target r (record { place = p .0; inside = p .1; there = p .2 }))
+
   -- calls among the siblings leave the cursor below the same place
   along : {s : State} {ks : List ℕ} {it : ColumnTrieIter} → Stands (t .arity) rows (level ks s) it → (ds : List Call) → ((c : Call) → c ∈ ds → amongSiblings c ≡ true) → (js : List ℕ) × Stands (t .arity) rows (level js s) (movedAll pool t it ds)
   unfolding movedAll
@@ -118,6 +130,9 @@ module _ {pool : List ℕ} {t : ColumnTrie} (u : Undamaged pool t) (cs : List Ca
 
   pub a-seek-after-any-calls-stops-at-the-first-key-not-below : (x : SeekStrategy) (target : ℕ) → Stopped (left (follow (t .arity) (rowsIn pool t) root cs)) target cursor (soughtOf pool t cursor x target)
   a-seek-after-any-calls-stops-at-the-first-key-not-below = a-seek-stops-at-the-first-key-not-below (undamaged-layered u) (a-cursor-moves-as-the-trie-iterator u cs .stands)
+
+  pub a-seek-after-any-calls-hits-exactly-the-keys-not-yet-passed : (x : SeekStrategy) (target : ℕ) → Exactly (soughtOf pool t cursor x target .hit ≡ true) (target ∈ left (follow (t .arity) (rowsIn pool t) root cs))
+  a-seek-after-any-calls-hits-exactly-the-keys-not-yet-passed = a-seek-hits-exactly-the-keys-not-yet-passed (undamaged-layered u) (a-cursor-moves-as-the-trie-iterator u cs .stands)
 
   -- an open that says yes, any calls among the siblings there, and up: the very cursor that was opened, so its key
   pub up-after-any-calls-returns-to-the-cursor-that-open-left :

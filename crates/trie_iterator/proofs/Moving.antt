@@ -91,7 +91,7 @@ module _ {pool : List ℕ} {t : ColumnTrie} {rows : List Row} (H : Layered pool 
   -- ---- seek
 
   -- the siblings left don't fall
-  left-rises : {s : State} {it : ColumnTrieIter} → Stands (t .arity) rows s it → NonFalling (left s)
+  pub left-rises : {s : State} {it : ColumnTrieIter} → Stands (t .arity) rows s it → NonFalling (left s)
   left-rises (at-root e) = λ x y h k. absurd (omega arith)
   left-rises (at-level {it = it} w b) = subst NonFalling (b .rest) (group-at H b .rises (it .«slice_offset»))
 

@@ -1,5 +1,5 @@
-// Cursors: behind the pool the header, the cursor and the call, and of a seek strategy and target; then the number, yes or no, the key, the probes and
-// the cursor. What a call doesn't answer is 0, or the cursor that was asked.
+// Cursors: behind the pool the header, the cursor and the call, and of a seek strategy and target; then the number, yes or no, the key, the probes, hit or
+// not, and the cursor. What a call doesn't answer is 0, or the cursor that was asked.
 use crate::choices::choice;
 use crate::choices::said;
 use crate::choices::strategy_of;
@@ -44,15 +44,18 @@ struct Answer {
     yes: bool,
     key: u64,
     probes: usize,
+    hit: bool,
     iter: ColumnTrieIter,
 }
 
-fn told(number: u64, yes: bool, key: u64, probes: usize, iter: ColumnTrieIter) -> Answer {
+// Of a call that seeks nothing.
+fn told(number: u64, yes: bool, key: u64, iter: ColumnTrieIter) -> Answer {
     Answer {
         number,
         yes,
         key,
-        probes,
+        probes: 0,
+        hit: false,
         iter,
     }
 }
@@ -63,43 +66,44 @@ fn answered(text: &[u8], tally: Tally, came: Answer) -> Tally {
     let yes = said(text, number, word_of(came.yes));
     let key = said(text, yes, came.key);
     let probes = said(text, key, came.probes as u64);
+    let hit = said(text, probes, word_of(came.hit));
     let iter = came.iter;
-    placed(text, probes, iter)
+    placed(text, hit, iter)
 }
 
 // ---- the calls
 
 fn key(pool: &[u64], table: ColumnTrie, iter: ColumnTrieIter) -> Answer {
     let came = column_trie_iter::key(pool, table, iter);
-    told(came.number, came.found, came.key, 0, iter)
+    told(came.number, came.found, came.key, iter)
 }
 
 fn next(pool: &[u64], table: ColumnTrie, iter: ColumnTrieIter) -> Answer {
     let came = column_trie_iter::next(pool, table, iter);
     let after = came.iter;
-    told(came.number, came.found, came.key, 0, after)
+    told(came.number, came.found, came.key, after)
 }
 
 fn at_end(pool: &[u64], table: ColumnTrie, iter: ColumnTrieIter) -> Answer {
     let came = column_trie_iter::at_end(pool, table, iter);
-    told(came.number, came.at_end, 0, 0, iter)
+    told(came.number, came.at_end, 0, iter)
 }
 
 fn open(pool: &[u64], table: ColumnTrie, iter: ColumnTrieIter) -> Answer {
     let came = column_trie_iter::open(pool, table, iter);
     let after = came.iter;
-    told(came.number, came.opened, 0, 0, after)
+    told(came.number, came.opened, 0, after)
 }
 
 fn up(pool: &[u64], table: ColumnTrie, iter: ColumnTrieIter) -> Answer {
     let came = column_trie_iter::up(pool, table, iter);
     let after = came.iter;
-    told(came.number, came.risen, 0, 0, after)
+    told(came.number, came.risen, 0, after)
 }
 
 // A new cursor, whatever is asked.
 fn new() -> Answer {
-    told(0, false, 0, 0, ColumnTrieIter::new())
+    told(0, false, 0, ColumnTrieIter::new())
 }
 
 // 0 key, 1 next, 2 at_end, 3 open, 4 up, and else a new cursor.
@@ -128,7 +132,14 @@ fn seek(text: &[u8], tally: Tally, pool: &[u64], table: ColumnTrie, iter: Column
     let target = number(text, strategy.at);
     let came = column_trie_iter::seek(pool, table, iter, strategy_of(strategy.word), target.word);
     let after = came.iter;
-    let sought = told(came.number, came.found, 0, came.probes, after);
+    let sought = Answer {
+        number: came.number,
+        yes: came.found,
+        key: 0,
+        probes: came.probes,
+        hit: came.hit,
+        iter: after,
+    };
     answered(text, tally.at(target.at), sought)
 }
 

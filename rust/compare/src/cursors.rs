@@ -90,6 +90,7 @@ impl<S: oracle::SeekStrategy> Pair<'_, S> {
         let expected = model::seek(self.pool, self.t, self.ours, self.strategy, target);
         tally.same(answer, expected, || what() + " by the rules")?;
         tally.same((answer.number, answer.found), (0, found), what)?;
+        tally.same(answer.hit, self.theirs.key() == Some(target as usize), || what() + ", hit by kermit's key")?;
         if self.strategy == SeekStrategy::Linear {
             tally.same(answer.probes, probes, || what() + ", probes")?;
         }

@@ -19,7 +19,7 @@ pub struct Layer {
 // ---- seeks
 
 /// The halving rule on lo..hi: probe lo + (hi - lo)/2; below moves lo past it, else hi to it.
-fn halve(lo: usize, hi: usize, probes: u64, below: impl Fn(usize) -> bool) -> Sought {
+fn halve(lo: usize, hi: usize, probes: u64, below: impl Fn(usize) -> bool) -> (usize, u64) {
     let (mut lo, mut hi, mut probes) = (lo, hi, probes);
     while lo < hi {
         let mid = lo + (hi - lo) / 2;
@@ -30,23 +30,29 @@ fn halve(lo: usize, hi: usize, probes: u64, below: impl Fn(usize) -> bool) -> So
             hi = mid;
         }
     }
-    Sought { offset: lo as u64, probes }
+    (lo, probes)
 }
 
 pub fn partition_point(strategy: SeekStrategy, run: &[u64], target: u64) -> Sought {
+    let (offset, probes) = probed(strategy, run, target);
+    Sought { offset: offset as u64, probes, hit: run.get(offset) == Some(&target) }
+}
+
+/// Where the strategy's probes end, and how many they are.
+fn probed(strategy: SeekStrategy, run: &[u64], target: u64) -> (usize, u64) {
     let below = |i: usize| run[i] < target;
     match strategy {
         SeekStrategy::Linear => {
             let offset = (0..run.len()).take_while(|&i| below(i)).count();
-            Sought { offset: offset as u64, probes: run.len().min(offset + 1) as u64 }
+            (offset, run.len().min(offset + 1) as u64)
         }
         SeekStrategy::Binary => halve(0, run.len(), 0, below),
         SeekStrategy::Galloping => {
             if run.is_empty() {
-                return Sought { offset: 0, probes: 0 };
+                return (0, 0);
             }
             if !below(0) {
-                return Sought { offset: 0, probes: 1 };
+                return (0, 1);
             }
             // The last bound known below, the next one, and the probes so far.
             let (mut last, mut bound, mut probes) = (0, 1, 1);
@@ -312,12 +318,12 @@ pub fn next(pool: &[u64], t: ColumnTrie, i: ColumnTrieIter) -> NextAnswer {
 
 pub fn seek(pool: &[u64], t: ColumnTrie, i: ColumnTrieIter, strategy: SeekStrategy, target: u64) -> SeekAnswer {
     match Stood::check(pool, t, i) {
-        Err(number) => SeekAnswer { number, found: false, probes: 0, iter: i },
+        Err(number) => SeekAnswer { number, found: false, hit: false, probes: 0, iter: i },
         Ok(stood) => {
             let remaining = stood.remaining(i);
             let sought = partition_point(strategy, remaining, target);
             let found = sought.offset < remaining.len() as u64;
-            SeekAnswer { number: 0, found, probes: sought.probes, iter: past(i, sought.offset) }
+            SeekAnswer { number: 0, found, hit: sought.hit, probes: sought.probes, iter: past(i, sought.offset) }
         }
     }
 }
@@ -364,7 +370,7 @@ pub fn up(pool: &[u64], t: ColumnTrie, i: ColumnTrieIter) -> UpAnswer {
         return risen(ColumnTrieIter::default());
     }
     let upper = &stood.layers[i.depth as usize - 2];
-    let counted = halve(0, upper.interval.len(), 0, |k| upper.interval[k] <= i.interval_i).offset;
+    let counted = halve(0, upper.interval.len(), 0, |k| upper.interval[k] <= i.interval_i).0 as u64;
     if counted == 0 {
         return stays(6);
     }

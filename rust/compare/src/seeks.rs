@@ -1,4 +1,4 @@
-//! Seeks in one run: offsets of all strategies and probes of the linear one against kermit, probes of all against document 01's rule.
+//! Seeks in one run: offsets and hits of all strategies and probes of the linear one against kermit, probes of all against document 01's rule.
 use crate::case::{lower, shorter, Case, Tally};
 use crate::kermit::keys;
 use crate::model;
@@ -42,7 +42,12 @@ impl Case for Seek {
                 tally.same((ours.offset, ours.probes), theirs, || "linear offset and probes".into())?;
             } else if ascends {
                 tally.same(ours.offset, theirs.0, || format!("{strategy:?} offset"))?;
+            } else {
+                continue;
             }
+            tally.same(ours.hit, run.get(theirs.0 as usize) == Some(&target), || {
+                format!("{strategy:?} hit, by kermit's offset")
+            })?;
         }
         Ok(())
     }

@@ -29,8 +29,8 @@ macro_rules! c_struct {
 }
 
 c_struct!(
-    /// Where a seek ended, and how many keys it looked at.
-    Sought { offset: u64, probes: u64 }
+    /// Where a seek ended, how many keys it looked at, and whether it hit: the offset is inside the run and the key there is the target.
+    Sought { offset: u64, probes: u64, hit: bool }
 );
 c_struct!(
     /// A table's header: where its words start in the pool, its limits, the lengths of each layer's two lists, and the number of distinct rows.
@@ -52,7 +52,7 @@ c_struct!(
 );
 c_struct!(KeyAnswer { number: u64, found: bool, key: u64 });
 c_struct!(NextAnswer { number: u64, found: bool, key: u64, iter: ColumnTrieIter });
-c_struct!(SeekAnswer { number: u64, found: bool, probes: u64, iter: ColumnTrieIter });
+c_struct!(SeekAnswer { number: u64, found: bool, hit: bool, probes: u64, iter: ColumnTrieIter });
 c_struct!(EndAnswer { number: u64, at_end: bool });
 c_struct!(OpenAnswer { number: u64, opened: bool, iter: ColumnTrieIter });
 c_struct!(UpAnswer { number: u64, risen: bool, iter: ColumnTrieIter });
@@ -120,12 +120,12 @@ mod c {
 // Each call below is safe: it is proved to stay inside the slices it is handed whatever the other arguments are, and a Rust slice has the length it says.
 // No call keeps a pointer.
 
-/// The offset in `remaining` at which `strategy` ends for `target`, and its probes.
+/// The offset in `remaining` at which `strategy` ends for `target`, its probes, and whether the key there is the target.
 ///
 /// ```
 /// use ducatbriar::calls::{partition_point, SeekStrategy, Sought};
 /// let run = [2, 4, 6, 8, 10, 12, 14, 16];
-/// assert_eq!(partition_point(SeekStrategy::Galloping, &run, 7), Sought { offset: 3, probes: 5 });
+/// assert_eq!(partition_point(SeekStrategy::Galloping, &run, 7), Sought { offset: 3, probes: 5, hit: false });
 /// ```
 pub fn partition_point(strategy: SeekStrategy, remaining: &[u64], target: u64) -> Sought {
     unsafe { c::ducatbriar_partition_point(strategy as u64, remaining.as_ptr(), remaining.len() as u64, target) }

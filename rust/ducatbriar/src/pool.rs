@@ -1,5 +1,5 @@
 //! A pool that owns its tables' words, with cursors and joins over them.
-use crate::calls::{self, ColumnTrie, ColumnTrieIter, SeekStrategy, Tables};
+use crate::calls::{self, ColumnTrie, ColumnTrieIter, SeekAnswer, SeekStrategy, Tables};
 use crate::limits::{listing, words, MAX_ARITY, MAX_CAPACITY, MAX_VARIABLES};
 use crate::{Query, Refusal};
 use std::ops::Range;
@@ -272,6 +272,7 @@ impl Pool {
 /// assert_eq!(cursor.probes(), 2);
 /// assert_eq!(cursor.key()?, Some(20));
 /// assert!(cursor.open()?);
+/// assert!(cursor.find(3)?);
 /// assert_eq!(cursor.key()?, Some(3));
 /// assert_eq!(cursor.next_key()?, None);
 /// assert!(cursor.up()?);
@@ -314,10 +315,19 @@ impl Cursor<'_> {
 
     /// To the first key not yet passed that is not below the target; whether there is one.
     pub fn seek(&mut self, target: u64) -> Result<bool, Refusal> {
+        self.sought(target).map(|answer| answer.found)
+    }
+
+    /// As [`Cursor::seek`]; whether the key it stands on then is the target.
+    pub fn find(&mut self, target: u64) -> Result<bool, Refusal> {
+        self.sought(target).map(|answer| answer.hit)
+    }
+
+    fn sought(&mut self, target: u64) -> Result<SeekAnswer, Refusal> {
         let answer = self.iter.seek(self.words, *self.header, self.strategy, target);
         self.iter = answer.iter;
         self.probes += answer.probes;
-        Refusal::check(answer.number).map(|()| answer.found)
+        Refusal::check(answer.number).map(|()| answer)
     }
 
     /// Whether no key is left at this depth; yes at the root.

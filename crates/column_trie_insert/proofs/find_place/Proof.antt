@@ -1,5 +1,5 @@
 -- `column_trie_insert::find_place` meets its contract: the seek's offset leads in the group's words (Places.antt), and halving looks at few of them.
-use Prim.Native.Nat.{_≤_}
+use Prim.Native.Nat.{_+_}
 use mathlib.Core.Path.{sym, subst}
 use native.Mathlib.Omega.{arith}
 use lib.ListN.{length}
@@ -7,10 +7,11 @@ use borrow.Author.Needs.{needs}
 use Rattle.seek.specs.Offset.{Leading}
 use Rattle.seek.specs.declared.Sought.{Sought}
 use Rattle.seek.specs.declared.SeekStrategy.the-variants.{Binary}
-use Rattle.seek.specs.Probes.{digits}
 use Rattle.seek.proofs.Laws.{leading, binary-cost}
+use Rattle.column_trie.specs.Table.{layerIn}
 use Rattle.column_trie.proofs.Header.{LayerFits, layer-fits, header-told}
-use Rattle.column_trie_insert.proofs.Places.{GroupAt, index-small, group-fits, run, run-long, run-rises, place-found, place-end}
+use Rattle.column_trie_insert.specs.Grow.{KeyPlaceOf}
+use Rattle.column_trie_insert.proofs.Places.{GroupAt, index-small, group-fits, run, run-long, run-rises, place-sought}
 use Rattle.column_trie_insert.proofs.find_place.Statement.{statement}
 use Rattle.column_trie_insert.proofs.find_place.Tie as tie
 
@@ -36,13 +37,6 @@ found c =
     let key = c .before .before .before .before .before .before .args .key in
     let words = run (c .before .before .before .before .before .before .args .pool .now) (c .before .before .layer-at .result) (c .before .before .before .before .begins .result) (c .before .before .before .begins2 .result) in
     subst (λ (z : Sought). Leading words key (z .offset)) (sym (c .partition-point .ensures)) (leading Binary words key (run-rises (group (c .before .before))))
-
--- and how many keys it looked at
-looked : (c : tie.After-partition-point) → c .partition-point .result .probes ≤ digits (length (run (c .before .before .before .before .before .before .args .pool .now) (c .before .before .layer-at .result) (c .before .before .before .before .begins .result) (c .before .before .before .begins2 .result)))
-looked c =
-    let key = c .before .before .before .before .before .before .args .key in
-    let words = run (c .before .before .before .before .before .before .args .pool .now) (c .before .before .layer-at .result) (c .before .before .before .before .begins .result) (c .before .before .before .begins2 .result) in
-    subst (λ (z : Sought). z .probes ≤ digits (length words)) (sym (c .partition-point .ensures)) (binary-cost words key)
 
 begins-requires : tie.Need-begins-requires
 begins-requires c κs = search needs
@@ -77,20 +71,22 @@ part-run-end c = omega (arith, group-fits (group c))
 partition-point-requires : tie.Need-partition-point-requires
 partition-point-requires c κs = search needs
 
-add-t20 : tie.Need-add-t20
-add-t20 c = search needs
+add-t13 : tie.Need-add-t13
+add-t13 c =
+    let g = group (c .before .before .before) in
+    omega (arith, found (c .before) .inside, run-long g, group-fits g)
 
-mul-t21 : tie.Need-mul-t21
-mul-t21 c = let g = group (c .before .before .before) in omega (arith, run-long g, c .if1 .taken, group-fits g)
-
-shared-slice-read-t23 : tie.Need-shared-slice-read-t23
-shared-slice-read-t23 c = search needs
-
+-- where the seek ended is the key's place, and it looked at few keys
 returns : tie.Need-returns
-returns c = place-found (group (c .before .before .before .before)) (found (c .before .before)) (looked (c .before .before)) (c .before .if1 .taken)
-
-returns-2 : tie.Need-returns-2
-returns-2 c = place-end (group (c .before .before .before)) (found (c .before)) (looked (c .before)) (c .if1 .left)
+returns c =
+    let b = c .before .before .before in
+    let args = b .before .before .before .before .args in
+    let words = run (args .pool .now) (b .layer-at .result) (b .before .before .begins .result) (b .before .begins2 .result) in
+    let g = group b in
+    subst
+    (λ (z : Sought). KeyPlaceOf (layerIn (args .pool .now) (args .t) (args .d)) (args .i) (args .key) (record { at = b .before .before .begins .result + z .offset; there = z .hit; probes = z .probes }))
+    (sym (c .before .partition-point .ensures))
+    (place-sought g (leading Binary words (args .key) (run-rises g)) (binary-cost words (args .key)))
 
 pub find-place-spec : {M : Type 1} → statement M
 find-place-spec =
@@ -107,8 +103,5 @@ find-place-spec =
     part-run-start
     part-run-end
     partition-point-requires
-    add-t20
-    mul-t21
-    shared-slice-read-t23
-    returns
-    returns-2)
+    add-t13
+    returns)

@@ -9,7 +9,7 @@ use lib.ListN.{length, take, drop}
 use borrow.Author.Tests.{not-true, not-false}
 use Rattle.relation.specs.Layers.{Layer}
 use Rattle.seek.specs.Seek.{halving}
-use Rattle.seek.specs.declared.Sought.{Sought}
+use Rattle.seek.specs.declared.Probed.{Probed}
 use Rattle.column_trie.specs.Pool.{spot}
 use Rattle.column_trie.specs.Table.{intervalLen, layerIn}
 use Rattle.column_trie.specs.declared.ColumnTrie.{ColumnTrie}
@@ -38,7 +38,7 @@ counts : (q : tie.After-halve) → let s = q .before .before .before .before .be
 counts q =
     let s = q .before .before .before .before .before in
     let pool = s .args .pool .now in
-    ap (λ (x : Sought). x .offset) (q .halve .ensures) ∙
+    ap (λ (x : Probed). x .offset) (q .halve .ensures) ∙
     ap₂ {C = ℕ} (λ ints n. halving ints (s .args .i + 1) 0 n 0 .offset) (part-intervals pool (s .args .t2) (s .args .d) (q .before .before .layer-at .ensures)) (sym (intervals-long pool (told s)))
 
 lying : (e : tie.Else2) → let q = e .before .before .before .before in Lying (layer (q .before .before .before .before .before)) (q .halve .result .offset - 1) (e .before .before .group-of .result)

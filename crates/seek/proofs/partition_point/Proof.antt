@@ -1,45 +1,31 @@
--- `seek::partition_point` meets its contract: each arm is its callee's answer.
+-- `seek::partition_point` meets its contract: the comparison says whether the strategy's end is a hit.
+use mathlib.Core.Path.{_∙_, ap}
 use borrow.Author.Needs.{needs}
+use Rattle.seek.specs.Seek.{soughtAt}
+use Rattle.seek.proofs.Hits.{hit-inside, hit-outside}
 use Rattle.seek.proofs.partition_point.Statement.{statement}
 use Rattle.seek.proofs.partition_point.Tie as tie
 
-enum-told : tie.Need-enum-told
-enum-told c = search needs
+probe-requires : tie.Need-probe-requires
+probe-requires c κs = search needs
 
-linear-requires : tie.Need-linear-requires
-linear-requires c κs = search needs
+mul-t16 : tie.Need-mul-t16
+mul-t16 c = search needs
 
-enum-told-2 : tie.Need-enum-told-2
-enum-told-2 c = search needs
-
-binary-requires : tie.Need-binary-requires
-binary-requires c κs = search needs
-
-enum-told-3 : tie.Need-enum-told-3
-enum-told-3 c = search needs
-
-galloping-requires : tie.Need-galloping-requires
-galloping-requires c κs = search needs
+shared-slice-read-t18 : tie.Need-shared-slice-read-t18
+shared-slice-read-t18 c = search needs
 
 returns : tie.Need-returns
-returns c = cc
+returns c =
+    let found = c .before .before in
+    let args = found .before .before .args in
+    hit-inside (args .remaining .now) (args .target) (found .probe .result) (c .before .if1 .taken) ∙ ap (soughtAt (args .remaining .now) (args .target)) (found .probe .ensures)
 
 returns-2 : tie.Need-returns-2
-returns-2 c = cc
-
-returns-3 : tie.Need-returns-3
-returns-3 c = cc
+returns-2 c =
+    let found = c .before in
+    let args = found .before .before .args in
+    hit-outside (args .remaining .now) (args .target) (found .probe .result) (c .if1 .left) ∙ ap (soughtAt (args .remaining .now) (args .target)) (found .probe .ensures)
 
 pub partition-point-spec : {M : Type 1} → statement M
-partition-point-spec =
-    tie.close
-    (tie.spec
-    enum-told
-    linear-requires
-    enum-told-2
-    binary-requires
-    enum-told-3
-    galloping-requires
-    returns
-    returns-2
-    returns-3)
+partition-point-spec = tie.close (tie.spec probe-requires mul-t16 shared-slice-read-t18 returns returns-2)

@@ -84,7 +84,9 @@ mod recorded {
             let (offset, probes) = seeks::theirs::<LinearSeek>(&run, target as usize);
             let (binary, _) = seeks::theirs::<BinarySeek>(&run, target as usize);
             let (galloping, _) = seeks::theirs::<GallopingSeek>(&run, target as usize);
-            write!(text, "; {target} {} {probes}", agreed(offset, binary, galloping)).unwrap();
+            let offset = agreed(offset, binary, galloping);
+            let hit = run.get(offset as usize) == Some(&(target as usize));
+            write!(text, "; {target} {offset} {probes} {}", hit as u64).unwrap();
         }
         text + "\n"
     }

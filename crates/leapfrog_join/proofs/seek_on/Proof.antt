@@ -1,4 +1,4 @@
--- `leapfrog_join::leapfrog_seek` meets its contract: from the target on the ring is ordered from the next place, and the search goes on there.
+-- `leapfrog_join::seek_on` meets its contract: from the target on the ring is ordered from the next place, and the search goes on there.
 use Prim.Native.Nat.{_+_}
 use native.Mathlib.Omega.{arith}
 use borrow.Author.Needs.{needs}
@@ -11,8 +11,8 @@ use Rattle.leapfrog_join.proofs.Runs.{sought}
 use Rattle.leapfrog_join.proofs.Defined.{ready-few}
 use Rattle.leapfrog_join.proofs.Laws.{search-few}
 use Rattle.leapfrog_join.proofs.Stepping.{stands, ran-on, ran-more, step-moved, step-ready, step-ordered, step-out, step-on, target-run, target-ascends, target-in}
-use Rattle.leapfrog_join.proofs.leapfrog_seek.Statement.{statement}
-use Rattle.leapfrog_join.proofs.leapfrog_seek.Tie as tie
+use Rattle.leapfrog_join.proofs.seek_on.Statement.{statement}
+use Rattle.leapfrog_join.proofs.seek_on.Tie as tie
 
 -- where the seek ended
 reached : (c : tie.After-struct-known) → let a = c .before .before .before .before .before .before .args in let i = getD (a .ring .now) (a .p) 0 in Reached (a .pool .now) (getD (a .at .now) i 0) (getD (a .end .now) i 0) (a .target) (getD (a .at .now) i 0 + c .before .seek-run .result .offset)
@@ -85,8 +85,8 @@ returns-2 c =
     let e = from-end (b .args .target) (runAt (runsIn (b .args .pool .now) (b .args .at .now) (b .args .end .now) (b .args .ring .now) (b .args .k)) (b .args .p)) in
     ran-more (ran-on (step-moved g _ (s .forward) (s .within)) (step-on g _ (s .forward) (s .within) (e .0) (e .1) (target-run g s) i (c .before .after .ensures)) (c .leapfrog-search .ensures))
 
-pub leapfrog-seek-spec : {M : Type 1} → statement M
-leapfrog-seek-spec =
+pub seek-on-spec : {M : Type 1} → statement M
+seek-on-spec =
     tie.close
     (tie.spec
     mul-a
