@@ -4,7 +4,7 @@ use mathlib.Core.Path.{_≡_, refl, sym, ap, ap₂, subst, _∙_}
 use mathlib.Core.Bool.{Bool, true, false}
 use mathlib.Core.List.{List, [], _∷_, _++_, append-nil, append-assoc}
 use native.Mathlib.Omega.{arith}
-use lib.ListN.{length, take, drop, getD, set, length-append, length-drop, take-append-drop}
+use lib.ListN.{length, take, drop, getD, set, length-append, length-drop}
 use lib.Seq.{take-suc, take-all, length-take-le}
 use lib.Dec.{ltb}
 use borrow.Author.Tests.{lt-ltb, le-ltb, ltb-true, ltb-false}
@@ -13,7 +13,7 @@ use Rattle.column_trie.specs.Pool.{lay, spot}
 use Rattle.column_trie.specs.Table.{dataLen, intervalLen, layerIn}
 use Rattle.column_trie.specs.declared.ColumnTrie.{ColumnTrie}
 use Rattle.column_trie.proofs.Pool.{lay-length}
-use Rattle.column_trie_listing.specs.List.{Written}
+use Rattle.column_trie_listing.specs.Piece.{PieceWritten}
 use Rattle.column_trie_listing.specs.Text.{decimalIn, decimal, closing, comma, layerWord, dataWord, intervalWord, others, numbers, lists, layerText, textFrom, text}
 
 decimal-less : (fuel n : ℕ) → n < 10 → decimalIn (suc fuel) n ≡ (48 + n) ∷ []
@@ -89,13 +89,6 @@ others-one x = append-nil (comma ++ decimal x)
 pub others-more : (xs : List ℕ) (i : ℕ) → i < length xs → others (take (suc i) xs) ≡ others (take i xs) ++ (comma ++ decimal (getD xs i 0))
 others-more xs i h = ap others (take-suc xs i 0 h) ∙ others-append (take i xs) (getD xs i 0 ∷ []) ∙ ap (λ (l : List ℕ). others (take i xs) ++ l) (others-one (getD xs i 0))
 
-pub more-length : (xs : List ℕ) (i : ℕ) → i < length xs → length (others (take (suc i) xs)) ≡ length (others (take i xs)) + (2 + length (decimal (getD xs i 0)))
-more-length xs i h = ap length (others-more xs i h) ∙ length-append (others (take i xs)) (comma ++ decimal (getD xs i 0)) ∙ ap (λ (n : ℕ). length (others (take i xs)) + n) (length-append comma (decimal (getD xs i 0)))
-
--- the first ones are not longer than all
-pub others-room : (xs : List ℕ) (i : ℕ) → length (others (take i xs)) ≤ length (others xs)
-others-room xs i = omega (arith, ap (λ (l : List ℕ). length (others l)) (take-append-drop i xs), ap length (others-append (take i xs) (drop i xs)), length-append (others (take i xs)) (others (drop i xs)))
-
 pub none-others : others [] ≡ []
 unfolding others
 none-others = refl
@@ -112,21 +105,27 @@ numbers-some (x ∷ xs) n = refl
 
 -- ---- pieces written one after another
 
-pub written-none : (bytes : List ℕ) (at : ℕ) → Written bytes bytes at [] at
-written-none bytes at = record { ends = omega arith; laid = lay-none bytes at }
+pub written-none : (bytes : List ℕ) (at : ℕ) → PieceWritten bytes bytes at [] at
+written-none bytes at = record { ends = omega arith; laid = λ h. lay-none bytes at; room = refl }
 
-pub written-more : {b b₁ b₂ : List ℕ} {at e f : ℕ} {xs ys : List ℕ} → Written b b₁ at xs e → Written b₁ b₂ e ys f → Written b b₂ at (xs ++ ys) f
+-- a piece that is laid, and one that has no room
+pub written-whole : {b b₁ : List ℕ} {at e : ℕ} {xs : List ℕ} → e ≡ at + length xs → b₁ ≡ lay b at xs → PieceWritten b b₁ at xs e
+written-whole {b} {at = at} {xs = xs} n l = record { ends = n; laid = λ h. l; room = ap length l ∙ lay-length b at xs }
+
+pub unwritten : {b : List ℕ} {at e : ℕ} {xs : List ℕ} → e ≡ at + length xs → length b < e → PieceWritten b b at xs e
+unwritten n h = record { ends = n; laid = λ r. absurd (omega arith); room = refl }
+
+pub written-more : {b b₁ b₂ : List ℕ} {at e f : ℕ} {xs ys : List ℕ} → PieceWritten b b₁ at xs e → PieceWritten b₁ b₂ e ys f → PieceWritten b b₂ at (xs ++ ys) f
 written-more {b} {b₁} {b₂} {at} {e} {f} {xs} {ys} w v =
+    let l = length-append xs ys in
     record {
-      ends = omega (arith, w .ends, v .ends, length-append xs ys);
-      laid = v .laid ∙ ap₂ (λ (l : List ℕ) (n : ℕ). lay l n ys) (w .laid) (w .ends) ∙ lay-append b at xs ys;
+      ends = omega (arith, w .ends, v .ends);
+      laid = λ h. v .laid (omega (arith, w .ends, w .room)) ∙ ap₂ (λ (l : List ℕ) (n : ℕ). lay l n ys) (w .laid (omega arith)) (w .ends) ∙ lay-append b at xs ys;
+      room = v .room ∙ w .room;
     }
 
-pub written-as : {b b₁ : List ℕ} {at e : ℕ} {xs ys : List ℕ} → xs ≡ ys → Written b b₁ at xs e → Written b b₁ at ys e
-written-as {b} {b₁} {at} {e} p w = subst (λ (z : List ℕ). Written b b₁ at z e) p w
-
-pub written-long : {b b₁ : List ℕ} {at e : ℕ} {xs : List ℕ} → Written b b₁ at xs e → length b₁ ≡ length b
-written-long {b} {at = at} {xs = xs} w = ap length (w .laid) ∙ lay-length b at xs
+pub written-as : {b b₁ : List ℕ} {at e : ℕ} {xs ys : List ℕ} → xs ≡ ys → PieceWritten b b₁ at xs e → PieceWritten b b₁ at ys e
+written-as {b} {b₁} {at} {e} p w = subst (λ (z : List ℕ). PieceWritten b b₁ at z e) p w
 
 -- the slice behind the first word
 tail-is : (xs : List ℕ) → take (length xs - 1) (drop 1 xs) ≡ drop 1 xs
@@ -138,34 +137,14 @@ list-none xs e = ap (λ (l : List ℕ). l ++ closing) (numbers-none xs e)
 pub list-some : (xs : List ℕ) → (length xs ≡ 0 → ⊥) → numbers xs ++ closing ≡ (decimal (getD xs 0 0) ++ others (take (length xs - 1) (drop 1 xs))) ++ closing
 list-some xs n = ap (λ (l : List ℕ). l ++ closing) (numbers-some xs n ∙ ap (λ (l : List ℕ). decimal (getD xs 0 0) ++ others l) (sym (tail-is xs)))
 
-pub some-length : (xs : List ℕ) → (length xs ≡ 0 → ⊥) → length (numbers xs ++ closing) ≡ length (decimal (getD xs 0 0)) + length (others (take (length xs - 1) (drop 1 xs))) + 2
-some-length xs n =
-    ap length (list-some xs n)
-    ∙ length-append (decimal (getD xs 0 0) ++ others (take (length xs - 1) (drop 1 xs))) closing
-    ∙ ap (λ (k : ℕ). k + 2) (length-append (decimal (getD xs 0 0)) (others (take (length xs - 1) (drop 1 xs))))
-
 pub tail-length : (xs : List ℕ) → length (take (length xs - 1) (drop 1 xs)) ≡ length xs - 1
 tail-length xs = ap length (tail-is xs) ∙ length-drop 1 xs
 
 -- ---- layers
 
-pub head-length : (d : ℕ) → length (layerWord ++ (decimal d ++ dataWord)) ≡ 14 + length (decimal d)
-head-length d = omega (arith, length-append layerWord (decimal d ++ dataWord), length-append (decimal d) dataWord)
-
 pub layer-is : (d : ℕ) (keys intervals : List ℕ) → layerText d (lists keys intervals) ≡ ((layerWord ++ (decimal d ++ dataWord)) ++ (numbers keys ++ closing)) ++ (intervalWord ++ (numbers intervals ++ closing))
 unfolding layerText
 layer-is d keys intervals = refl
-
-pub layer-length : (d : ℕ) (keys intervals : List ℕ) → length (layerText d (lists keys intervals)) ≡ 25 + length (decimal d) + length (numbers keys ++ closing) + length (numbers intervals ++ closing)
-layer-length d keys intervals =
-    omega (
-      arith,
-      ap length (layer-is d keys intervals),
-      length-append ((layerWord ++ (decimal d ++ dataWord)) ++ (numbers keys ++ closing)) (intervalWord ++ (numbers intervals ++ closing)),
-      length-append (layerWord ++ (decimal d ++ dataWord)) (numbers keys ++ closing),
-      length-append intervalWord (numbers intervals ++ closing),
-      head-length d,
-    )
 
 text-append : (e : ℕ) (xs ys : List Layer) → textFrom e (xs ++ ys) ≡ textFrom e xs ++ textFrom (e + length xs) ys
 unfolding textFrom
@@ -190,10 +169,6 @@ text-more ls d h =
     ∙ text-append 0 (take d ls) (layer ls d ∷ [])
     ∙ ap (λ (n : ℕ). text (take d ls) ++ textFrom n (layer ls d ∷ [])) (let e : 0 + length (take d ls) ≡ d = omega (arith, length-take-le d ls (omega arith)) in e)
     ∙ ap (λ (l : List ℕ). text (take d ls) ++ l) (text-one d (layer ls d))
-
-pub text-room : (ls : List Layer) (d : ℕ) → length (text (take d ls)) ≤ length (text ls)
-text-room ls d =
-    omega (arith, ap (λ (l : List Layer). length (text l)) (take-append-drop d ls), ap length (text-append 0 (take d ls) (drop d ls)), length-append (text (take d ls)) (textFrom (0 + length (take d ls)) (drop d ls)))
 
 -- the parts of the pool that are handed on are the layer's lists
 pub parts : (pool : List ℕ) (t : ColumnTrie) (d : ℕ) {at : ℕ} → at ≡ spot (t .start) (t .capacity) d → lists (take (at + dataLen t d - at) (drop at pool)) (take (at + t .capacity + intervalLen t d - (at + t .capacity)) (drop (at + t .capacity) pool)) ≡ layerIn pool t d

@@ -1,20 +1,14 @@
 -- Public: what a listing answers, and what it leaves in the buffer.
-use Prim.Native.Nat.{ℕ, _+_}
+use Prim.Native.Nat.{ℕ}
 use mathlib.Core.Path.{_≡_}
 use mathlib.Core.List.{List, _++_}
 use lib.ListN.{length, drop}
 use lib.Dec.{leb, eqb}
 use Rattle.relation.specs.Order.{pick}
-use Rattle.column_trie.specs.Pool.{lay}
 use Rattle.column_trie.specs.Table.{layersIn, undamaged}
 use Rattle.column_trie.specs.declared.ColumnTrie.{ColumnTrie}
 use Rattle.column_trie_listing.specs.declared.Listed.{Listed}
 use Rattle.column_trie_listing.specs.Text.{text}
-
--- a piece written from `at` on, up to `end`
-pub record Written (bytes bytes′ : List ℕ) (at : ℕ) (piece : List ℕ) (end : ℕ) : Type 0 where
-  pub ends : end ≡ at + length piece
-  pub laid : bytes′ ≡ lay bytes at piece
 
 -- 6 for a damaged table, 14 for a text that is longer than the buffer
 unfoldable pub listNumber : List ℕ → ColumnTrie → ℕ → ℕ

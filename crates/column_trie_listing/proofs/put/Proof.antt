@@ -1,6 +1,6 @@
--- `column_trie_listing::put` meets its contract: the bytes passed are laid.
+-- `column_trie_listing::put` meets its contract: the bytes passed are laid, where they all fit.
 use Prim.Native.Nat.{ℕ, _+_, _-_, _≤_}
-use mathlib.Core.Path.{_≡_, sym, ap, ap₂, _∙_}
+use mathlib.Core.Path.{_≡_, refl, sym, ap, ap₂, _∙_}
 use mathlib.Core.List.{List}
 use native.Mathlib.Omega.{arith}
 use native.Mathlib.Numerals.{add-one}
@@ -8,20 +8,26 @@ use lib.ListN.{length, take, getD, set}
 use lib.Seq.{take-suc, take-all, length-take-le}
 use Rattle.column_trie.specs.Pool.{lay}
 use Rattle.column_trie.proofs.Pool.{lay-length, lay-snoc}
-use Rattle.column_trie_listing.proofs.Texts.{lay-none}
+use Rattle.column_trie_listing.proofs.Texts.{lay-none, written-whole, unwritten}
 use Rattle.column_trie_listing.proofs.put.Statement.{statement}
 use Rattle.column_trie_listing.proofs.put.Tie as tie
 use Rattle.column_trie_listing.proofs.put.Reads as reads
 use Rattle.column_trie_listing.proofs.put.Lts as lts
 
 abbrev Inv-loop : tie.InvT-loop
-Inv-loop text₀ at bytes i₀ text i = (i ≤ length bytes) × (text ≡ lay text₀ at (take i bytes))
+Inv-loop text₀ at bytes end i₀ text i = (i ≤ length bytes) × (text ≡ lay text₀ at (take i bytes))
 
 abbrev μ-loop : tie.MeasureT-loop
-μ-loop text₀ at bytes i₀ text i = length bytes - i
+μ-loop text₀ at bytes end i₀ text i = length bytes - i
+
+add-end : tie.Need-add-end Inv-loop μ-loop
+add-end c = omega arith
+
+returns : tie.Need-returns Inv-loop μ-loop
+returns c = unwritten refl (c .if1 .taken)
 
 loop-holds : tie.Need-loop-holds Inv-loop μ-loop
-loop-holds c = (omega arith, lay-none (c .args .text .now) (c .args .at))
+loop-holds c = (omega arith, lay-none (c .before .args .text .now) (c .before .args .at))
 
 shared-slice-read-text : tie.Need-shared-slice-read-text Inv-loop μ-loop
 shared-slice-read-text c = omega arith
@@ -30,7 +36,10 @@ add-text : tie.Need-add-text Inv-loop μ-loop
 add-text c = omega arith
 
 slice-write-text : tie.Need-slice-write-text Inv-loop μ-loop
-slice-write-text c = let a = c .before .before .before .args in omega (arith, c .before .before .before .pre, ap length (c .before .before .loop .inv .1), lay-length (a .text .now) (a .at) (take (c .before .before .loop .i) (a .bytes .now)))
+slice-write-text c =
+    let l = c .before .before in
+    let a = l .before .before .args in
+    omega (arith, l .before .if1 .left, ap length (l .loop .inv .1), lay-length (a .text .now) (a .at) (take (l .loop .i) (a .bytes .now)))
 
 add-i : tie.Need-add-i Inv-loop μ-loop
 add-i c = omega arith
@@ -40,23 +49,25 @@ loop-less c = omega arith
 
 loop-again : tie.Need-loop-again Inv-loop μ-loop
 loop-again c =
-    let a = c .before .before .before .args in
-    let i = c .before .before .loop .i in
+    let l = c .before .before .loop in
+    let a = c .before .before .before .before .args in
     let b = a .bytes .now in (
       omega arith,
-      ap₂ (λ (l : List ℕ) (n : ℕ). set l (a .at + n) (getD b i 0)) (c .before .before .loop .inv .1) (sym (length-take-le i b (c .before .before .loop .inv .0)))
-          ∙ sym (lay-snoc (a .text .now) (a .at) (take i b) (getD b i 0))
-          ∙ ap (lay (a .text .now) (a .at)) (sym (ap (λ (n : ℕ). take n b) (add-one i) ∙ take-suc b i 0 (c .before .loop-test .taken))),
+      ap₂ (λ (t : List ℕ) (n : ℕ). set t (a .at + n) (getD b (l .i) 0)) (l .inv .1) (sym (length-take-le (l .i) b (l .inv .0)))
+          ∙ sym (lay-snoc (a .text .now) (a .at) (take (l .i) b) (getD b (l .i) 0))
+          ∙ ap (lay (a .text .now) (a .at)) (sym (ap (λ (n : ℕ). take n b) (add-one (l .i)) ∙ take-suc b (l .i) 0 (c .before .loop-test .taken))),
     )
 
-add-result : tie.Need-add-result Inv-loop μ-loop
-add-result c = omega arith
-
 same-length : tie.Need-same-length Inv-loop μ-loop
-same-length c = let a = c .before .before .args in ap length (c .before .loop .inv .1) ∙ lay-length (a .text .now) (a .at) (take (c .before .loop .i) (a .bytes .now))
+same-length c =
+    let a = c .before .before .before .args in
+    ap length (c .before .loop .inv .1) ∙ lay-length (a .text .now) (a .at) (take (c .before .loop .i) (a .bytes .now))
 
-returns : tie.Need-returns Inv-loop μ-loop
-returns c = let a = c .before .before .args in record { ends = omega arith; laid = c .before .loop .inv .1 ∙ ap (lay (a .text .now) (a .at)) (take-all (c .before .loop .i) (a .bytes .now) (c .loop-test .left)) }
+returns-2 : tie.Need-returns-2 Inv-loop μ-loop
+returns-2 c =
+    let l = c .before .loop in
+    let a = c .before .before .before .args in
+    written-whole refl (l .inv .1 ∙ ap (lay (a .text .now) (a .at)) (take-all (l .i) (a .bytes .now) (c .loop-test .left)))
 
 pub put-spec : {M : Type 1} → statement M
 put-spec =
@@ -64,6 +75,8 @@ put-spec =
     (tie.spec
     Inv-loop
     μ-loop
+    add-end
+    returns
     loop-holds
     shared-slice-read-text
     add-text
@@ -71,6 +84,5 @@ put-spec =
     add-i
     loop-less
     loop-again
-    add-result
     same-length
-    returns)
+    returns-2)

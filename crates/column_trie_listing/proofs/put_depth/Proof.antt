@@ -1,10 +1,13 @@
 -- `column_trie_listing::put_depth` meets its contract: the parts handed on are the layer's lists.
-use mathlib.Core.Path.{ap}
+use Prim.Native.Nat.{_+_}
+use mathlib.Core.Path.{_≡_, ap}
 use native.Mathlib.Omega.{arith}
 use lib.ListN.{length}
 use borrow.Author.Needs.{needs}
 use Rattle.relation.specs.Layers.{Layer}
-use Rattle.column_trie.proofs.Header.{LayerFits, layer-fits, header-told}
+use Rattle.column_trie.specs.Pool.{spot}
+use Rattle.column_trie.specs.Table.{dataLen, intervalLen, layerIn}
+use Rattle.column_trie.proofs.Header.{LayerFits, layer-fits, header-told, length-part}
 use Rattle.column_trie_listing.specs.Text.{layerText}
 use Rattle.column_trie_listing.proofs.Texts.{parts, written-as}
 use Rattle.column_trie_listing.proofs.put_depth.Statement.{statement}
@@ -17,6 +20,12 @@ use Rattle.column_trie_listing.proofs.put_layer.Reads as put-layer-read
 -- where the layer lies
 told : (s : tie.Start) → LayerFits (length (s .args .pool .now)) (s .args .t4) (s .args .d)
 told s = layer-fits (header-told (length (s .args .pool .now)) (s .args .t4) (s .pre .0)) (s .pre .1)
+
+keys-long : (s : tie.Start) → length (layerIn (s .args .pool .now) (s .args .t4) (s .args .d) .keys) ≡ dataLen (s .args .t4) (s .args .d)
+keys-long s = let t = s .args .t4 in length-part (s .args .pool .now) (spot (t .start) (t .capacity) (s .args .d)) (dataLen t (s .args .d)) (omega (arith, told s))
+
+intervals-long : (s : tie.Start) → length (layerIn (s .args .pool .now) (s .args .t4) (s .args .d) .intervals) ≡ intervalLen (s .args .t4) (s .args .d)
+intervals-long s = let t = s .args .t4 in length-part (s .args .pool .now) (spot (t .start) (t .capacity) (s .args .d) + t .capacity) (intervalLen t (s .args .d)) (omega (arith, told s))
 
 layer-at-requires : tie.Need-layer-at-requires
 layer-at-requires c κs = let f = told (c .before .before) in (omega (arith, f, c .before .before .good), f .small, f .depth)
@@ -68,16 +77,20 @@ part-put-layer-end-2 c = omega (arith, told (c .before .before .before .before .
 
 put-layer-requires : tie.Need-put-layer-requires
 put-layer-requires c κs =
-    let a = c .before .before .before .before .before .before .before .before .args in
-    omega (arith, c .before .before .before .before .before .before .before .before .pre .2, ap (λ (l : Layer). length (layerText (a .d) l)) (parts (a .pool .now) (a .t4) (a .d) (c .before .before .before .before .before .layer-at .ensures)))
+    let at = c .before .before .before .before .before in
+    let s = at .before .before .before in
+    let p = parts (s .args .pool .now) (s .args .t4) (s .args .d) (at .layer-at .ensures) in
+    (s .pre .2, omega (arith, told s, ap (λ (l : Layer). length (l .keys)) p, keys-long s), omega (arith, told s, ap (λ (l : Layer). length (l .intervals)) p, intervals-long s))
 
 same-length : tie.Need-same-length
 same-length c = search needs
 
 returns : tie.Need-returns
 returns c =
-    let a = c .before .before .before .before .before .before .before .before .before .before .before .args in
-    written-as (ap (layerText (a .d)) (parts (a .pool .now) (a .t4) (a .d) (c .before .before .before .before .before .before .before .before .layer-at .ensures))) (c .before .before .put-layer .ensures)
+    let at = c .before .before .before .before .before .before .before .before in
+    let a = at .before .before .before .args in
+    let w = c .before .before .put-layer .ensures in
+    (written-as (ap (layerText (a .d)) (parts (a .pool .now) (a .t4) (a .d) (at .layer-at .ensures))) (w .0), w .1)
 
 pub put-depth-spec : {M : Type 1} → statement M
 put-depth-spec =

@@ -1,6 +1,6 @@
 -- `column_trie_listing::put_head` meets its contract: three pieces.
 use native.Mathlib.Omega.{arith}
-use Rattle.column_trie_listing.proofs.Texts.{head-length, written-more, written-long}
+use Rattle.column_trie_listing.proofs.Texts.{written-more}
 use borrow.Author.Needs.{needs}
 use Rattle.column_trie_listing.proofs.put_head.Statement.{statement}
 use Rattle.column_trie_listing.proofs.put_head.Tie as tie
@@ -16,19 +16,23 @@ put-requires : tie.Need-put-requires
 put-requires c κs = search needs
 
 put-number-requires : tie.Need-put-number-requires
-put-number-requires c κs = let a = c .before .before .before .before .before .before .before .args in omega (arith, c .before .before .before .before .before .before .before .pre, head-length (a .d), c .before .before .before .put .ensures .ends, written-long (c .before .before .before .put .ensures))
+put-number-requires c κs = search needs
 
 slice-aggregate-put-2 : tie.Need-slice-aggregate-put-2
 slice-aggregate-put-2 c = search needs
 
 put-requires-2 : tie.Need-put-requires-2
-put-requires-2 c κs = let a = c .before .before .before .before .before .before .before .before .before .before .before .before .args in omega (arith, c .before .before .before .before .before .before .before .before .before .before .before .before .pre, head-length (a .d), c .before .before .before .before .before .before .before .before .put .ensures .ends, written-long (c .before .before .before .before .before .before .before .before .put .ensures), c .before .before .before .before .put-number .ensures .ends, written-long (c .before .before .before .before .put-number .ensures))
+put-requires-2 c κs = search needs
 
 same-length : tie.Need-same-length
 same-length c = search needs
 
 returns : tie.Need-returns
-returns c = written-more (c .before .before .before .before .before .before .before .before .before .before .before .put .ensures) (written-more (c .before .before .before .before .before .before .before .put-number .ensures) (c .before .before .put2 .ensures))
+returns c =
+    let last = c .before .before in
+    let number = last .before .before .before .before .before in
+    let word = number .before .before .before .before in
+    (written-more (word .put .ensures) (written-more (number .put-number .ensures .0) (last .put2 .ensures)), omega (arith, word .put .ensures .ends, number .put-number .ensures .1, last .put2 .ensures .ends))
 
 pub put-head-spec : {M : Type 1} → statement M
 put-head-spec =
