@@ -5,8 +5,8 @@
  * write nothing but what is said here, and may be used from several threads on words that no other thread changes.
  *
  * A lent list is a pointer and then the number of its words (or bytes), which must really be there. Where that number is 0 the pointer may be null.
- * Lists that one call may change must not overlap any other list of that call. Everything else may be any words at all: a bad header, cursor, query or
- * count gets a number of refusal, and no call stops the program, runs on or reaches outside the lists.
+ * Lists that one call may change must not overlap any other list of that call. A bool must be one, true or false, as C makes them. Everything else may be
+ * any words at all: a bad header, cursor, query or count gets a number of refusal, and no call stops the program, runs on or reaches outside the lists.
  *
  * Every number is 64 bits wide, whatever size_t is.
  *
@@ -65,7 +65,8 @@ enum {
     DUCATBRIAR_BAD_LIST = 10,
     DUCATBRIAR_FREE_VARIABLE = 11,
     DUCATBRIAR_FULL = 12,
-    DUCATBRIAR_LONG_TEXT = 14
+    DUCATBRIAR_LONG_TEXT = 14,
+    DUCATBRIAR_MIXED_KINDS = 15
 };
 
 /* What a number means, in one line. It is here and not in the archive. */
@@ -100,6 +101,8 @@ static inline const char *ducatbriar_meaning(uint64_t number)
         return "more rows exist than fit the window";
     case DUCATBRIAR_LONG_TEXT:
         return "the text is longer than its destination";
+    case DUCATBRIAR_MIXED_KINDS:
+        return "some variable binds columns of both kinds, plain and grade";
     default:
         return "a number that no call gives";
     }
@@ -138,8 +141,14 @@ typedef struct {
     uint64_t start, arity, capacity;
     uint64_t data_len[DUCATBRIAR_MAX_ARITY];
     uint64_t interval_len[DUCATBRIAR_MAX_ARITY];
-    uint64_t tuple_count; /* distinct rows */
+    uint64_t tuple_count;             /* distinct rows */
+    bool grade[DUCATBRIAR_MAX_ARITY]; /* each column's kind: whether its words are those of grades; false past the arity */
 } ducatbriar_table;
+
+/* The kinds of a table's columns, for a build: true for a column of grades' words (ducatbriar_word_of), false for a plain one. */
+typedef struct {
+    bool grade[DUCATBRIAR_MAX_ARITY];
+} ducatbriar_kinds;
 
 typedef struct {
     uint64_t number;
@@ -157,20 +166,22 @@ typedef struct {
     uint64_t len;
 } ducatbriar_listed;
 
-/* The header of a table without rows: that of a build over no rows with the same three numbers, where such a build is not refused. Elsewhere (an arity or a
- * capacity outside the limits, words that do not lie in the pool) the calls take it for a damaged table. Never refuses. */
+/* The header of a table without rows and with plain columns: that of a build over no rows with the same three numbers, where such a build is not refused.
+ * Elsewhere (an arity or a capacity outside the limits, words that do not lie in the pool) the calls take it for a damaged table. Never refuses. */
 ducatbriar_table ducatbriar_empty(uint64_t start, uint64_t arity, uint64_t capacity);
 
-/* Whether the table is undamaged: the header fits limits and pool, and the words are the layers of a set of rows. Both are only read. */
+/* Whether the table is undamaged: the header fits limits and pool, no column past the arity is a grade, and the words are the layers of a set of rows. Both
+ * are only read. */
 bool ducatbriar_undamaged(const uint64_t *pool, uint64_t len, ducatbriar_table table);
 
 /* Builds a table at `start` of the pool from rows of `arity` words, one behind the other: sorts the rows in place, duplicates kept, and stores each
- * distinct one once. Refusals 1, 2, 3, 4, 5, looked for in that sequence. Pool words that are not in a list of the table's stay. */
+ * distinct one once. The columns get these kinds; those past the arity are stored as plain. Refusals 1, 2, 3, 4, 5, looked for in that sequence. Pool words
+ * that are not in a list of the table's stay. */
 ducatbriar_built ducatbriar_build(uint64_t *rows, uint64_t rows_len, uint64_t *pool, uint64_t pool_len, uint64_t start, uint64_t arity,
-                                  uint64_t capacity);
+                                  uint64_t capacity, ducatbriar_kinds kinds);
 
-/* Inserts a tuple of `tuple_len` words and says whether it was new; the header that comes back replaces the one handed in. A tuple that is there changes
- * nothing, also in a table at capacity. Refusals 6, 4, 5, in that sequence. Pool words that are not in a list of the table's stay. */
+/* Inserts a tuple of `tuple_len` words and says whether it was new; the header that comes back replaces the one handed in, with the same kinds. A tuple that
+ * is there changes nothing, also in a table at capacity. Refusals 6, 4, 5, in that sequence. Pool words that are not in a list of the table's stay. */
 ducatbriar_inserted ducatbriar_insert(uint64_t *pool, uint64_t len, ducatbriar_table table, const uint64_t *tuple, uint64_t tuple_len);
 
 /* Writes the table's layers as text at the front of `text`, without a 0 behind it, and answers its length. Refusals 6, 14, in that sequence; a text of
@@ -222,7 +233,8 @@ typedef struct {
     ducatbriar_cursor cursor;
 } ducatbriar_up_answer;
 
-/* Each looks for 6 in the header, then 7 in the cursor. On words that are damaged elsewhere the answers follow the lists as they stand. */
+/* Each looks for 6 in the header, whose kinds it leaves out, then 7 in the cursor. On words that are damaged elsewhere the answers follow the lists as they
+ * stand. */
 
 /* The key that the cursor stands on; none at the root and at the end. */
 ducatbriar_key_answer ducatbriar_key(const uint64_t *pool, uint64_t len, ducatbriar_table table, ducatbriar_cursor cursor);
@@ -273,9 +285,10 @@ typedef struct {
 } ducatbriar_joined;
 
 /* Writes the query's rows at the front of the window: the assignments of words to variables whose part for each atom is a row of its table, each once,
- * n words by variable number, ascending as read in the order, the same under all strategies. Refusals 8, 9, 10, 11, 6, 12, in that sequence; only tables
- * that atoms name are looked at. With 12 the window holds the first rows that fit, `rows` says how many, and `seeks` are those up to finding the first row
- * that does not fit; with any other refusal both are 0. Words behind the rows stay, and the pool is only read. */
+ * n words by variable number, ascending as read in the order, the same under all strategies. Refusals 8, 9, 10, 11, 15, 6, 12, in that sequence; only
+ * tables that atoms name are looked at. 15: a grade is joined to what is none. With 12 the window holds the first rows that fit, `rows` says how many, and
+ * `seeks` are those up to finding the first row that does not fit; with any other refusal both are 0. Words behind the rows stay, and the pool is only
+ * read. */
 ducatbriar_joined ducatbriar_join(uint64_t strategy, const uint64_t *pool, uint64_t len, ducatbriar_tables tables, ducatbriar_query query,
                                   uint64_t *window, uint64_t window_len);
 

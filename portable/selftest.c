@@ -22,6 +22,8 @@
 #define ROUNDS 1000
 #endif
 
+static const ducatbriar_kinds plain = {{false}};
+
 /* ---- recorded answers */
 
 #ifndef SELFTEST_SMALL
@@ -76,7 +78,7 @@ static void seeks(void)
 static ducatbriar_table table_of(uint64_t *pool, uint64_t len, uint64_t start)
 {
     uint64_t rows[512], arity = number(), capacity = number(), n = numbers(rows, COUNT(rows), number());
-    ducatbriar_built b = ducatbriar_build(rows, n, pool, len, start, arity, capacity);
+    ducatbriar_built b = ducatbriar_build(rows, n, pool, len, start, arity, capacity, plain);
     wrong += b.number != 0;
     return b.table;
 }
@@ -240,6 +242,8 @@ static void add_table(ducatbriar_table t)
     add_words(t.data_len, 8);
     add_words(t.interval_len, 8);
     add(t.tuple_count);
+    for (size_t i = 0; i < COUNT(t.grade); i++)
+        add(t.grade[i]);
 }
 
 static void add_cursor(ducatbriar_cursor c)
@@ -250,13 +254,14 @@ static void add_cursor(ducatbriar_cursor c)
 static ducatbriar_table damaged(ducatbriar_table t, uint64_t *pool, uint64_t len)
 {
     uint64_t which = draw(8); /* of a list */
-    switch (draw(8)) {
+    switch (draw(9)) {
     case 0: t.data_len[which] = draw(40); break;
     case 1: t.interval_len[which] = draw(40); break;
     case 2: t.tuple_count = key(); break;
     case 3: t.start = key(); break;
     case 4: t.arity = draw(2) ? draw(10) : key(); break;
     case 5: t.capacity = draw(2) ? draw(40) : key(); break;
+    case 6: t.grade[which] = !t.grade[which]; break;
     default:
         for (int i = 0; i < 4; i++) {
             uint64_t at_word = t.start + draw(256), flipped = draw(2) ? 1 : draw(64);
@@ -364,6 +369,16 @@ static void query(const uint64_t *pool, uint64_t len, ducatbriar_tables ts)
     add_words(window, COUNT(window));
 }
 
+/* Plain for the most part, so that most joins pass 15. */
+static ducatbriar_kinds drawn_kinds(void)
+{
+    ducatbriar_kinds kinds = plain;
+    if (draw(6) == 0)
+        for (size_t i = 0; i < COUNT(kinds.grade); i++)
+            kinds.grade[i] = draw(2);
+    return kinds;
+}
+
 static ducatbriar_table drawn_table(uint64_t *pool, uint64_t len, uint64_t from)
 {
     uint64_t rows[128], arity = draw(20) ? 1 + draw(3) : draw(10), start = draw(40) ? from : key();
@@ -375,7 +390,7 @@ static ducatbriar_table drawn_table(uint64_t *pool, uint64_t len, uint64_t from)
         n = draw(64);
     for (uint64_t w = 0; w < n; w++)
         rows[w] = key();
-    ducatbriar_built b = ducatbriar_build(n ? rows : NULL, n, pool, len, start, arity, capacity);
+    ducatbriar_built b = ducatbriar_build(n ? rows : NULL, n, pool, len, start, arity, capacity, drawn_kinds());
     add_number(b.number), add_table(b.table), add_words(rows, n);
     ducatbriar_table t = b.number == 0 ? b.table : ducatbriar_empty(start, arity, capacity);
     for (uint64_t left = draw(8); left > 0; left--) {
@@ -480,9 +495,9 @@ static void heap(uint64_t arity)
         for (uint64_t c = 0; c < arity; c++)
             rows[arity * i + c] = c + 1 < arity ? 5 : keys[i] == open_key ? other : keys[i];
     }
-    ducatbriar_built b = ducatbriar_build(rows, arity * HEAP_ROWS, pool, COUNT(pool), 0, arity, HEAP_ROWS);
+    ducatbriar_built b = ducatbriar_build(rows, arity * HEAP_ROWS, pool, COUNT(pool), 0, arity, HEAP_ROWS, plain);
     add_number(b.number), add_table(b.table), add_words(rows, arity * HEAP_ROWS), add_words(pool, COUNT(pool));
-    b = ducatbriar_build(rows, arity * HEAP_ROWS, pool, COUNT(pool), 0, arity, HEAP_ROWS); /* once more, now that they ascend */
+    b = ducatbriar_build(rows, arity * HEAP_ROWS, pool, COUNT(pool), 0, arity, HEAP_ROWS, plain); /* once more, now that they ascend */
     add_number(b.number), add_table(b.table), add_words(rows, arity * HEAP_ROWS), add_words(pool, COUNT(pool));
 }
 
@@ -494,8 +509,8 @@ static void limits(void)
     static uint64_t rows[2 * 65536], pool[4 * 65536], window[64];
     for (uint64_t i = 0; i < COUNT(rows); i++)
         rows[i] = i % 2 ? draw(UINT64_C(1) << 40) : draw(300);
-    ducatbriar_built over = ducatbriar_build(rows, COUNT(rows), pool, COUNT(pool), 0, 2, 65537);
-    ducatbriar_built built = ducatbriar_build(rows, COUNT(rows), pool, COUNT(pool), 0, 2, 65536);
+    ducatbriar_built over = ducatbriar_build(rows, COUNT(rows), pool, COUNT(pool), 0, 2, 65537, plain);
+    ducatbriar_built built = ducatbriar_build(rows, COUNT(rows), pool, COUNT(pool), 0, 2, 65536, plain);
     ducatbriar_table t = built.table;
     add_number(over.number), add_number(built.number), add_table(t);
     add(ducatbriar_undamaged(pool, COUNT(pool), t));
@@ -537,7 +552,7 @@ int main(int argc, char **argv)
     limits();
 #endif
     printf("refusals:");
-    for (size_t i = 1; i < 15; i++)
+    for (size_t i = 1; i < COUNT(refusals); i++)
         printf(" %" PRIu64, refusals[i]);
     printf("\n%ld rounds, %" PRIu64 " calls, checksum %016" PRIx64 "\n", rounds, calls, sum);
     return 0;

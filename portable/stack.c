@@ -18,6 +18,7 @@ static uint64_t pool[4096], rows[2 * 128], window[4096];
 static uint8_t text[8192];
 static ducatbriar_tables ts;
 static ducatbriar_query q;
+static const ducatbriar_kinds plain = {{false}};
 
 static void join(void)
 {
@@ -28,7 +29,7 @@ static void build(void)
 {
     for (size_t i = 0; i < 256; i++)
         rows[i] = (255 - i) * (i % 7);
-    ducatbriar_build(rows, 256, pool, 4096, 2048, 2, 128);
+    ducatbriar_build(rows, 256, pool, 4096, 2048, 2, 128, plain);
 }
 
 static void insert(void)
@@ -85,7 +86,7 @@ int main(void)
     uint64_t pairs[8] = {0, 0, 0, 1, 1, 0, 1, 1};
     ts.count = q.n = q.atom_count = 8;
     for (uint64_t i = 0; i < 8; i++) {
-        ts.tables[i] = ducatbriar_build(pairs, 8, pool, 4096, i * 64, 2, 16).table;
+        ts.tables[i] = ducatbriar_build(pairs, 8, pool, 4096, i * 64, 2, 16, plain).table;
         q.order[i] = i;
         uint64_t v = i < 7 ? i : 0;
         q.atoms[i] = (ducatbriar_atom){i, 2, {v, i < 7 ? v + 1 : 7}};

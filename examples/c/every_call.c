@@ -31,9 +31,12 @@ static void done(const char *what, uint64_t number)
     }
 }
 
-static ducatbriar_table built(const char *what, uint64_t *rows, uint64_t len, uint64_t start)
+static const ducatbriar_kinds plain = {{false}};
+static const ducatbriar_kinds grade_first = {{true}};
+
+static ducatbriar_table built(const char *what, uint64_t *rows, uint64_t len, uint64_t start, ducatbriar_kinds kinds)
 {
-    ducatbriar_built answer = ducatbriar_build(rows, len, pool, COUNT(pool), start, 2, CAPACITY);
+    ducatbriar_built answer = ducatbriar_build(rows, len, pool, COUNT(pool), start, 2, CAPACITY, kinds);
     done(what, answer.number);
     return answer.table;
 }
@@ -41,7 +44,7 @@ static ducatbriar_table built(const char *what, uint64_t *rows, uint64_t len, ui
 static ducatbriar_table road(void)
 {
     uint64_t rows[] = {ICY_COBBLES, 12, WET_COBBLES, 11, WET_COBBLES, 10};
-    return built("the road", rows, COUNT(rows), ROAD);
+    return built("the road", rows, COUNT(rows), ROAD, plain);
 }
 
 /* In thousandths: stretch 10 falls, 11 is level, 12 rises. Words ascend as grades do. */
@@ -53,7 +56,7 @@ static ducatbriar_table grades(void)
         rows[2 * i] = ducatbriar_word_of(of[i]);
         rows[2 * i + 1] = 10 + i;
     }
-    return built("the grades", rows, COUNT(rows), GRADES);
+    return built("the grades", rows, COUNT(rows), GRADES, grade_first);
 }
 
 /* From no rows, row by row. */
@@ -137,6 +140,20 @@ static void join(ducatbriar_tables tables)
     printf("seeks: %" PRIu64 "\n", answer.seeks);
 }
 
+/* Variable 0 would be a surface of the road and a grade at once: a word that is both says nothing. */
+static void join_kinds(ducatbriar_tables tables)
+{
+    const ducatbriar_query query = {
+        .n = 2,
+        .order = {0, 1},
+        .atom_count = 2,
+        .atoms = {{.table = 0, .len = 2, .variables = {0, 1}}, {.table = 1, .len = 2, .variables = {0, 1}}},
+    };
+    uint64_t window[2];
+    ducatbriar_joined answer = ducatbriar_join(DUCATBRIAR_GALLOPING, pool, COUNT(pool), tables, query, window, COUNT(window));
+    printf("surfaces joined to grades: %s\n", ducatbriar_meaning(answer.number));
+}
+
 int main(void)
 {
     const uint64_t run[] = {2, 4, 6, 8, 10, 12, 14, 16};
@@ -147,6 +164,7 @@ int main(void)
     list(tables.tables[0]);
     walk(tables.tables[0]);
     join(tables);
+    join_kinds(tables);
 
     pool[ROAD] = WET_COBBLES + ICY_COBBLES;
     printf("with a word of the road changed: %s\n", ducatbriar_undamaged(pool, COUNT(pool), tables.tables[0]) ? "undamaged" : "damaged");

@@ -17,7 +17,8 @@ static ducatbriar_built longest(uint64_t arity, uint64_t capacity)
     for (uint64_t i = 0; i < arity * capacity; i++) {
         rows[i] = UINT64_MAX - capacity + i / arity;
     }
-    return ducatbriar_build(rows, arity * capacity, pool, DUCATBRIAR_WORDS(arity, capacity), 0, arity, capacity);
+    const ducatbriar_kinds plain = {{false}};
+    return ducatbriar_build(rows, arity * capacity, pool, DUCATBRIAR_WORDS(arity, capacity), 0, arity, capacity, plain);
 }
 
 /* The text's length is what the macro says, and one byte less is refused. */

@@ -1,7 +1,7 @@
 -- The numbers of a build are given exactly when document 01 says, shown both ways: from facts about the arguments to the number, and back.
 use Prim.Native.Nat.{ℕ, zero, suc, _+_, _*_, _/_, _%_, _≤_, _<_}
 use mathlib.Core.Path.{_≡_, sym, ap, subst}
-use mathlib.Core.Bool.{true, false, _&&_}
+use mathlib.Core.Bool.{Bool, true, false, _&&_}
 use mathlib.Core.Logic.{_⊎_, inl, inr}
 use mathlib.Core.List.{List}
 use native.Mathlib.Omega.{arith}
@@ -148,6 +148,6 @@ module _ (given lent : List ℕ) (start arity capacity : ℕ) where
       }
 
 pub each-number-of-a-build-is-given-exactly-when :
-    (given lent : List ℕ) (start arity capacity : ℕ) {given′ lent′ : List ℕ} {r : Built} → Builds given lent start arity capacity given′ lent′ r → Numbers given lent start arity capacity (r .number)
-each-number-of-a-build-is-given-exactly-when given lent start arity capacity b =
+    (given lent : List ℕ) (start arity capacity : ℕ) (kinds : List Bool) {given′ lent′ : List ℕ} {r : Built} → Builds given lent start arity capacity kinds given′ lent′ r → Numbers given lent start arity capacity (r .number)
+each-number-of-a-build-is-given-exactly-when given lent start arity capacity kinds b =
     subst (Numbers given lent start arity capacity) (sym (ap (λ (x : Built). x .number) (b .answer))) (numbers given lent start arity capacity)

@@ -1,6 +1,6 @@
 -- "Every undamaged table is what a build of its own rows leaves", of the contract of build itself.
 use Prim.Native.Nat.{ℕ, _+_, _*_, _/_, _%_, _≤_}
-use mathlib.Core.Path.{_≡_, sym, ap, _∙_, subst}
+use mathlib.Core.Path.{_≡_, sym, ap, ap₂, _∙_, subst}
 use mathlib.Core.List.{List}
 use native.Mathlib.Nat.{mul-div-cancel, mul-mod-left}
 use lib.ListN.{length}
@@ -22,6 +22,7 @@ use Rattle.column_trie_build.specs.declared.Built.{Built}
 use Rattle.column_trie_build.proofs.Numbers.{number-0}
 use Rattle.from_sorted.proofs.Given.{length-flat, given-flat}
 use Rattle.column_trie_build.proofs.Outcomes.{if-built}
+use Rattle.column_trie_build.proofs.Taken.{kept-own}
 use Rattle.build_laws.proofs.Leaves.{built-pool, built-table}
 
 -- accepted; table, pool and rows come back as they were
@@ -32,14 +33,14 @@ pub record LeavesAsItWas (given pool : List ℕ) (t : ColumnTrie) (given′ pool
   pub rows : given′ ≡ given
 
 pub a-build-of-its-own-rows-leaves-the-table :
-    {pool : List ℕ} {t : ColumnTrie} {given′ pool′ : List ℕ} {r : Built} → Whole t → Undamaged pool t → Builds (flat (rowsIn pool t)) pool (t .start) (t .arity) (t .capacity) given′ pool′ r →
+    {pool : List ℕ} {t : ColumnTrie} {given′ pool′ : List ℕ} {r : Built} → Whole t → length (t .grade) ≡ maxArity → Undamaged pool t → Builds (flat (rowsIn pool t)) pool (t .start) (t .arity) (t .capacity) (t .grade) given′ pool′ r →
     LeavesAsItWas (flat (rowsIn pool t)) pool t given′ pool′ r
-a-build-of-its-own-rows-leaves-the-table {pool} {t} {given′} {pool′} {r} o u b =
+a-build-of-its-own-rows-leaves-the-table {pool} {t} {given′} {pool′} {r} o g u b =
     record {
       accepted = zero;
-      table = built-table (flat rows) pool (t .start) (t .arity) (t .capacity) b zero ∙ ap (tableOf (t .start) (t .arity) (t .capacity)) stored ∙ sym (h .table);
+      table = built-table (flat rows) pool (t .start) (t .arity) (t .capacity) (t .grade) b zero ∙ ap₂ (tableOf (t .start) (t .arity) (t .capacity)) (kept-own g (u .arity .1) (u .plain)) stored ∙ sym (h .table);
       words =
-          built-pool (flat rows) pool (t .start) (t .arity) (t .capacity) b zero
+          built-pool (flat rows) pool (t .start) (t .arity) (t .capacity) (t .grade) b zero
           ∙ ap (λ (qs : List Row). store (t .start) (t .capacity) (layersOf (t .arity) qs) pool) stored
           ∙ h .words;
       rows =

@@ -38,8 +38,8 @@ length-sort [] = refl
 length-sort (r ∷ rs) = length-place r (sort rs) ∙ ap suc (length-sort rs)
 
 pub an-accepted-build-sorts-the-rows-in-place :
-    (given lent : List ℕ) (start arity capacity : ℕ) {given′ lent′ : List ℕ} {r : Built} → Builds given lent start arity capacity given′ lent′ r → r .number ≡ 0 → SortedInPlace arity given given′
-an-accepted-build-sorts-the-rows-in-place given lent start arity capacity {given′} b z =
+    (given lent : List ℕ) (start arity capacity : ℕ) (kinds : List Bool) {given′ lent′ : List ℕ} {r : Built} → Builds given lent start arity capacity kinds given′ lent′ r → r .number ≡ 0 → SortedInPlace arity given given′
+an-accepted-build-sorts-the-rows-in-place given lent start arity capacity kinds {given′} b z =
     subst (SortedInPlace arity given) (sym left)
     (record {
       size =
@@ -50,13 +50,13 @@ an-accepted-build-sorts-the-rows-in-place given lent start arity capacity {given
     })
   where
     a : Accepted (length given) (length lent) start arity capacity
-    a = built-accepted given lent start arity capacity b z
+    a = built-accepted given lent start arity capacity kinds b z
 
     rows : List Row
     rows = rowsGiven arity given
 
     left : given′ ≡ flat (sort rows)
-    left = b .rows ∙ if-built (buildNumber (length given) (length lent) start arity capacity) (flat (sort rows)) given (zero-number given lent start arity capacity b z)
+    left = b .rows ∙ if-built (buildNumber (length given) (length lent) start arity capacity) (flat (sort rows)) given (zero-number given lent start arity capacity kinds b z)
 
     back : rowsGiven arity (flat (sort rows)) ≡ sort rows
     back = given-sorted arity given (a .positive)

@@ -2,13 +2,13 @@
 -- ways out of the check, each the test's value.
 use Prim.Native.Nat.{ℕ, _+_, _-_, _≤_, _<_}
 use mathlib.Core.Path.{_≡_, refl, sym, ap, _∙_}
-use mathlib.Core.Bool.{Bool, true, false, _&&_, _||_}
+use mathlib.Core.Bool.{Bool, true, false, not, _&&_, _||_}
 use mathlib.Core.List.{List}
 use mathlib.Core.Logic.{_⊎_, inl, inr}
 use native.Mathlib.Omega.{arith}
 use lib.ListN.{length}
 use lib.Dec.{ltb, eqb}
-use borrow.Author.Tests.{ltb-true, ltb-false, eqb-true, eq-eqb}
+use borrow.Author.Tests.{ltb-true, ltb-false, eqb-true, eq-eqb, not-true}
 use Rattle.relation.specs.Tests.{every}
 use Rattle.relation.specs.Layers.{Layer, layer}
 use Rattle.relation.specs.Undamaged.{chain, rooms}
@@ -17,9 +17,9 @@ use Rattle.relation.proofs.Undamaged as layer-laws
 use Rattle.relation.proofs.Tests.{T-true, true-T, and-left, and-right, and-true, every-at, every-all, gate-shut, gate-open}
 use Rattle.column_trie.specs.Limits.{maxArity}
 use Rattle.column_trie.specs.Pool.{spot}
-use Rattle.column_trie.specs.Table.{dataLen, intervalLen, layersIn, pastAt, headerSound, Undamaged, undamaged}
+use Rattle.column_trie.specs.Table.{dataLen, intervalLen, gradeAt, layersIn, pastAt, headerSound, Undamaged, undamaged}
 use Rattle.column_trie.specs.declared.ColumnTrie.{ColumnTrie}
-use Rattle.column_trie.proofs.Header.{InPool, header-told, told-header, layer-fits, length-part, past-told}
+use Rattle.column_trie.proofs.Header.{InPool, header-told, told-header, layer-fits, length-part, Bare, past-told}
 use Rattle.column_trie.proofs.Layers.{Whole, layers-length, layers-at}
 
 module _ (pool : List ℕ) {t : ColumnTrie} (o : Whole t) (p : InPool (length pool) t) where
@@ -55,21 +55,28 @@ undamaged-told pool t e =
     let inner = layers.undamaged (t .arity) (t .capacity) (layersIn pool t) (t .«tuple_count») in
     let p = header-told (length pool) t (and-left (headerSound (length pool) t) (past && inner) e) in
     let f = and-right (headerSound (length pool) t) (past && inner) e in
+    let l : (d : ℕ) → t .arity ≤ d → d < maxArity → Bare t d = λ d h b. left d h (every-at (pastAt t) maxArity (and-left past inner f) d b) in
     record {
       arity = (p .positive, p .few);
       capacity = (p .roomy, p .small);
       fits = p .fits;
       within = p .within;
-      past = λ d h b. zeros d h (every-at (pastAt t) maxArity (and-left past inner f) d b);
+      past = λ d h b. (l d h b .0, l d h b .1);
+      plain = λ d h b. l d h b .2;
       layers = layer-laws.undamaged→ (t .arity) (t .capacity) (layersIn pool t) (t .«tuple_count») (true-T inner (and-right past inner f));
     }
   where
-    zeros : (d : ℕ) → t .arity ≤ d → pastAt t d ≡ true → (dataLen t d ≡ 0) × (intervalLen t d ≡ 0)
-    zeros d h q = go (ltb d (t .arity)) refl q
+    left : (d : ℕ) → t .arity ≤ d → pastAt t d ≡ true → Bare t d
+    left d h q = go (ltb d (t .arity)) refl q
       where
-        go : (b : Bool) → ltb d (t .arity) ≡ b → (b || (eqb (dataLen t d) 0 && eqb (intervalLen t d) 0)) ≡ true → (dataLen t d ≡ 0) × (intervalLen t d ≡ 0)
+        go : (b : Bool) → ltb d (t .arity) ≡ b → (b || (eqb (dataLen t d) 0 && (eqb (intervalLen t d) 0 && not (gradeAt t d)))) ≡ true → Bare t d
         go true l q = absurd (omega (arith, ltb-true d (t .arity) l))
-        go false l q = (eqb-true (dataLen t d) 0 (and-left (eqb (dataLen t d) 0) (eqb (intervalLen t d) 0) q), eqb-true (intervalLen t d) 0 (and-right (eqb (dataLen t d) 0) (eqb (intervalLen t d) 0) q))
+        go false l q =
+            let x = eqb (dataLen t d) 0 in
+            let y = eqb (intervalLen t d) 0 in
+            let z = not (gradeAt t d) in
+            let f = and-right x (y && z) q in
+            (eqb-true (dataLen t d) 0 (and-left x (y && z) q), eqb-true (intervalLen t d) 0 (and-left y z f), not-true (gradeAt t d) (and-right y z f))
 
 pub told-undamaged : (pool : List ℕ) (t : ColumnTrie) → Undamaged pool t → undamaged pool t ≡ true
 unfolding undamaged
@@ -80,9 +87,9 @@ told-undamaged pool t u =
     (told-header (length pool) t (record { positive = u .arity .0; few = u .arity .1; roomy = u .capacity .0; small = u .capacity .1; fits = u .fits; within = u .within }))
     (and-true past inner (every-all (pastAt t) maxArity (λ d h. past-told t d (side d h (ltb d (t .arity)) refl))) (T-true inner (layer-laws.→undamaged (u .layers))))
   where
-    side : (d : ℕ) → d < maxArity → (b : Bool) → ltb d (t .arity) ≡ b → (d < t .arity) ⊎ ((dataLen t d ≡ 0) × (intervalLen t d ≡ 0))
+    side : (d : ℕ) → d < maxArity → (b : Bool) → ltb d (t .arity) ≡ b → (d < t .arity) ⊎ Bare t d
     side d h true e = inl (ltb-true d (t .arity) e)
-    side d h false e = inr (u .past d (ltb-false d (t .arity) e) h)
+    side d h false e = let k = ltb-false d (t .arity) e in inr (u .past d k h .0, u .past d k h .1, u .plain d k h)
 
 pub undamaged-header : (pool : List ℕ) (t : ColumnTrie) → undamaged pool t ≡ true → headerSound (length pool) t ≡ true
 unfolding undamaged

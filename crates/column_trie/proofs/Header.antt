@@ -1,7 +1,7 @@
 -- What the header's tests tell, and the one product that a table's size is.
 use Prim.Native.Nat.{ℕ, suc, _+_, _*_, _≤_, _<_}
 use mathlib.Core.Path.{_≡_, refl, sym, ap, _∙_}
-use mathlib.Core.Bool.{Bool, true, false, _&&_, _||_}
+use mathlib.Core.Bool.{Bool, true, false, not, _&&_, _||_}
 use mathlib.Core.Logic.{_⊎_, inl, inr}
 use mathlib.Core.List.{List}
 use native.Mathlib.Omega.{arith}
@@ -14,7 +14,7 @@ use Rattle.relation.specs.Tests.{every}
 use Rattle.relation.proofs.Tests.{and-left, and-right, and-true, and-false-left, and-false-right, every-at, every-all, or-right}
 use Rattle.column_trie.specs.Limits.{maxArity, maxCapacity}
 use Rattle.column_trie.specs.Pool.{spot}
-use Rattle.column_trie.specs.Table.{arityOk, capacityOk, liesIn, withinAt, pastAt, headerSound, dataLen, intervalLen}
+use Rattle.column_trie.specs.Table.{arityOk, capacityOk, liesIn, withinAt, pastAt, headerSound, dataLen, intervalLen, gradeAt}
 use Rattle.column_trie.specs.declared.ColumnTrie.{ColumnTrie}
 use Rattle.column_trie.proofs.Pool.{spot-is}
 
@@ -100,14 +100,26 @@ pub within-not : (t : ColumnTrie) (d : ℕ) → (t .capacity < dataLen t d) ⊎ 
 within-not t d (inl h) = and-false-left (leb (dataLen t d) (t .capacity)) (leb (intervalLen t d) (t .capacity)) (lt-leb (dataLen t d) (t .capacity) h)
 within-not t d (inr h) = and-false-right (leb (dataLen t d) (t .capacity)) (leb (intervalLen t d) (t .capacity)) (lt-leb (intervalLen t d) (t .capacity) h)
 
--- a depth past the arity, and one where a length is left
-pub past-told : (t : ColumnTrie) (d : ℕ) → (d < t .arity) ⊎ ((dataLen t d ≡ 0) × (intervalLen t d ≡ 0)) → pastAt t d ≡ true
-past-told t d (inl h) = ap (λ (b : Bool). b || (eqb (dataLen t d) 0 && eqb (intervalLen t d) 0)) (lt-ltb d (t .arity) h)
-past-told t d (inr h) = or-right (ltb d (t .arity)) (eqb (dataLen t d) 0 && eqb (intervalLen t d) 0) (and-true (eqb (dataLen t d) 0) (eqb (intervalLen t d) 0) (eq-eqb (dataLen t d) 0 (h .0)) (eq-eqb (intervalLen t d) 0 (h .1)))
+-- nothing of the header is left at a depth
+abbrev pub Bare : ColumnTrie → ℕ → Type 0
+Bare t d = (dataLen t d ≡ 0) × (intervalLen t d ≡ 0) × (gradeAt t d ≡ false)
 
-pub past-not : (t : ColumnTrie) (d : ℕ) → t .arity ≤ d → (dataLen t d ≡ 0 → ⊥) ⊎ (intervalLen t d ≡ 0 → ⊥) → pastAt t d ≡ false
-past-not t d k (inl h) = simp (le-ltb d (t .arity) k, ne-eqb (dataLen t d) 0 h)
-past-not t d k (inr h) = simp (le-ltb d (t .arity) k) (and-false-right (eqb (dataLen t d) 0) (eqb (intervalLen t d) 0) (ne-eqb (intervalLen t d) 0 h))
+-- a depth past the arity, and one where a length or a grade is left
+pub past-told : (t : ColumnTrie) (d : ℕ) → (d < t .arity) ⊎ Bare t d → pastAt t d ≡ true
+past-told t d (inl h) = ap (λ (b : Bool). b || (eqb (dataLen t d) 0 && (eqb (intervalLen t d) 0 && not (gradeAt t d)))) (lt-ltb d (t .arity) h)
+past-told t d (inr h) =
+    or-right (ltb d (t .arity)) (eqb (dataLen t d) 0 && (eqb (intervalLen t d) 0 && not (gradeAt t d)))
+    (and-true (eqb (dataLen t d) 0) (eqb (intervalLen t d) 0 && not (gradeAt t d)) (eq-eqb (dataLen t d) 0 (h .0))
+    (and-true (eqb (intervalLen t d) 0) (not (gradeAt t d)) (eq-eqb (intervalLen t d) 0 (h .1)) (ap not (h .2))))
+
+pub past-not : (t : ColumnTrie) (d : ℕ) → t .arity ≤ d → (dataLen t d ≡ 0 → ⊥) ⊎ ((intervalLen t d ≡ 0 → ⊥) ⊎ (gradeAt t d ≡ true)) → pastAt t d ≡ false
+past-not t d k w = ap (λ (b : Bool). b || (eqb (dataLen t d) 0 && (eqb (intervalLen t d) 0 && not (gradeAt t d)))) (le-ltb d (t .arity) k) ∙ go w
+  where
+    go : (dataLen t d ≡ 0 → ⊥) ⊎ ((intervalLen t d ≡ 0 → ⊥) ⊎ (gradeAt t d ≡ true)) → (eqb (dataLen t d) 0 && (eqb (intervalLen t d) 0 && not (gradeAt t d))) ≡ false
+    go (inl h) = and-false-left (eqb (dataLen t d) 0) (eqb (intervalLen t d) 0 && not (gradeAt t d)) (ne-eqb (dataLen t d) 0 h)
+    go (inr (inl h)) =
+        and-false-right (eqb (dataLen t d) 0) (eqb (intervalLen t d) 0 && not (gradeAt t d)) (and-false-left (eqb (intervalLen t d) 0) (not (gradeAt t d)) (ne-eqb (intervalLen t d) 0 h))
+    go (inr (inr h)) = and-false-right (eqb (dataLen t d) 0) (eqb (intervalLen t d) 0 && not (gradeAt t d)) (and-false-right (eqb (intervalLen t d) 0) (not (gradeAt t d)) (ap not h))
 
 -- where layer d of a table with a sound header lies, by numbers
 pub record LayerFits (len : ℕ) (t : ColumnTrie) (d : ℕ) : Type 0 where

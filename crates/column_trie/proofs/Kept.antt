@@ -1,6 +1,7 @@
 -- Storing a table's layers keeps every other word of the pool, and so does changing nothing.
 use Prim.Native.Nat.{ℕ, zero, suc, _+_, _*_, _≤_, _<_}
 use mathlib.Core.Path.{_≡_, refl, ap, _∙_}
+use mathlib.Core.Bool.{Bool}
 use mathlib.Core.Logic.{_⊎_, inl, inr, ⊎-elim}
 use mathlib.Core.List.{List, [], _∷_}
 use native.Mathlib.Omega.{arith}
@@ -52,15 +53,15 @@ module _ (c : ℕ) (j : ℕ) where
       )
 
 -- layers with room, stored, under the header that describes them
-pub stored-kept : (start a c : ℕ) (ls : List Layer) (n : ℕ) (pool : List ℕ) → length ls ≡ a → a ≤ maxArity → Room c ls → Kept pool (store start c ls pool) (header start a c ls n)
-stored-kept start a c ls n pool long few room =
+pub stored-kept : (start a c : ℕ) (g : List Bool) (ls : List Layer) (n : ℕ) (pool : List ℕ) → length ls ≡ a → a ≤ maxArity → Room c ls → Kept pool (store start c ls pool) (header start a c g ls n)
+stored-kept start a c g ls n pool long few room =
     record {
       size = store-length start c ls pool;
       outside = λ k h.
           store-out start c ls pool k room
           (⊎-elim (λ (x : k < start). inl x) (λ (x : start + 2 * a * c ≤ k). inr (omega (arith, ap (spot start c) long, spot-end start a c))) h);
-      keys = λ d j h x y. store-behind c j start ls pool d (omega arith) room y .0 (omega (arith, header-keys start a c ls n long few d h));
-      intervals = λ d j h x y. store-behind c j start ls pool d (omega arith) room y .1 (omega (arith, header-intervals start a c ls n long few d h));
+      keys = λ d j h x y. store-behind c j start ls pool d (omega arith) room y .0 (omega (arith, header-keys start a c g ls n long few d h));
+      intervals = λ d j h x y. store-behind c j start ls pool d (omega arith) room y .1 (omega (arith, header-intervals start a c g ls n long few d h));
     }
 
 -- a pool that stays as it is, whatever the table

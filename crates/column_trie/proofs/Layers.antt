@@ -32,7 +32,7 @@ reads-at at c (k ∷ ks) [] pool d e h = absurd (omega arith)
 reads-at at c (k ∷ ks) (n ∷ ns) pool zero e h = refl
 reads-at at c (k ∷ ks) (n ∷ ns) pool (suc d) e h = reads-at (at + c + c) c ks ns pool d (omega arith) (omega arith)
 
--- a header's arrays have one entry for each depth: what the type says of them
+-- a header's arrays of lengths have one entry for each depth: what the type says of them
 pub record Whole (t : ColumnTrie) : Type 0 where
   pub data-long : length (t .«data_len») ≡ maxArity
   pub interval-long : length (t .«interval_len») ≡ maxArity

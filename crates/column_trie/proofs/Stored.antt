@@ -2,6 +2,7 @@
 -- is of this kind: its own layers stored over its own pool.
 use Prim.Native.Nat.{ℕ, _+_, _*_, _≤_, _<_}
 use mathlib.Core.Path.{_≡_, refl, sym, ap, ap₂, _∙_, subst}
+use mathlib.Core.Bool.{Bool, false}
 use mathlib.Core.List.{List, map}
 use native.Mathlib.Omega.{arith}
 use native.Mathlib.Decide.{decLt}
@@ -26,21 +27,21 @@ spot-end start a c =
     let e : c + c ≡ 2 * c = omega arith in
     spot-is start c a ∙ ap (λ (n : ℕ). start + n) (ap (λ (n : ℕ). a * n) e ∙ sym (mul-assoc a 2 c) ∙ ap (λ (n : ℕ). n * c) (mul-comm a 2))
 
-module _ (start a c : ℕ) (ls : List Layer) (n : ℕ) (long : length ls ≡ a) (few : a ≤ maxArity) where
-  pub header-whole : Whole (header start a c ls n)
+module _ (start a c : ℕ) (g : List Bool) (ls : List Layer) (n : ℕ) (long : length ls ≡ a) (few : a ≤ maxArity) where
+  pub header-whole : Whole (header start a c g ls n)
   header-whole =
       record {
         data-long = padded-long (map (λ l. length (l .keys)) ls) (omega (arith, length-map ls (λ l. length (l .keys))));
         interval-long = padded-long (map (λ l. length (l .intervals)) ls) (omega (arith, length-map ls (λ l. length (l .intervals))));
       }
 
-  pub header-keys : (d : ℕ) → d < a → dataLen (header start a c ls n) d ≡ length (layer ls d .keys)
+  pub header-keys : (d : ℕ) → d < a → dataLen (header start a c g ls n) d ≡ length (layer ls d .keys)
   header-keys d h = keys-at ls d (omega arith)
 
-  pub header-intervals : (d : ℕ) → d < a → intervalLen (header start a c ls n) d ≡ length (layer ls d .intervals)
+  pub header-intervals : (d : ℕ) → d < a → intervalLen (header start a c g ls n) d ≡ length (layer ls d .intervals)
   header-intervals d h = intervals-at ls d (omega arith)
 
-  pub header-past : (d : ℕ) → a ≤ d → (dataLen (header start a c ls n) d ≡ 0) × (intervalLen (header start a c ls n) d ≡ 0)
+  pub header-past : (d : ℕ) → a ≤ d → (dataLen (header start a c g ls n) d ≡ 0) × (intervalLen (header start a c g ls n) d ≡ 0)
   header-past d h = (
     padded-past (map (λ l. length (l .keys)) ls) d (omega (arith, length-map ls (λ l. length (l .keys)))),
     padded-past (map (λ l. length (l .intervals)) ls) d (omega (arith, length-map ls (λ l. length (l .intervals)))),
@@ -51,40 +52,46 @@ module _ (start a c : ℕ) (ls : List Layer) (n : ℕ) (long : length ls ≡ a) 
     end : spot start c (length ls) ≤ length pool
     end = subst (λ (m : ℕ). spot start c m ≤ length pool) (sym long) (let e = spot-end start a c in omega arith)
 
-    pub stored-layers : layersIn (store start c ls pool) (header start a c ls n) ≡ ls
+    pub stored-layers : layersIn (store start c ls pool) (header start a c g ls n) ≡ ls
     stored-layers =
-        ext-getD noLayer (layersIn (store start c ls pool) (header start a c ls n)) ls (count ∙ sym long)
-        (λ d h. let b : d < a = omega (arith, count) in layers-at (store start c ls pool) (header start a c ls n) header-whole few d b ∙ at d b)
+        ext-getD noLayer (layersIn (store start c ls pool) (header start a c g ls n)) ls (count ∙ sym long)
+        (λ d h. let b : d < a = omega (arith, count) in layers-at (store start c ls pool) (header start a c g ls n) header-whole few d b ∙ at d b)
       where
-        count : length (layersIn (store start c ls pool) (header start a c ls n)) ≡ a
-        count = layers-length (store start c ls pool) (header start a c ls n) header-whole few
+        count : length (layersIn (store start c ls pool) (header start a c g ls n)) ≡ a
+        count = layers-length (store start c ls pool) (header start a c g ls n) header-whole few
 
-        at : (d : ℕ) → d < a → layerIn (store start c ls pool) (header start a c ls n) d ≡ layer ls d
+        at : (d : ℕ) → d < a → layerIn (store start c ls pool) (header start a c g ls n) d ≡ layer ls d
         at d b =
             ap₂ {C = Layer} (λ ks is. record { keys = ks; intervals = is })
             (ap (λ (m : ℕ). take m (drop (spot start c d) (store start c ls pool))) (header-keys d b) ∙ store-keys start c ls pool d (omega arith) room end)
             (ap (λ (m : ℕ). take m (drop (spot start c d + c) (store start c ls pool))) (header-intervals d b) ∙ store-intervals start c ls pool d (omega arith) room end)
 
+-- no column from a on is a grade
+abbrev pub Plain : ℕ → List Bool → Type 0
+Plain a g = (d : ℕ) → a ≤ d → d < maxArity → getD g d false ≡ false
+
 -- layers that are undamaged, stored within the limits, are an undamaged table
 pub stored-undamaged :
-    (start a c : ℕ) (ls : List Layer) (n : ℕ) (pool : List ℕ) → 0 < a → a ≤ maxArity → 0 < c → c ≤ maxCapacity → start + 2 * a * c ≤ length pool → layers.Undamaged a c ls n →
-    Undamaged (store start c ls pool) (header start a c ls n)
-stored-undamaged start a c ls n pool a₀ a₁ c₀ c₁ fits u =
+    (start a c : ℕ) (g : List Bool) (ls : List Layer) (n : ℕ) (pool : List ℕ) → 0 < a → a ≤ maxArity → 0 < c → c ≤ maxCapacity → start + 2 * a * c ≤ length pool → Plain a g →
+    layers.Undamaged a c ls n →
+    Undamaged (store start c ls pool) (header start a c g ls n)
+stored-undamaged start a c g ls n pool a₀ a₁ c₀ c₁ fits p u =
     record {
       arity = (a₀, a₁);
       capacity = (c₀, c₁);
       fits = omega (arith, store-length start c ls pool);
       within = λ d h. go d (decLt d a);
-      past = λ d h b. header-past start a c ls n (u .arity) a₁ d h;
-      layers = subst (λ (l : List Layer). layers.Undamaged a c l n) (sym (stored-layers start a c ls n (u .arity) a₁ pool room fits)) u;
+      past = λ d h b. header-past start a c g ls n (u .arity) a₁ d h;
+      plain = p;
+      layers = subst (λ (l : List Layer). layers.Undamaged a c l n) (sym (stored-layers start a c g ls n (u .arity) a₁ pool room fits)) u;
     }
   where
     room : Room c ls
     room d h = u .room d (omega (arith, u .arity))
 
-    go : (d : ℕ) → Dec (d < a) → (dataLen (header start a c ls n) d ≤ c) × (intervalLen (header start a c ls n) d ≤ c)
-    go d (yes h) = (omega (arith, header-keys start a c ls n (u .arity) a₁ d h, u .room d h .0), omega (arith, header-intervals start a c ls n (u .arity) a₁ d h, u .room d h .1))
-    go d (no h) = let z = header-past start a c ls n (u .arity) a₁ d (omega arith) in (omega (arith, z .0), omega (arith, z .1))
+    go : (d : ℕ) → Dec (d < a) → (dataLen (header start a c g ls n) d ≤ c) × (intervalLen (header start a c g ls n) d ≤ c)
+    go d (yes h) = (omega (arith, header-keys start a c g ls n (u .arity) a₁ d h, u .room d h .0), omega (arith, header-intervals start a c g ls n (u .arity) a₁ d h, u .room d h .1))
+    go d (no h) = let z = header-past start a c g ls n (u .arity) a₁ d (omega arith) in (omega (arith, z .0), omega (arith, z .1))
 
 -- ---- an undamaged table is its own layers, stored over its own pool, with the header that describes them
 
@@ -107,7 +114,7 @@ module _ {pool : List ℕ} {t : ColumnTrie} (o : Whole t) (u : Undamaged pool t)
       i : length (take (t .arity) (t .«interval_len»)) ≡ t .arity
       i = length-take-le (t .arity) (t .«interval_len») (omega (arith, o, u .arity))
 
-  pub own-header : t ≡ header (t .start) (t .arity) (t .capacity) (layersIn pool t) (t .«tuple_count»)
+  pub own-header : t ≡ header (t .start) (t .arity) (t .capacity) (t .grade) (layersIn pool t) (t .«tuple_count»)
   own-header =
       ap₂ {C = ColumnTrie}
       (λ ds is. relengthed t ds is (t .«tuple_count»))

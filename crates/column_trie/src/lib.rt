@@ -24,6 +24,7 @@ pub struct ColumnTrie {
     pub data_len: [usize; ColumnTrie::MAX_ARITY],
     pub interval_len: [usize; ColumnTrie::MAX_ARITY],
     pub tuple_count: usize,
+    pub grade: [bool; ColumnTrie::MAX_ARITY],
 }
 
 impl ColumnTrie {
@@ -31,7 +32,7 @@ impl ColumnTrie {
 
     pub const MAX_CAPACITY: usize = 65536;
 
-    // The header of a table without rows.
+    // The header of a table without rows, all columns plain.
     pub fn empty(start: usize, arity: usize, capacity: usize) -> Self
         ensures { λ r. ⌜ r ≡ emptyTable start arity capacity ⌝ }
     {
@@ -42,6 +43,7 @@ impl ColumnTrie {
             data_len: [0usize; ColumnTrie::MAX_ARITY],
             interval_len: [0usize; ColumnTrie::MAX_ARITY],
             tuple_count: 0,
+            grade: [false; ColumnTrie::MAX_ARITY],
         }
     }
 }
@@ -80,13 +82,13 @@ fn lengths_within(t: ColumnTrie) -> bool
     true
 }
 
-// Past the arity both lengths are 0.
+// Past the arity both lengths are 0, and no column is a grade.
 fn past_arity(t: ColumnTrie) -> bool
     ensures { λ r. ⌜ r ≡ every maxArity (pastAt t) ⌝ }
 {
     let mut d = t.arity;
     while d < ColumnTrie::MAX_ARITY {
-        if t.data_len[d] != 0 || t.interval_len[d] != 0 {
+        if t.data_len[d] != 0 || t.interval_len[d] != 0 || t.grade[d] {
             return false;
         }
         d += 1;

@@ -11,10 +11,10 @@ use Rattle.relation.specs.Rows.{Sorted, flat, sort, asSet}
 use Rattle.relation.specs.Layers.{layersOf}
 use Rattle.relation.proofs.Sorting.{sort-sorted, sort-members, asSet-cong}
 use Rattle.column_trie.specs.Pool.{store}
-use Rattle.column_trie.specs.Table.{emptyTable, tableOf}
+use Rattle.column_trie.specs.Table.{headerWith, emptyTable, tableOf}
 use Rattle.column_trie.specs.declared.ColumnTrie.{ColumnTrie}
 use Rattle.from_sorted.specs.Given.{rowsGiven}
-use Rattle.column_trie_build.specs.Build.{buildNumber, unlessRefused, Builds}
+use Rattle.column_trie_build.specs.Build.{buildNumber, unlessRefused, keptKinds, Builds}
 use Rattle.from_sorted.specs.Push.{Filling}
 use Rattle.column_trie_build.proofs.Numbers.{Accepted}
 use Rattle.from_sorted.proofs.Given.{length-given, given-sorted}
@@ -26,8 +26,8 @@ module _ {A : Type 0} (n : ℕ) (built refused : A) where
   pub if-refused : (n ≡ 0 → ⊥) → unlessRefused n built refused ≡ refused
   if-refused h = ap (λ (b : Bool). pick b built refused) (ne-eqb n 0 h)
 
-module _ (given lent : List ℕ) (start arity capacity : ℕ) {n : ℕ} {t : ColumnTrie} (e : n ≡ buildNumber (length given) (length lent) start arity capacity) where
-  pub builds-refused : (n ≡ 0 → ⊥) → t ≡ emptyTable 0 0 0 → Builds given lent start arity capacity given lent (record { number = n; table = t })
+module _ (given lent : List ℕ) (start arity capacity : ℕ) (kinds : List Bool) {n : ℕ} {t : ColumnTrie} (e : n ≡ buildNumber (length given) (length lent) start arity capacity) where
+  pub builds-refused : (n ≡ 0 → ⊥) → t ≡ emptyTable 0 0 0 → Builds given lent start arity capacity kinds given lent (record { number = n; table = t })
   builds-refused h f =
       let k = buildNumber (length given) (length lent) start arity capacity in
       let z : k ≡ 0 → ⊥ = λ q. h (e ∙ q) in
@@ -38,7 +38,7 @@ module _ (given lent : List ℕ) (start arity capacity : ℕ) {n : ℕ} {t : Col
         pool = sym (if-refused k _ lent z);
       }
 
-  pub builds-built : {given′ lent′ : List ℕ} → n ≡ 0 → t ≡ tableOf start arity capacity (asSet (rowsGiven arity given)) → given′ ≡ flat (sort (rowsGiven arity given)) → lent′ ≡ store start capacity (layersOf arity (asSet (rowsGiven arity given))) lent → Builds given lent start arity capacity given′ lent′ (record { number = n; table = t })
+  pub builds-built : {given′ lent′ : List ℕ} → n ≡ 0 → t ≡ tableOf start arity capacity (keptKinds arity kinds) (asSet (rowsGiven arity given)) → given′ ≡ flat (sort (rowsGiven arity given)) → lent′ ≡ store start capacity (layersOf arity (asSet (rowsGiven arity given))) lent → Builds given lent start arity capacity kinds given′ lent′ (record { number = n; table = t })
   builds-built h f g p =
       let k = buildNumber (length given) (length lent) start arity capacity in
       let z : k ≡ 0 = sym e ∙ h in
@@ -49,6 +49,10 @@ module _ (given lent : List ℕ) (start arity capacity : ℕ) {n : ℕ} {t : Col
         pool = p ∙ sym (if-built k _ lent z);
       }
 
+-- the same header with columns of other kinds
+abbrev pub regraded : ColumnTrie → List Bool → ColumnTrie
+regraded t kinds = headerWith (t .start) (t .arity) (t .capacity) (t .«data_len») (t .«interval_len») (t .«tuple_count») kinds
+
 -- an accepted build's table, empty, and its rows, once they are sorted
 module _ (given : List ℕ) {given′ : List ℕ} {len start arity capacity : ℕ} (a : Accepted (length given) len start arity capacity) (e : given′ ≡ flat (sort (rowsGiven arity given))) where
   sorted-rows : rowsGiven arity given′ ≡ sort (rowsGiven arity given)
@@ -58,8 +62,8 @@ module _ (given : List ℕ) {given′ : List ℕ} {len start arity capacity : �
   pub set-of-rows : asSet (rowsGiven arity given′) ≡ asSet (rowsGiven arity given)
   set-of-rows = ap asSet sorted-rows ∙ asSet-cong (sort (rowsGiven arity given)) (rowsGiven arity given) (sort-members (rowsGiven arity given))
 
-  pub filling : length given′ ≡ length given → Filling len (emptyTable start arity capacity) (rowsGiven arity given′)
-  filling l = record {
+  pub filling : length given′ ≡ length given → (kinds : List Bool) → Filling len (regraded (emptyTable start arity capacity) kinds) (rowsGiven arity given′)
+  filling l kinds = record {
     positive = a .positive;
     few = a .few;
     small = a .small;

@@ -1,13 +1,14 @@
 -- Public: what a build answers and what it leaves behind, as functions of the arguments at entry.
-use Prim.Native.Nat.{ℕ, _/_, _%_}
+use Prim.Native.Nat.{ℕ, _-_, _/_, _%_}
 use mathlib.Core.Path.{_≡_}
-use mathlib.Core.Bool.{not}
-use mathlib.Core.List.{List}
-use lib.ListN.{length}
+use mathlib.Core.Bool.{Bool, false, not}
+use mathlib.Core.List.{List, _++_}
+use lib.ListN.{length, take, replicate}
 use lib.Dec.{ltb, eqb}
 use Rattle.relation.specs.Order.{pick}
 use Rattle.relation.specs.Rows.{flat, sort, asSet}
 use Rattle.relation.specs.Layers.{layersOf}
+use Rattle.column_trie.specs.Limits.{maxArity}
 use Rattle.column_trie.specs.Pool.{store}
 use Rattle.column_trie.specs.Table.{arityOk, capacityOk, liesIn, emptyTable, tableOf}
 use Rattle.from_sorted.specs.Given.{rowsGiven}
@@ -26,11 +27,15 @@ buildNumber words len start arity capacity =
 abbrev pub unlessRefused : {A : Type 0} → ℕ → A → A → A
 unlessRefused number built refused = pick (eqb number 0) built refused
 
--- the answer: the number, and the header of the table of the set of the rows; a refused build's header is all zeros
-abbrev pub builtAnswer : List ℕ → List ℕ → ℕ → ℕ → ℕ → Built
-builtAnswer words pool start arity capacity =
+-- the kinds that are stored: those past the arity as plain
+abbrev pub keptKinds : ℕ → List Bool → List Bool
+keptKinds arity kinds = take arity kinds ++ replicate (maxArity - arity) false
+
+-- the answer: the number, and the header of the table of the set of the rows; a refused build's header is all zeros, and so all plain
+abbrev pub builtAnswer : List ℕ → List ℕ → ℕ → ℕ → ℕ → List Bool → Built
+builtAnswer words pool start arity capacity kinds =
     let number = buildNumber (length words) (length pool) start arity capacity in
-    record { number = number; table = unlessRefused number (tableOf start arity capacity (asSet (rowsGiven arity words))) (emptyTable 0 0 0) }
+    record { number = number; table = unlessRefused number (tableOf start arity capacity (keptKinds arity kinds) (asSet (rowsGiven arity words))) (emptyTable 0 0 0) }
 
 -- the rows' words: sorted, duplicates kept
 abbrev pub wordsLeft : List ℕ → List ℕ → ℕ → ℕ → ℕ → List ℕ
@@ -42,7 +47,7 @@ poolLeft words pool start arity capacity =
     unlessRefused (buildNumber (length words) (length pool) start arity capacity) (store start capacity (layersOf arity (asSet (rowsGiven arity words))) pool) pool
 
 -- what a build over `given` and `lent` answers and leaves
-pub record Builds (given lent : List ℕ) (start arity capacity : ℕ) (given′ lent′ : List ℕ) (r : Built) : Type 0 where
-  pub answer : r ≡ builtAnswer given lent start arity capacity
+pub record Builds (given lent : List ℕ) (start arity capacity : ℕ) (kinds : List Bool) (given′ lent′ : List ℕ) (r : Built) : Type 0 where
+  pub answer : r ≡ builtAnswer given lent start arity capacity kinds
   pub rows : given′ ≡ wordsLeft given lent start arity capacity
   pub pool : lent′ ≡ poolLeft given lent start arity capacity

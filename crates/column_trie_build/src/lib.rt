@@ -10,7 +10,11 @@ use column_trie::lies_in;
 use from_sorted::from_sorted;
 use sort::sort_rows;
 ghost use mathlib.Core.Path.{_≡_};
-ghost use Rattle.column_trie_build.specs.Build.{buildNumber, Builds};
+ghost use mathlib.Core.Bool.{false};
+ghost use Prim.Native.Nat.{_≤_};
+ghost use lib.ListN.{replicate};
+ghost use Rattle.column_trie.specs.Limits.{maxArity};
+ghost use Rattle.column_trie_build.specs.Build.{buildNumber, keptKinds, Builds};
 
 #[repr(C)]
 pub struct Built {
@@ -40,15 +44,33 @@ fn build_number(words: usize, len: usize, start: usize, arity: usize, capacity: 
     0
 }
 
-// Sorts the rows in place, lexicographic, and leaves at `start` of the pool a table with each distinct row once.
+// Sets the kinds of the table's columns, all plain before; past the arity they stay so.
+fn keep_kinds(
+    kept: &mut [bool; ColumnTrie::MAX_ARITY],
+    arity: usize,
+    grade: [bool; ColumnTrie::MAX_ARITY],
+)
+    requires { ⌜ (now kept ≡ replicate maxArity false) × (arity ≤ maxArity) ⌝ }
+    ensures { λ _. ⌜ now (kept .exit) ≡ keptKinds arity grade ⌝ }
+{
+    let mut d = 0;
+    while d < arity {
+        kept[d] = grade[d];
+        d += 1;
+    }
+}
+
+// Sorts the rows in place, lexicographic, and leaves at `start` of the pool a table with each distinct row once, whose columns are of the kinds
+// given (yes: grade).
 pub fn build(
     rows: &mut [u64],
     pool: &mut [u64],
     start: usize,
     arity: usize,
     capacity: usize,
+    grade: [bool; ColumnTrie::MAX_ARITY],
 ) -> Built
-    ensures { λ r. ⌜ Builds (now (rows .entry)) (now (pool .entry)) start arity capacity (now (rows .exit)) (now (pool .exit)) r ⌝ }
+    ensures { λ r. ⌜ Builds (now (rows .entry)) (now (pool .entry)) start arity capacity grade (now (rows .exit)) (now (pool .exit)) r ⌝ }
 {
     let number = build_number(rows.len(), pool.len(), start, arity, capacity);
     if number != 0 {
@@ -58,6 +80,10 @@ pub fn build(
         };
     }
     sort_rows(rows, arity);
-    let table = from_sorted(pool, ColumnTrie::empty(start, arity, capacity), rows);
+    let mut empty = ColumnTrie::empty(start, arity, capacity);
+    let mut kept = [false; ColumnTrie::MAX_ARITY];
+    keep_kinds(&mut kept, arity, grade);
+    empty.grade = kept;
+    let table = from_sorted(pool, empty, rows);
     Built { number, table }
 }

@@ -17,7 +17,7 @@ use Rattle.relation.proofs.Rank.{rank-le}
 use Rattle.relation.proofs.Relations.{length-prefixes}
 use Rattle.relation.proofs.Insert.{PrefixStored, stored-below, stored-whole, no-root}
 use Rattle.column_trie.specs.Pool.{store}
-use Rattle.column_trie.specs.Table.{header, rowsIn}
+use Rattle.column_trie.specs.Table.{rowsIn}
 use Rattle.column_trie.specs.declared.ColumnTrie.{ColumnTrie}
 use Rattle.column_trie.proofs.Layers.{Whole}
 use Rattle.column_trie.proofs.Stored.{in-pool}
@@ -26,15 +26,15 @@ use Rattle.column_trie.proofs.Tables.{Holds, holds}
 use Rattle.column_trie_insert.specs.Grow.{PathOf, Addable}
 use Rattle.column_trie_insert.specs.declared.Path.{Path}
 use Rattle.column_trie_insert.proofs.Mixed.{mixed, mixed-first}
-use Rattle.column_trie_insert.proofs.Rows.{Ready, Growing}
+use Rattle.column_trie_insert.proofs.Rows.{Ready, Growing, relayered}
 
 module _ {pool₀ : List ℕ} {t : ColumnTrie} {rows : List Row} {r : Row} (y : Ready pool₀ t rows r) where
   -- no word has changed yet
-  starts : (d : ℕ) → ((k : ℕ) → k < d → PrefixStored rows r (suc k)) → (pool₀ ≡ store (t .start) (t .capacity) (mixed (t .arity) rows r d) pool₀) × (t ≡ header (t .start) (t .arity) (t .capacity) (mixed (t .arity) rows r d) (t .«tuple_count»))
+  starts : (d : ℕ) → ((k : ℕ) → k < d → PrefixStored rows r (suc k)) → (pool₀ ≡ store (t .start) (t .capacity) (mixed (t .arity) rows r d) pool₀) × (t ≡ relayered t (mixed (t .arity) rows r d) (t .«tuple_count»))
   starts d s =
       let e = mixed-first (t .arity) rows r (y .held .width) (y .long) d s in (
         sym (ap (λ (ls : List Layer). store (t .start) (t .capacity) ls pool₀) e ∙ y .held .words),
-        y .held .table ∙ ap₂ (λ (ls : List Layer) (m : ℕ). header (t .start) (t .arity) (t .capacity) ls m) (sym e) (sym (y .held .counted)),
+        y .held .table ∙ ap₂ (relayered t) (sym e) (sym (y .held .counted)),
       )
 
   growing-start : {p : Path} → PathOf (t .arity) rows r p → p .depth < t .arity → Growing pool₀ t rows r pool₀ t (p .depth) (p .interval) (p .at) false

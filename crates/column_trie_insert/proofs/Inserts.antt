@@ -18,7 +18,7 @@ use Rattle.relation.proofs.Tests.{T-true, true-T}
 use Rattle.relation.proofs.Sorting.{same→eq, same-refl}
 use Rattle.relation.proofs.Insert.{stored-whole}
 use Rattle.column_trie.specs.Pool.{store}
-use Rattle.column_trie.specs.Table.{rowsIn, tableOf, undamaged}
+use Rattle.column_trie.specs.Table.{rowsIn, refilled, undamaged}
 use Rattle.column_trie.specs.declared.ColumnTrie.{ColumnTrie}
 use Rattle.column_trie.proofs.Layers.{Whole}
 use Rattle.column_trie.proofs.Damage.{undamaged-told}
@@ -70,7 +70,7 @@ module _ (pool : List ℕ) (t : ColumnTrie) (tuple : Row) where
       record {
         number = h .0 ∙ sym e;
         is-new = h .1 ∙ sym f;
-        table = h .2 ∙ sym (ap (λ (b : Bool). pick b (tableOf (t .start) (t .arity) (t .capacity) (put tuple (rowsIn pool t))) t) f);
+        table = h .2 ∙ sym (ap (λ (b : Bool). pick b (refilled t (put tuple (rowsIn pool t))) t) f);
         words = sym (ap (λ (b : Bool). pick b (store (t .start) (t .capacity) (layersOf (t .arity) (put tuple (rowsIn pool t))) pool) pool) f);
       }
 
@@ -151,7 +151,7 @@ module _ {pool : List ℕ} {t : ColumnTrie} {tuple : Row} {p : Path} (l : Locate
           record {
             number = h .0 ∙ sym number-0;
             is-new = h .1 ∙ sym takes;
-            table = a .header ∙ sym (ap (λ (b : Bool). pick b (tableOf (t .start) (t .arity) (t .capacity) (put tuple (rowsIn pool t))) t) takes);
+            table = a .header ∙ sym (ap (λ (b : Bool). pick b (refilled t (put tuple (rowsIn pool t))) t) takes);
             words = a .words ∙ sym (ap (λ (b : Bool). pick b (store (t .start) (t .capacity) (layersOf (t .arity) (put tuple (rowsIn pool t))) pool) pool) takes);
           }
 

@@ -20,7 +20,7 @@ use Rattle.relation.proofs.Relations.{length-prefixes}
 use Rattle.relation.proofs.Children.{begin-is}
 use Rattle.relation.proofs.Insert.{PrefixStored, rankOf, insert-key, insert-first, insert-new, insert-count, below}
 use Rattle.column_trie.specs.Pool.{store, spot}
-use Rattle.column_trie.specs.Table.{relengthed, dataLen, intervalLen, header, tableOf, layerIn, headerSound}
+use Rattle.column_trie.specs.Table.{relengthed, dataLen, intervalLen, header, refilled, layerIn, headerSound}
 use Rattle.column_trie.specs.declared.ColumnTrie.{ColumnTrie}
 use Rattle.column_trie.proofs.Pool.{Room, store-length, store-replace}
 use Rattle.column_trie.proofs.Header.{InPool, told-header}
@@ -45,6 +45,10 @@ put-longer r (q ∷ qs) = go (before r q) (before q r) (put-longer r qs)
 
 -- ---- the loop that adds a row
 
+-- the same header, of a table that holds other layers
+abbrev pub relayered : ColumnTrie → List Layer → ℕ → ColumnTrie
+relayered t ls count = header (t .start) (t .arity) (t .capacity) (t .grade) ls count
+
 -- an undamaged table with room, and a row that it lacks
 pub record Ready (pool : List ℕ) (t : ColumnTrie) (rows : List Row) (r : Row) : Type 0 where
   pub inside : InPool (length pool) t
@@ -57,7 +61,7 @@ pub record Ready (pool : List ℕ) (t : ColumnTrie) (rows : List Row) (r : Row) 
 pub record Growing (pool₀ : List ℕ) (t : ColumnTrie) (rows : List Row) (r : Row) (pool : List ℕ) (out : ColumnTrie) (d i at : ℕ) (fresh : Bool) : Type 0 where
   pub inside : d ≤ t .arity
   pub words : pool ≡ store (t .start) (t .capacity) (mixed (t .arity) rows r d) pool₀
-  pub header : out ≡ header (t .start) (t .arity) (t .capacity) (mixed (t .arity) rows r d) (t .«tuple_count»)
+  pub header : out ≡ relayered t (mixed (t .arity) rows r d) (t .«tuple_count»)
   pub place : i ≡ rankOf rows r d
   pub old : fresh ≡ false → (d < t .arity) × PrefixStored rows r d × (PrefixStored rows r (suc d) → ⊥) × (at ≡ rankOf rows r (suc d))
   pub new : fresh ≡ true → PrefixStored rows r d → ⊥
@@ -97,7 +101,7 @@ module _ {pool₀ : List ℕ} {t : ColumnTrie} {rows : List Row} {r : Row} (y : 
 
   module _ {pool : List ℕ} {out : ColumnTrie} {d i at : ℕ} {fresh : Bool} (g : Growing pool₀ t rows r pool out d i at fresh) where
     abbrev H : ColumnTrie
-    H = header (t .start) (t .arity) (t .capacity) (mix d) (t .«tuple_count»)
+    H = relayered t (mix d) (t .«tuple_count»)
 
     pub pool-long : length pool ≡ length pool₀
     pool-long = ap length (g .words) ∙ store-length (t .start) (t .capacity) (mix d) pool₀
@@ -115,11 +119,11 @@ module _ {pool₀ : List ℕ} {t : ColumnTrie} {rows : List Row} {r : Row} (y : 
         go : (k : ℕ) → Dec (k < t .arity) → (dataLen H k ≤ t .capacity) × (intervalLen H k ≤ t .capacity)
         go k (yes b) =
             let q = mixed-room d k (omega (arith, mix-long d)) in (
-              omega (arith, header-keys (t .start) (t .arity) (t .capacity) (mix d) (t .«tuple_count») (mix-long d) (y .inside .few) k b, q .0),
-              omega (arith, header-intervals (t .start) (t .arity) (t .capacity) (mix d) (t .«tuple_count») (mix-long d) (y .inside .few) k b, q .1),
+              omega (arith, header-keys (t .start) (t .arity) (t .capacity) (t .grade) (mix d) (t .«tuple_count») (mix-long d) (y .inside .few) k b, q .0),
+              omega (arith, header-intervals (t .start) (t .arity) (t .capacity) (t .grade) (mix d) (t .«tuple_count») (mix-long d) (y .inside .few) k b, q .1),
             )
         go k (no b) =
-            let z = header-past (t .start) (t .arity) (t .capacity) (mix d) (t .«tuple_count») (mix-long d) (y .inside .few) k (omega arith) in
+            let z = header-past (t .start) (t .arity) (t .capacity) (t .grade) (mix d) (t .«tuple_count») (mix-long d) (y .inside .few) k (omega arith) in
             (omega (arith, z .0), omega (arith, z .1))
 
     pub out-sound : headerSound (length pool) out ≡ true
@@ -130,14 +134,14 @@ module _ {pool₀ : List ℕ} {t : ColumnTrie} {rows : List Row} {r : Row} (y : 
       layer-old : layerIn pool out d ≡ rankedAt d rows
       layer-old =
           ap₂ (λ (p : List ℕ) (z : ColumnTrie). layerIn p z d) (g .words) (g .header)
-          ∙ sym (layers-at (store (t .start) (t .capacity) (mix d) pool₀) H (header-whole (t .start) (t .arity) (t .capacity) (mix d) (t .«tuple_count») (mix-long d) (y .inside .few)) (y .inside .few) d h)
-          ∙ ap (λ (ls : List Layer). layer ls d) (stored-layers (t .start) (t .arity) (t .capacity) (mix d) (t .«tuple_count») (mix-long d) (y .inside .few) pool₀ (mixed-room d) (y .inside .fits))
+          ∙ sym (layers-at (store (t .start) (t .capacity) (mix d) pool₀) H (header-whole (t .start) (t .arity) (t .capacity) (t .grade) (mix d) (t .«tuple_count») (mix-long d) (y .inside .few)) (y .inside .few) d h)
+          ∙ ap (λ (ls : List Layer). layer ls d) (stored-layers (t .start) (t .arity) (t .capacity) (t .grade) (mix d) (t .«tuple_count») (mix-long d) (y .inside .few) pool₀ (mixed-room d) (y .inside .fits))
           ∙ mixed-old (t .arity) rows r d d h (omega arith)
 
       lens : (dataLen out d ≡ length (keysAt d rows)) × (intervalLen out d ≡ length (intervalsAt d rows))
       lens = (
-        ap (λ (z : ColumnTrie). dataLen z d) (g .header) ∙ header-keys (t .start) (t .arity) (t .capacity) (mix d) (t .«tuple_count») (mix-long d) (y .inside .few) d h ∙ ap (λ (l : Layer). length (l .keys)) (mixed-old (t .arity) rows r d d h (omega arith)),
-        ap (λ (z : ColumnTrie). intervalLen z d) (g .header) ∙ header-intervals (t .start) (t .arity) (t .capacity) (mix d) (t .«tuple_count») (mix-long d) (y .inside .few) d h ∙ ap (λ (l : Layer). length (l .intervals)) (mixed-old (t .arity) rows r d d h (omega arith)),
+        ap (λ (z : ColumnTrie). dataLen z d) (g .header) ∙ header-keys (t .start) (t .arity) (t .capacity) (t .grade) (mix d) (t .«tuple_count») (mix-long d) (y .inside .few) d h ∙ ap (λ (l : Layer). length (l .keys)) (mixed-old (t .arity) rows r d d h (omega arith)),
+        ap (λ (z : ColumnTrie). intervalLen z d) (g .header) ∙ header-intervals (t .start) (t .arity) (t .capacity) (t .grade) (mix d) (t .«tuple_count») (mix-long d) (y .inside .few) d h ∙ ap (λ (l : Layer). length (l .intervals)) (mixed-old (t .arity) rows r d d h (omega arith)),
       )
 
       -- where a new parent's children start
@@ -202,7 +206,7 @@ module _ {pool₀ : List ℕ} {t : ColumnTrie} {rows : List Row} {r : Row} (y : 
           record {
             inside = omega arith;
             words = s .words ∙ ap (relaid pool out d) (grown-is e) ∙ ap₂ (λ (p : List ℕ) (z : ColumnTrie). relaid p z d (rankedAt d (put r rows))) (g .words) (g .header) ∙ replaced ∙ ap (λ (ls : List Layer). store (t .start) (t .capacity) ls pool₀) (mixed-step (t .arity) rows r d h);
-            header = s .header ∙ ap (resized out d) (grown-is e) ∙ ap (λ (z : ColumnTrie). resized z d (rankedAt d (put r rows))) (g .header) ∙ counted ∙ ap (λ (ls : List Layer). header (t .start) (t .arity) (t .capacity) ls (t .«tuple_count»)) (mixed-step (t .arity) rows r d h);
+            header = s .header ∙ ap (resized out d) (grown-is e) ∙ ap (λ (z : ColumnTrie). resized z d (rankedAt d (put r rows))) (g .header) ∙ counted ∙ ap (λ (ls : List Layer). relayered t ls (t .«tuple_count»)) (mixed-step (t .arity) rows r d h);
             place = e ∙ ap (rankOf rows r) (sym (add-one d));
             old = λ f. not-both true refl f;
             new = λ f m. deeper fresh refl (subst (PrefixStored rows r) (add-one d) m);
@@ -226,7 +230,7 @@ module _ {pool₀ : List ℕ} {t : ColumnTrie} {rows : List Row} {r : Row} (y : 
               store-replace (t .start) (t .capacity) (mix d) pool₀ d (rankedAt d (put r rows)) (omega (arith, mix-long d))
               (omega (arith, ap (λ (l : Layer). length (l .keys)) o, longer .0)) (m .0) (omega (arith, ap (λ (l : Layer). length (l .intervals)) o, longer .1)) (m .1)
 
-          counted : resized H d (rankedAt d (put r rows)) ≡ header (t .start) (t .arity) (t .capacity) (set (mix d) d (rankedAt d (put r rows))) (t .«tuple_count»)
+          counted : resized H d (rankedAt d (put r rows)) ≡ relayered t (set (mix d) d (rankedAt d (put r rows))) (t .«tuple_count»)
           counted =
               let b : d < length (mix d) = omega (arith, mix-long d) in
               ap₂ {C = ColumnTrie}
@@ -242,12 +246,12 @@ module _ {pool₀ : List ℕ} {t : ColumnTrie} {rows : List Row} {r : Row} (y : 
 
     pub grown-header :
         t .arity ≤ d →
-        _≡_ {A = ColumnTrie} (relengthed out (out .«data_len») (out .«interval_len») (t .«tuple_count» + 1)) (tableOf (t .start) (t .arity) (t .capacity) (put r rows))
+        _≡_ {A = ColumnTrie} (relengthed out (out .«data_len») (out .«interval_len») (t .«tuple_count» + 1)) (refilled t (put r rows))
     grown-header h =
         let e : d ≡ t .arity = omega (arith, g .inside) in
         let n : t .«tuple_count» + 1 ≡ length (put r rows) = omega (arith, y .held .counted, insert-count (t .arity) rows r (y .held .width) (y .long) (y .absent)) in
         ap (λ (z : ColumnTrie). relengthed z (z .«data_len») (z .«interval_len») (t .«tuple_count» + 1)) (g .header)
-        ∙ ap₂ (λ (ls : List Layer) (m : ℕ). header (t .start) (t .arity) (t .capacity) ls m) (ap (mixed (t .arity) rows r) e ∙ mixed-last (t .arity) rows r (y .held .width) (y .long)) n
+        ∙ ap₂ (relayered t) (ap (mixed (t .arity) rows r) e ∙ mixed-last (t .arity) rows r (y .held .width) (y .long)) n
 
 -- a place for the key, read or known
 pub placed :

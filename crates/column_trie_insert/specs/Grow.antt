@@ -11,7 +11,7 @@ use Rattle.relation.proofs.Insert.{PrefixStored, rankOf}
 use Rattle.seek.specs.Probes.{digits}
 use Rattle.column_trie.specs.Groups.{groupFrom, groupTo}
 use Rattle.column_trie.specs.Pool.{lay, store, spot}
-use Rattle.column_trie.specs.Table.{relengthed, dataLen, intervalLen, rowsIn, tableOf, headerSound, undamaged}
+use Rattle.column_trie.specs.Table.{relengthed, dataLen, intervalLen, rowsIn, refilled, headerSound, undamaged}
 use Rattle.column_trie.specs.declared.ColumnTrie.{ColumnTrie}
 use Rattle.wedge.specs.Shift.{SmallFrom}
 use Rattle.column_trie_insert.specs.declared.KeyPlace.{KeyPlace}
@@ -84,4 +84,4 @@ pub record Addable (pool : List ℕ) (t : ColumnTrie) (tuple : Row) (p : Path) :
 -- the layers with the row, stored over the pool, and their header
 pub record RowAdded (pool pool′ : List ℕ) (t : ColumnTrie) (tuple : Row) (r : ColumnTrie) : Type 0 where
   pub words : pool′ ≡ store (t .start) (t .capacity) (layersOf (t .arity) (put tuple (rowsIn pool t))) pool
-  pub header : r ≡ tableOf (t .start) (t .arity) (t .capacity) (put tuple (rowsIn pool t))
+  pub header : r ≡ refilled t (put tuple (rowsIn pool t))

@@ -9,7 +9,7 @@ use Rattle.relation.specs.Order.{Row, pick}
 use Rattle.relation.specs.Rows.{same, put}
 use Rattle.relation.specs.Layers.{layersOf}
 use Rattle.column_trie.specs.Pool.{store}
-use Rattle.column_trie.specs.Table.{tableOf, rowsIn, undamaged}
+use Rattle.column_trie.specs.Table.{refilled, rowsIn, undamaged}
 use Rattle.column_trie.specs.declared.ColumnTrie.{ColumnTrie}
 use Rattle.column_trie_insert.specs.declared.Inserted.{Inserted}
 
@@ -33,9 +33,9 @@ unfoldable pub takesIn : List ℕ → ColumnTrie → Row → Bool
 unfolding insertNumber
 takesIn pool t tuple = eqb (insertNumber pool t tuple) 0 && not (known (rowsIn pool t) tuple)
 
--- A new tuple: the header of the rows with it, and their layers stored over the pool. Anything else, refused or there already, changes nothing
+-- A new tuple: the header of the rows with it, its columns of the kinds that they were, and their layers stored over the pool. Anything else, refused or there already, changes nothing
 abbrev pub tableLeft : List ℕ → ColumnTrie → Row → ColumnTrie
-tableLeft pool t tuple = pick (takesIn pool t tuple) (tableOf (t .start) (t .arity) (t .capacity) (put tuple (rowsIn pool t))) t
+tableLeft pool t tuple = pick (takesIn pool t tuple) (refilled t (put tuple (rowsIn pool t))) t
 
 abbrev pub poolLeft : List ℕ → ColumnTrie → Row → List ℕ
 poolLeft pool t tuple = pick (takesIn pool t tuple) (store (t .start) (t .capacity) (layersOf (t .arity) (put tuple (rowsIn pool t))) pool) pool

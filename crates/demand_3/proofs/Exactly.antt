@@ -1,4 +1,4 @@
--- Each number of a join is given exactly when document 01 says, from the facts of a query: the checks' numbers by crates/join_query, 12 and 0 by demand 3.
+-- Each number of a join is given exactly when documents 01 and 02 say, from the facts of a query: the checks' numbers by crates/join_query, 12 and 0 by demand 3.
 use Prim.Native.Nat.{ℕ, _*_, _<_}
 use native.Mathlib.Omega.{arith}
 use mathlib.Core.Path.{_≡_, refl, sym, subst, _∙_}
@@ -11,11 +11,11 @@ use Rattle.relation.proofs.Sequence.{exactly-then, exactly-same}
 use Rattle.query.specs.Meaning.{Listing}
 use Rattle.query.proofs.Unique.{unique}
 use Rattle.join_query.specs.Query.{orderOf, atomsOf, joinNumber, Accepted}
-use Rattle.join_query.specs.Facts.{Typed, Ordered, Named, AllFollow, Covered, SoundTables, Passing}
+use Rattle.join_query.specs.Facts.{Typed, Ordered, Named, AllFollow, Covered, SameKinds, SoundTables, Passing}
 use Rattle.join_query.specs.Outcome.{listed, outcome}
 use Rattle.join_query.specs.declared.Query.{Query}
 use Rattle.join_query.specs.declared.Tables.{Tables}
-use Rattle.join_query.proofs.Exactly.{checks-8, checks-9, checks-10, checks-11, checks-6, checks-0, not-12, answered-by, answered-late}
+use Rattle.join_query.proofs.Exactly.{checks-8, checks-9, checks-10, checks-11, checks-15, checks-6, checks-0, not-12, answered-by, answered-late}
 use Rattle.leapfrog_triejoin.specs.Outcome.{Joins}
 use Rattle.leapfrog_triejoin.specs.declared.Joined.{Joined}
 use Rattle.demand_3.proofs.Theorems.{demand-3}
@@ -42,8 +42,12 @@ module _ {pool : List ℕ} {ts : Tables} {q : Query} {window : List ℕ} {r : Jo
   pub number-11-exactly : Exactly (r .number ≡ 11) (Ordered q × (Named (ts .count) q × (AllFollow ts q × (Covered q → ⊥))))
   number-11-exactly = exactly-then (by-checks 11 (λ e. omega arith) (λ e. omega arith)) (checks-11 pool ts q y)
 
+  -- "some variable binds columns of both kinds"
+  pub number-15-exactly : Exactly (r .number ≡ 15) (Ordered q × (Named (ts .count) q × (AllFollow ts q × (Covered q × (SameKinds ts q → ⊥)))))
+  number-15-exactly = exactly-then (by-checks 15 (λ e. omega arith) (λ e. omega arith)) (checks-15 pool ts q y)
+
   -- "damaged table"; "only tables that atoms name are checked"
-  pub number-6-exactly : Exactly (r .number ≡ 6) (Ordered q × (Named (ts .count) q × (AllFollow ts q × (Covered q × (SoundTables pool ts q → ⊥)))))
+  pub number-6-exactly : Exactly (r .number ≡ 6) (Ordered q × (Named (ts .count) q × (AllFollow ts q × (Covered q × (SameKinds ts q × (SoundTables pool ts q → ⊥))))))
   number-6-exactly = exactly-then (by-checks 6 (λ e. omega arith) (λ e. omega arith)) (checks-6 pool ts q y)
 
   module _ {rows : List Row} (l : Listing (q .n) (orderOf q) (atomsOf pool ts q) rows) where

@@ -26,7 +26,7 @@ use denote.Ref.{RefT, now}
 use Rattle.seek.specs.declared.SeekStrategy.{SeekStrategy}
 use Rattle.leapfrog.specs.Walk.{walkOf, joinSeeks}
 use Rattle.query.specs.Limits.{maxAtoms}
-use Rattle.join_query.specs.Query.{maxTables, maxVariables, atomAt, orderOf, listsOf, atomsOf, orderOk, namedOk, listOk, named, soundAt, joinNumber, Accepted}
+use Rattle.join_query.specs.Query.{maxTables, maxVariables, atomAt, orderOf, listsOf, atomsOf, orderOk, namedOk, listOk, oneKind, named, soundAt, joinNumber, Accepted}
 use Rattle.join_query.specs.Outcome.{listed, outcome}
 use Rattle.leapfrog_triejoin.specs.Outcome.{seeksAt, Joins}
 use Rattle.join_query.specs.declared.Atom.{Atom}
@@ -69,7 +69,7 @@ refused-leaves-the-window {pool} {ts} {q} {window} number e j =
 
 -- ---- demand 3
 
--- "for every query that passes document 01's checks"
+-- "for every query that passes document 01's checks", 15 of document 02 among them
 pub record Demand3 (pool : List ℕ) (ts : Tables) (q : Query) (window : List ℕ) (r : Joined) (after : List ℕ) : Type 0 where
   pub rows : List Row
   -- "the rows are exactly the assignments of words to variables whose part for each atom is a stored row: each once, ascending as read in the query's order"
@@ -148,6 +148,7 @@ module _ (pool : List ℕ) (ts : Tables) (q : Query) (variables : q .n ≡ 0) (n
       (and-true (leb (ts .count) maxTables) (index.every (q .«atom_count») (λ (i : ℕ). ltb (atomAt q i .table) (ts .count))) (le-leb (ts .count) maxTables few) (every-one (λ (i : ℕ). ltb (atomAt q i .table) (ts .count)))))
       (every-one (listOk ts q))
       (subst (λ (m : ℕ). covers m (listsOf q) ≡ true) (sym variables) refl)
+      (subst (λ (m : ℕ). index.every m (oneKind ts q) ≡ true) (sym variables) (every-none (oneKind ts q)))
       (every-all (soundAt pool ts q) (ts .count) (λ t h. sound-unnamed pool ts q t (subst (λ (m : ℕ). some (λ (a : Atom). eqb (a .table) t) (take m (q .atoms)) ≡ false) (sym no-atoms) refl))))
 
   pub one-empty-row : {window : List ℕ} {r : Joined} {after : List ℕ} → Joins pool ts q window r after → EmptyRow window r after

@@ -72,7 +72,7 @@ OneOutcome {A} {R} {E} Post left = (args : A) (r₁ r₂ : R) (e₁ e₂ : E) �
 -- the rows and the pool
 pub build : (κs : Lfts 2) → OneOutcome {W = List ℕ × List ℕ} (build-reads.Post κs) (λ e. (now (e .0), now (e .1 .0)))
 build κs args r₁ r₂ e₁ e₂ p q =
-    let d = builds.determined (now (args .0)) (now (args .1 .0)) (args .1 .1 .0) (args .1 .1 .1 .0) (args .1 .1 .1 .1 .0) (record { answer = r₁; rows = now (e₁ .0); pool = now (e₁ .1 .0) }) (record { answer = r₂; rows = now (e₂ .0); pool = now (e₂ .1 .0) }) p q in
+    let d = builds.determined (now (args .0)) (now (args .1 .0)) (args .1 .1 .0) (args .1 .1 .1 .0) (args .1 .1 .1 .1 .0) (args .1 .1 .1 .1 .1 .0 .grade) (record { answer = r₁; rows = now (e₁ .0); pool = now (e₁ .1 .0) }) (record { answer = r₂; rows = now (e₂ .0); pool = now (e₂ .1 .0) }) p q in
     (ap (λ (o : builds.Outcome). o .answer) d, ap (λ (o : builds.Outcome). (o .rows, o .pool)) d)
 
 -- the pool

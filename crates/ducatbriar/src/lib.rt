@@ -81,6 +81,12 @@ pub extern "C" fn ducatbriar_undamaged(pool: &[u64], table: ColumnTrie) -> bool
     column_trie::undamaged(pool, table)
 }
 
+// The kinds of a table's columns, as its header has them: C passes no array by value.
+#[repr(C)]
+pub struct Kinds {
+    pub grade: [bool; ColumnTrie::MAX_ARITY],
+}
+
 #[no_mangle]
 pub extern "C" fn ducatbriar_build(
     rows: &mut [u64],
@@ -88,10 +94,12 @@ pub extern "C" fn ducatbriar_build(
     start: usize,
     arity: usize,
     capacity: usize,
+    kinds: Kinds,
 ) -> Built
-    ensures { λ r. ⌜ Builds (now (rows .entry)) (now (pool .entry)) start arity capacity (now (rows .exit)) (now (pool .exit)) r ⌝ }
+    ensures { λ r. ⌜ Builds (now (rows .entry)) (now (pool .entry)) start arity capacity (kinds .grade) (now (rows .exit)) (now (pool .exit)) r ⌝ }
 {
-    column_trie_build::build(rows, pool, start, arity, capacity)
+    let grade = kinds.grade;
+    column_trie_build::build(rows, pool, start, arity, capacity, grade)
 }
 
 #[no_mangle]

@@ -14,7 +14,7 @@ use Rattle.relation.proofs.Sorting.{asSet-members, asSet-asc}
 use Rattle.relation.proofs.Tables.{layers-count, layers-members, layers-undamaged}
 use Rattle.column_trie.specs.Limits.{maxArity}
 use Rattle.column_trie.specs.Pool.{lay, store}
-use Rattle.column_trie.specs.Table.{headerWith, relengthed, padded, keyCounts, intervalCounts, emptyTable, tableOf}
+use Rattle.column_trie.specs.Table.{relengthed, padded, keyCounts, intervalCounts, refilled}
 use Rattle.column_trie.specs.declared.ColumnTrie.{ColumnTrie}
 use Rattle.column_trie.proofs.Lengths.{keys-at}
 use Rattle.from_sorted.specs.Push.{Pushing, Pushes, Filling, Fills}
@@ -60,16 +60,19 @@ module _ {a : ℕ} {rows : List Row} (w : Width a rows) where
   layers-set : layersOf a rows ≡ layersOf a (asSet rows)
   layers-set = layers-members w width-set (λ q. let v = asSet-members rows q in (v .1, v .0))
 
-  lengths-all : {ks is : List ℕ} (at c : ℕ) → 0 < a → ks ≡ keyCounts (layersOf a rows) → is ≡ intervalCounts (layersOf a rows) → headerWith at a c ks is (getD ks (a - 1) 0) ≡ tableOf at a c (asSet rows)
-  lengths-all {ks} {is} at c h e g =
-      let ls = layersOf a (asSet rows) in
-      let x : ks ≡ keyCounts ls = e ∙ ap keyCounts layers-set in
-      let y : is ≡ intervalCounts ls = g ∙ ap intervalCounts layers-set in
-      let n : getD ks (a - 1) 0 ≡ length (asSet rows) = ap (λ (ns : List ℕ). getD ns (a - 1) 0) x ∙ keys-at ls (a - 1) (omega (arith, layers-count a 0 (asSet rows))) ∙ sym (layers-undamaged (length (asSet rows)) h (asSet-asc rows) width-set (omega arith) .counted) in
-      cc
-
   store-all : (at c : ℕ) (pool : List ℕ) → store at c (layersOf a rows) pool ≡ store at c (layersOf a (asSet rows)) pool
   store-all at c pool = ap (λ (ls : List Layer). store at c ls pool) layers-set
+
+lengths-all :
+    (t : ColumnTrie) {rows : List Row} {ks is : List ℕ} → Width (t .arity) rows → 0 < t .arity → ks ≡ keyCounts (layersOf (t .arity) rows) → is ≡ intervalCounts (layersOf (t .arity) rows) →
+    relengthed t ks is (getD ks (t .arity - 1) 0) ≡ refilled t (asSet rows)
+lengths-all t {rows} {ks} {is} w h e g =
+    let a = t .arity in
+    let ls = layersOf a (asSet rows) in
+    let x : ks ≡ keyCounts ls = e ∙ ap keyCounts (layers-set w) in
+    let y : is ≡ intervalCounts ls = g ∙ ap intervalCounts (layers-set w) in
+    let n : getD ks (a - 1) 0 ≡ length (asSet rows) = ap (λ (ns : List ℕ). getD ns (a - 1) 0) x ∙ keys-at ls (a - 1) (omega (arith, layers-count a 0 (asSet rows))) ∙ sym (layers-undamaged (length (asSet rows)) h (asSet-asc rows) (width-set w) (omega arith) .counted) in
+    cc
 
 -- ---- row by row
 
@@ -151,7 +154,7 @@ module _ {len : ℕ} {t : ColumnTrie} {rows : List Row} (f : Filling len t rows)
       let e : rows ≡ [] = none rows h in
       let k = keys-none (t .arity) (f .few) in
       let i = intervals-none (t .arity) (f .few) in
-      rw e (record { header = f .empty ∙ (let z : emptyTable (t .start) (t .arity) (t .capacity) ≡ tableOf (t .start) (t .arity) (t .capacity) [] = cc in z); words = stored-none (t .start) (t .arity) (t .capacity) pool })
+      rw e (record { header = f .empty ∙ (let z : relengthed t (replicate maxArity 0) (replicate maxArity 0) 0 ≡ refilled t [] = cc in z); words = stored-none (t .start) (t .arity) (t .capacity) pool })
     where
       none : (xs : List Row) → length xs ≡ 0 → xs ≡ []
       none [] h = refl
@@ -161,7 +164,7 @@ module _ {len : ℕ} {t : ColumnTrie} {rows : List Row} (f : Filling len t rows)
   fills-all {pool} {i = i} p g h =
       let e : take i rows ≡ rows = take-all i rows h in
       record {
-        header = lengths-all w (t .start) (t .capacity) (f .positive) (g .keys ∙ ap (λ (rs : List Row). keyCounts (layersOf (t .arity) rs)) e) (g .intervals ∙ ap (λ (rs : List Row). intervalCounts (layersOf (t .arity) rs)) e);
+        header = lengths-all t w (f .positive) (g .keys ∙ ap (λ (rs : List Row). keyCounts (layersOf (t .arity) rs)) e) (g .intervals ∙ ap (λ (rs : List Row). intervalCounts (layersOf (t .arity) rs)) e);
         words =
             g .words pool (p .words pool (stored-none (t .start) (t .arity) (t .capacity) pool))
             ∙ ap (λ (rs : List Row). store (t .start) (t .capacity) (layersOf (t .arity) rs) pool) e

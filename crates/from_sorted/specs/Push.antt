@@ -2,13 +2,13 @@
 use Prim.Native.Nat.{ℕ, suc, _+_, _*_, _≤_, _<_}
 use mathlib.Core.Path.{_≡_}
 use mathlib.Core.List.{List, [], _∷_, _++_}
-use lib.ListN.{length, take, getD, set}
+use lib.ListN.{length, take, getD, set, replicate}
 use Rattle.relation.specs.Order.{Row}
 use Rattle.relation.specs.Rows.{Sorted, Width, asSet}
 use Rattle.relation.specs.Layers.{Layer, layer, layersOf}
 use Rattle.column_trie.specs.Limits.{maxArity, maxCapacity}
 use Rattle.column_trie.specs.Pool.{store}
-use Rattle.column_trie.specs.Table.{keyCounts, intervalCounts, emptyTable, tableOf}
+use Rattle.column_trie.specs.Table.{relengthed, keyCounts, intervalCounts, refilled}
 use Rattle.column_trie.specs.declared.ColumnTrie.{ColumnTrie}
 
 -- one word more at the end of the list that lies at `at` of the pool and whose length is entry d of `lens`
@@ -58,9 +58,9 @@ pub record Filling (len : ℕ) (t : ColumnTrie) (rows : List Row) : Type 0 where
   pub fits : t .start + 2 * t .arity * t .capacity ≤ len
   pub room : length rows ≤ t .capacity
   pub sorted : Sorted rows
-  pub empty : t ≡ emptyTable (t .start) (t .arity) (t .capacity)
+  pub empty : t ≡ relengthed t (replicate maxArity 0) (replicate maxArity 0) 0
 
--- the table holds the set of the rows
+-- the table holds the set of the rows, its columns are of the kinds that they were
 pub record Fills (pool : List ℕ) (t : ColumnTrie) (rows : List Row) (pool′ : List ℕ) (r : ColumnTrie) : Type 0 where
-  pub header : r ≡ tableOf (t .start) (t .arity) (t .capacity) (asSet rows)
+  pub header : r ≡ refilled t (asSet rows)
   pub words : pool′ ≡ store (t .start) (t .capacity) (layersOf (t .arity) (asSet rows)) pool

@@ -98,6 +98,7 @@ pub fn from_sorted(pool: &mut [u64], t: ColumnTrie, rows: &[u64]) -> ColumnTrie
     }
     // a stored row has a key of its own in the last layer
     let tuple_count = data_len[arity - 1];
+    let grade = t.grade;
     ColumnTrie {
         start: t.start,
         arity,
@@ -105,5 +106,6 @@ pub fn from_sorted(pool: &mut [u64], t: ColumnTrie, rows: &[u64]) -> ColumnTrie
         data_len,
         interval_len,
         tuple_count,
+        grade,
     }
 }

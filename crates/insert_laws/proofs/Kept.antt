@@ -14,7 +14,7 @@ use Rattle.relation.specs.Layers.{layersOf}
 use Rattle.relation.proofs.Tests.{and-left, and-right}
 use Rattle.relation.proofs.Tables.{layers-count, layers-undamaged}
 use Rattle.column_trie.specs.Pool.{store}
-use Rattle.column_trie.specs.Table.{tableOf, rowsIn}
+use Rattle.column_trie.specs.Table.{refilled, rowsIn}
 use Rattle.column_trie.specs.Kept.{Kept}
 use Rattle.column_trie.specs.declared.ColumnTrie.{ColumnTrie}
 use Rattle.column_trie.proofs.Kept.{stored-kept, unchanged-kept}
@@ -43,8 +43,8 @@ insert-keeps-every-other-word {pool} {pool′} {t} {tuple} {r} s = go (takesIn p
     words : (b : Bool) → takesIn pool t tuple ≡ b → pool′ ≡ pick b (store (t .start) (t .capacity) (layersOf (t .arity) rows) pool) pool
     words b e = s .words ∙ ap (λ (x : Bool). pick x (store (t .start) (t .capacity) (layersOf (t .arity) rows) pool) pool) e
 
-    table : takesIn pool t tuple ≡ true → r .table ≡ tableOf (t .start) (t .arity) (t .capacity) rows
-    table e = s .table ∙ ap (λ (x : Bool). pick x (tableOf (t .start) (t .arity) (t .capacity) rows) t) e
+    table : takesIn pool t tuple ≡ true → r .table ≡ refilled t rows
+    table e = s .table ∙ ap (λ (x : Bool). pick x (refilled t rows) t) e
 
     go : (b : Bool) → takesIn pool t tuple ≡ b → Kept pool pool′ (r .table)
     go true e =
@@ -53,5 +53,5 @@ insert-keeps-every-other-word {pool} {pool′} {t} {tuple} {r} s = go (takesIn p
         let n = layers-count (t .arity) 0 rows in
         let v = layers-undamaged (t .capacity) (u .arity .0) (f .asc) (f .width) (f .room) in
         subst₂ (Kept pool) (sym (words true e)) (sym (table e))
-        (stored-kept (t .start) (t .arity) (t .capacity) (layersOf (t .arity) rows) (length rows) pool n (u .arity .1) (λ d h. v .room d (omega arith)))
+        (stored-kept (t .start) (t .arity) (t .capacity) (t .grade) (layersOf (t .arity) rows) (length rows) pool n (u .arity .1) (λ d h. v .room d (omega arith)))
     go false e = subst (λ (p : List ℕ). Kept pool p (r .table)) (sym (words false e)) (unchanged-kept pool (r .table))

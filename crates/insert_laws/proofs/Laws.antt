@@ -19,7 +19,7 @@ use Rattle.relation.proofs.Sorting.{put-asc, put-known, asSet-cong}
 use Rattle.relation.proofs.Insert.{insert-count, put-width}
 use Rattle.relation.proofs.Tables.{layers-count, every-undamaged-table-is-what-a-build-of-its-own-rows-leaves}
 use Rattle.column_trie.specs.Pool.{store}
-use Rattle.column_trie.specs.Table.{tableOf, layersIn, rowsIn, Undamaged, undamaged}
+use Rattle.column_trie.specs.Table.{tableOf, refilled, layersIn, rowsIn, Undamaged, undamaged}
 use Rattle.column_trie.specs.declared.ColumnTrie.{ColumnTrie}
 use Rattle.column_trie.proofs.Layers.{Whole}
 use Rattle.column_trie.proofs.Damage.{undamaged-told}
@@ -57,16 +57,16 @@ accepted pool t tuple e = go (undamaged pool t) (eqb (length tuple) (t .arity)) 
     go true false p q z = absurd (omega arith)
     go false l p q z = absurd (omega arith)
 
--- The table of these rows, at this start, of this arity and capacity: undamaged, with their layers and their header, and they are read back.
-pub record Table (start arity capacity : ℕ) (rows : List Row) (pool : List ℕ) (t : ColumnTrie) : Type 0 where
+-- The table of these rows, at this start, of this arity, capacity and kinds: undamaged, with their layers and their header, and they are read back.
+pub record Table (start arity capacity : ℕ) (kinds : List Bool) (rows : List Row) (pool : List ℕ) (t : ColumnTrie) : Type 0 where
   pub whole : Whole t
   pub undamaged : Undamaged pool t
   pub rows-are : rowsIn pool t ≡ rows
   pub layers-are : layersIn pool t ≡ layersOf arity rows
-  pub header-is : t ≡ tableOf start arity capacity rows
+  pub header-is : t ≡ tableOf start arity capacity kinds rows
 
 -- an undamaged table is that of its rows
-pub table-of : {pool : List ℕ} {t : ColumnTrie} {rows : List Row} → Whole t → Undamaged pool t → rowsIn pool t ≡ rows → Table (t .start) (t .arity) (t .capacity) rows pool t
+pub table-of : {pool : List ℕ} {t : ColumnTrie} {rows : List Row} → Whole t → Undamaged pool t → rowsIn pool t ≡ rows → Table (t .start) (t .arity) (t .capacity) (t .grade) rows pool t
 table-of {pool} {t} {rows} o u e =
     let h = holds o u in
     record {
@@ -74,7 +74,7 @@ table-of {pool} {t} {rows} o u e =
       undamaged = u;
       rows-are = e;
       layers-are = h .layers ∙ ap (layersOf (t .arity)) e;
-      header-is = h .table ∙ ap (tableOf (t .start) (t .arity) (t .capacity)) e;
+      header-is = h .table ∙ ap (refilled t) e;
     }
 
 -- An accepted tuple that is new fits: the layers of the old rows and the new one are undamaged within the capacity.
@@ -114,8 +114,8 @@ module _ {pool pool′ : List ℕ} {t : ColumnTrie} {tuple : Row} {r : Inserted}
   same-rows : known (rowsIn pool t) tuple ≡ true → put tuple (rowsIn pool t) ≡ rowsIn pool t
   same-rows e = put-known (holds o undamaged-before .asc) (known-in (rowsIn pool t) tuple e)
 
-  left-table : (k : Bool) → known (rowsIn pool t) tuple ≡ k → r .table ≡ pick (not k) (tableOf (t .start) (t .arity) (t .capacity) (put tuple (rowsIn pool t))) t
-  left-table k e = s .table ∙ ap (λ (b : Bool). pick b (tableOf (t .start) (t .arity) (t .capacity) (put tuple (rowsIn pool t))) t) (takes-by pool t tuple zero-number k e)
+  left-table : (k : Bool) → known (rowsIn pool t) tuple ≡ k → r .table ≡ pick (not k) (refilled t (put tuple (rowsIn pool t))) t
+  left-table k e = s .table ∙ ap (λ (b : Bool). pick b (refilled t (put tuple (rowsIn pool t))) t) (takes-by pool t tuple zero-number k e)
 
   left-pool : (k : Bool) → known (rowsIn pool t) tuple ≡ k → pool′ ≡ pick (not k) (store (t .start) (t .capacity) (layersOf (t .arity) (put tuple (rowsIn pool t))) pool) pool
   left-pool k e =
@@ -130,22 +130,22 @@ module _ {pool pool′ : List ℕ} {t : ColumnTrie} {tuple : Row} {r : Inserted}
           ∙ ap (λ (rows : List Row). store (t .start) (t .capacity) (layersOf (t .arity) rows) pool) (sym (same-rows e))
       go false e = left-pool false e
 
-  pub insert-leaves-the-layers-of-the-set-of-the-old-rows-and-the-new-one : Table (t .start) (t .arity) (t .capacity) (put tuple (rowsIn pool t)) pool′ (r .table)
+  pub insert-leaves-the-layers-of-the-set-of-the-old-rows-and-the-new-one : Table (t .start) (t .arity) (t .capacity) (t .grade) (put tuple (rowsIn pool t)) pool′ (r .table)
   insert-leaves-the-layers-of-the-set-of-the-old-rows-and-the-new-one = go (known (rowsIn pool t) tuple) refl
     where
       rows : List Row
       rows = put tuple (rowsIn pool t)
 
       Left : List ℕ → ColumnTrie → Type 0
-      Left = Table (t .start) (t .arity) (t .capacity) rows
+      Left = Table (t .start) (t .arity) (t .capacity) (t .grade) rows
 
       go : (k : Bool) → known (rowsIn pool t) tuple ≡ k → Left pool′ (r .table)
       go true e = subst₂ Left (sym (left-pool true e)) (sym (left-table true e)) (table-of o undamaged-before (sym (same-rows e)))
       go false e =
           let f = new-fits pool t tuple zero-number e in
           let u = f .undamaged in
-          let k = stored (t .start) (t .arity) (t .capacity) rows pool (u .arity .0) (u .arity .1) (u .capacity .0) (u .capacity .1) (u .fits) (f .asc) (f .width) (f .room) in
-          let w = header-whole (t .start) (t .arity) (t .capacity) (layersOf (t .arity) rows) (length rows) (layers-count (t .arity) 0 rows) (u .arity .1) in
+          let k = stored (t .start) (t .arity) (t .capacity) (t .grade) rows pool (u .arity .0) (u .arity .1) (u .capacity .0) (u .capacity .1) (u .fits) (u .plain) (f .asc) (f .width) (f .room) in
+          let w = header-whole (t .start) (t .arity) (t .capacity) (t .grade) (layersOf (t .arity) rows) (length rows) (layers-count (t .arity) 0 rows) (u .arity .1) in
           subst₂ Left (sym (left-pool false e)) (sym (left-table false e)) (table-of w (k .undamaged) (k .rows-back))
 
 -- tuples inserted one after another, each accepted, nothing else between
@@ -162,12 +162,27 @@ moved x xs ys q = (
 
 -- they leave the layers of the set of all rows given: those that the table held, which a build put there, and those inserted
 pub inserts-leave-the-set-of-all-rows-given :
-    {start arity capacity : ℕ} {pool pool₂ : List ℕ} {t t₂ : ColumnTrie} {tuples : List Row} (given : List Row) → Table start arity capacity (asSet given) pool t → Inserted-all pool t tuples pool₂ t₂ →
-    Table start arity capacity (asSet (tuples ++ given)) pool₂ t₂
+    {start arity capacity : ℕ} {kinds : List Bool} {pool pool₂ : List ℕ} {t t₂ : ColumnTrie} {tuples : List Row} (given : List Row) → Table start arity capacity kinds (asSet given) pool t → Inserted-all pool t tuples pool₂ t₂ →
+    Table start arity capacity kinds (asSet (tuples ++ given)) pool₂ t₂
 unfolding asSet
 inserts-leave-the-set-of-all-rows-given given h no-more = h
-inserts-leave-the-set-of-all-rows-given {start} {arity} {capacity} {pool} {pool₂} {t} {t₂} given h (one-more {pool₁ = pool₁} {tuple = tuple} {tuples = tuples} {r = r} s z rest) =
+inserts-leave-the-set-of-all-rows-given {start} {arity} {capacity} {kinds} {pool} {pool₂} {t} {t₂} given h (one-more {pool₁ = pool₁} {tuple = tuple} {tuples = tuples} {r = r} s z rest) =
     let k = insert-leaves-the-layers-of-the-set-of-the-old-rows-and-the-new-one (h .whole) s z in
-    let m = subst₂ (λ (x : ColumnTrie) (rows : List Row). Table (x .start) (x .arity) (x .capacity) (put tuple rows) pool₁ (r .table)) (h .header-is) (h .rows-are) k in
-    subst (λ (rows : List Row). Table start arity capacity rows pool₂ t₂) (asSet-cong (tuples ++ (tuple ∷ given)) ((tuple ∷ tuples) ++ given) (moved tuple tuples given))
+    let m = subst₂ (λ (x : ColumnTrie) (rows : List Row). Table (x .start) (x .arity) (x .capacity) (x .grade) (put tuple rows) pool₁ (r .table)) (h .header-is) (h .rows-are) k in
+    subst (λ (rows : List Row). Table start arity capacity kinds rows pool₂ t₂) (asSet-cong (tuples ++ (tuple ∷ given)) ((tuple ∷ tuples) ++ given) (moved tuple tuples given))
     (inserts-leave-the-set-of-all-rows-given (tuple ∷ given) m rest)
+
+-- ---- the kinds
+
+-- "insert keeps them": accepted or refused
+pub an-insert-keeps-the-kinds : {pool pool′ : List ℕ} {t : ColumnTrie} {tuple : Row} {r : Inserted} → Inserts pool pool′ t tuple r → r .table .grade ≡ t .grade
+an-insert-keeps-the-kinds {pool} {t = t} {tuple} s =
+    ap (λ (x : ColumnTrie). x .grade) (s .table) ∙ go (takesIn pool t tuple)
+  where
+    go : (b : Bool) → pick b (refilled t (put tuple (rowsIn pool t))) t .grade ≡ t .grade
+    go true = refl
+    go false = refl
+
+pub any-sequence-of-inserts-keeps-the-kinds : {pool pool₂ : List ℕ} {t t₂ : ColumnTrie} {tuples : List Row} → Inserted-all pool t tuples pool₂ t₂ → t₂ .grade ≡ t .grade
+any-sequence-of-inserts-keeps-the-kinds no-more = refl
+any-sequence-of-inserts-keeps-the-kinds (one-more s z rest) = any-sequence-of-inserts-keeps-the-kinds rest ∙ an-insert-keeps-the-kinds s

@@ -10,7 +10,7 @@ use Rattle.relation.specs.Rows.{put}
 use Rattle.relation.specs.Layers.{layersOf}
 use Rattle.relation.proofs.Tables.{every-undamaged-table-is-what-a-build-of-its-own-rows-leaves}
 use Rattle.column_trie.specs.Pool.{store}
-use Rattle.column_trie.specs.Table.{tableOf, rowsIn, Undamaged}
+use Rattle.column_trie.specs.Table.{refilled, rowsIn, Undamaged}
 use Rattle.column_trie.specs.declared.ColumnTrie.{ColumnTrie}
 use Rattle.column_trie_insert.specs.declared.Inserted.{Inserted}
 use Rattle.column_trie_insert.specs.Insert.{takesIn, Inserts}
@@ -31,7 +31,7 @@ module _ {pool pool′ : List ℕ} {t : ColumnTrie} {tuple : Row} {r : Inserted}
       go false e =
           record {
             not-new = s .is-new ∙ e;
-            table = s .table ∙ ap (λ (b : Bool). pick b (tableOf (t .start) (t .arity) (t .capacity) (put tuple (rowsIn pool t))) t) e;
+            table = s .table ∙ ap (λ (b : Bool). pick b (refilled t (put tuple (rowsIn pool t))) t) e;
             words = s .words ∙ ap (λ (b : Bool). pick b (store (t .start) (t .capacity) (layersOf (t .arity) (put tuple (rowsIn pool t))) pool) pool) e;
           }
 

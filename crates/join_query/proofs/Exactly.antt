@@ -1,10 +1,10 @@
--- Each number of the checks is given exactly when document 01 says: from the facts of a query, and not from the tests that the code makes. A test too strict
+-- Each number of the checks is given exactly when documents 01 and 02 say: from the facts of a query, and not from the tests that the code makes. A test too strict
 -- or too lax would be refused here. What `join` answers crates/demand_3 says from these.
 use Prim.Native.Nat.{ℕ, zero, suc, _<_}
 use native.Mathlib.Omega.{arith}
 use mathlib.Core.Path.{_≡_, refl, sym, subst, ap, _∙_}
-use mathlib.Core.Bool.{Bool, true, false, _&&_}
-use mathlib.Core.Logic.{_⊎_, inl, inr}
+use mathlib.Core.Bool.{Bool, true, false, _&&_, _||_, not, Bool·beq}
+use mathlib.Core.Logic.{_⊎_, inl, inr, ⊎-elim}
 use mathlib.Core.List.{List, Memᴰ·map, Memᴰ·of-map}
 use lib.ListN.{length}
 use lib.Seq.{getD-take, length-take-le}
@@ -14,7 +14,7 @@ use Rattle.relation.specs.Order.{pick}
 use Rattle.relation.specs.Lists.{_∈_}
 use Rattle.relation.specs.Exactly.{Exactly}
 use Rattle.relation.specs.Tests as index
-use Rattle.relation.proofs.Tests.{and-true, every-at, every-all}
+use Rattle.relation.proofs.Tests.{and-true, not-both, every-at, every-all}
 use Rattle.relation.proofs.Sequence.{exactly-then, exactly-same, turned, here, later, neither}
 use Rattle.query.specs.Meaning.{follows}
 use Rattle.query.specs.Checks.{permutes, listed, covers}
@@ -24,15 +24,17 @@ use Rattle.query.proofs.Meet.{getD-in, in-getD}
 use Rattle.query.proofs.Checks.{true-permutes, listed-is, follows-sublist, sublist-follows, some-in, covers-true, true-covers}
 use Rattle.query.proofs.Solved.{follow-in}
 use Rattle.column_trie.specs.Limits.{maxArity}
+use Rattle.column_trie.specs.Table.{gradeAt}
+use Rattle.column_trie.specs.declared.ColumnTrie.{ColumnTrie}
 use Rattle.column_trie.proofs.Damage.{undamaged-told, told-undamaged}
 use Rattle.query.specs.Limits.{maxAtoms}
-use Rattle.join_query.specs.Query.{maxTables, maxVariables, noAtom, atomAt, tableAt, orderOf, varsOf, atomsIn, listsOf, orderOk, namedOk, listedAt, listOk, named, soundAt, joinNumber}
-use Rattle.join_query.specs.Facts.{Typed, Ordered, Named, Follows, AllFollow, Covered, SoundTables, Passing}
+use Rattle.join_query.specs.Query.{maxTables, maxVariables, noAtom, atomAt, tableAt, atomTable, orderOf, varsOf, varAt, atomsIn, listsOf, orderOk, namedOk, listedAt, listOk, columnOk, columnsOk, bindsOnly, oneKind, named, soundAt, joinNumber}
+use Rattle.join_query.specs.Facts.{Typed, Ordered, Named, Follows, AllFollow, Covered, HasColumn, SameKinds, SoundTables, Passing}
 use Rattle.join_query.specs.Outcome.{answered}
 use Rattle.join_query.specs.declared.Atom.{Atom}
 use Rattle.join_query.specs.declared.Query.{Query}
 use Rattle.join_query.specs.declared.Tables.{Tables}
-use Rattle.join_query.proofs.Lists.{order-told, named-told, listed-told, named-at, sound-named, sound-unnamed}
+use Rattle.join_query.proofs.Lists.{order-told, named-told, listed-told, named-at, sound-named, sound-unnamed, plain-alone, grades-alone}
 
 -- ---- each test decides its fact, where the facts before it hold
 
@@ -77,6 +79,42 @@ list-decides q a arity o whole = (tells, back)
         (listed-is (o .permutation) arity (varsOf a)
         ∙ and-true (eqb (length (varsOf a)) arity) (follows (orderOf q) (varsOf a)) (eq-eqb (length (varsOf a)) arity long) (sublist-follows (orderOf q) (varsOf a) (f .strictly)))
 
+same-decides : (a b : Bool) → Exactly (Bool·beq a b ≡ true) (a ≡ b)
+same-decides true true = (λ e. refl, λ e. refl)
+same-decides true false = (λ e. sym e, λ e. sym e)
+same-decides false true = (λ e. e, λ e. e)
+same-decides false false = (λ e. refl, λ e. refl)
+
+either : (a b : Bool) → (a || b) ≡ true → (a ≡ true) ⊎ (b ≡ true)
+either true b e = inl refl
+either false b e = inr e
+
+column-decides : (t : ColumnTrie) (a : Atom) (v : ℕ) (grade : Bool) (j : ℕ) → Exactly (columnOk t a v grade j ≡ true) (varAt a j ≡ v → gradeAt t j ≡ grade)
+column-decides t a v grade j = (
+  λ e d. same-decides (gradeAt t j) grade .0 (sym (ap (λ (b : Bool). not b || Bool·beq (gradeAt t j) grade) (eq-eqb (varAt a j) v d)) ∙ e),
+  λ f. back f (eqb (varAt a j) v) refl,
+)
+  where
+    back : (varAt a j ≡ v → gradeAt t j ≡ grade) → (b : Bool) → eqb (varAt a j) v ≡ b → (not b || Bool·beq (gradeAt t j) grade) ≡ true
+    back f true e = same-decides (gradeAt t j) grade .1 (f (eqb-true (varAt a j) v e))
+    back f false e = refl
+
+-- every column that v binds is of this kind
+abbrev Only : Tables → Query → ℕ → Bool → Type 0
+Only ts q v grade = (i j : ℕ) → HasColumn q i j → varAt (atomAt q i) j ≡ v → gradeAt (atomTable ts q i) j ≡ grade
+
+only-decides : (ts : Tables) (q : Query) (v : ℕ) (grade : Bool) → Exactly (bindsOnly ts q v grade ≡ true) (Only ts q v grade)
+only-decides ts q v grade = (
+  λ e i j c. column i j .0 (every-at (test i) (atomAt q i .len) (every-at (columnsOk ts q v grade) (q .«atom_count») e i (c .atom)) j (c .place)),
+  λ f. every-all (columnsOk ts q v grade) (q .«atom_count») (λ i h. every-all (test i) (atomAt q i .len) (λ j k. column i j .1 (f i j (record { atom = h; place = k })))),
+)
+  where
+    test : ℕ → ℕ → Bool
+    test i = columnOk (atomTable ts q i) (atomAt q i) v grade
+
+    column : (i j : ℕ) → Exactly (test i j ≡ true) (varAt (atomAt q i) j ≡ v → gradeAt (atomTable ts q i) j ≡ grade)
+    column i j = column-decides (atomTable ts q i) (atomAt q i) v grade j
+
 module _ (q : Query) (y : Typed q) where
   lists-decide : (ts : Tables) → Ordered q → Named (ts .count) q → Exactly (index.every (q .«atom_count») (listOk ts q) ≡ true) (AllFollow ts q)
   lists-decide ts o n = (
@@ -111,6 +149,31 @@ module _ (q : Query) (y : Typed q) where
       λ f. true-covers (q .n) (listsOf q) (λ x h. let t = f x h in (varsOf (atomAt q (t .0)), Memᴰ·map varsOf (atom-in (t .0) (t .1)), t .2)),
     )
 
+    -- the variables of a list stand below n
+    variable-below : (ts : Tables) → AllFollow ts q → {i j : ℕ} → HasColumn q i j → varAt (atomAt q i) j < q .n
+    variable-below ts f {i} {j} c =
+        let a = atomAt q i in
+        let long : length (varsOf a) ≡ a .len = length-take-le (a .len) (a .variables) (omega (arith, y .variables i (omega (arith, c .atom, n .few)), f i (c .atom) .short)) in
+        f i (c .atom) .below (varAt (atomAt q i) j) (subst (λ (x : ℕ). x ∈ varsOf a) (getD-take (a .len) (a .variables) j 0 (c .place)) (getD-in (varsOf a) j 0 (omega (arith, long, c .place))))
+
+    kinds-decide : (ts : Tables) → AllFollow ts q → Exactly (index.every (q .n) (oneKind ts q) ≡ true) (SameKinds ts q)
+    kinds-decide ts f = (
+      λ e i j k l c d same.
+          let v = varAt (atomAt q i) j in
+          let one : (grade : Bool) → bindsOnly ts q v grade ≡ true → gradeAt (atomTable ts q i) j ≡ gradeAt (atomTable ts q k) l = λ grade b. only-decides ts q v grade .0 b i j c refl ∙ sym (only-decides ts q v grade .0 b k l d (sym same)) in
+          ⊎-elim (one false) (one true) (either (bindsOnly ts q v false) (bindsOnly ts q v true) (every-at (oneKind ts q) (q .n) e v (variable-below ts f c))),
+      λ s. every-all (oneKind ts q) (q .n) (λ v h. one-kind s v (bindsOnly ts q v false) refl),
+    )
+      where
+        one-kind : SameKinds ts q → (v : ℕ) (b : Bool) → bindsOnly ts q v false ≡ b → oneKind ts q v ≡ true
+        one-kind s v true e = plain-alone ts q v e
+        one-kind s v false e = grades-alone ts q v (only-decides ts q v true .1 (λ i j c d. grade i j c d (gradeAt (atomTable ts q i) j) refl))
+          where
+            -- a plain one would make all plain
+            grade : (i j : ℕ) → HasColumn q i j → varAt (atomAt q i) j ≡ v → (g : Bool) → gradeAt (atomTable ts q i) j ≡ g → g ≡ true
+            grade i j c d true p = refl
+            grade i j c d false p = not-both (bindsOnly ts q v false) (only-decides ts q v false .1 (λ k l o m. s k l i j o c (m ∙ sym d) ∙ p)) e
+
   module _ (pool : List ℕ) (ts : Tables) (n : Named (ts .count) q) where
     tables-decide : Exactly (index.every (ts .count) (soundAt pool ts q) ≡ true) (SoundTables pool ts q)
     unfolding named
@@ -139,8 +202,11 @@ module _ (pool : List ℕ) (ts : Tables) (q : Query) (y : Typed q) where
   abbrev last : ℕ
   last = pick (index.every (ts .count) (soundAt pool ts q)) 0 6
 
+  abbrev fifth : ℕ
+  fifth = pick (index.every (q .n) (oneKind ts q)) last 15
+
   abbrev fourth : ℕ
-  fourth = pick (covers (q .n) (listsOf q)) last 11
+  fourth = pick (covers (q .n) (listsOf q)) fifth 11
 
   abbrev third : ℕ
   third = pick (index.every (q .«atom_count») (listOk ts q)) fourth 10
@@ -156,18 +222,21 @@ module _ (pool : List ℕ) (ts : Tables) (q : Query) (y : Typed q) where
   last-not : (k : ℕ) → 6 < k → last ≡ k → ⊥
   last-not k h = neither (index.every (ts .count) (soundAt pool ts q)) 6 0 k (λ e. omega arith) (λ e. omega arith)
 
-  fourth-not : (k : ℕ) → 6 < k → (11 ≡ k → ⊥) → fourth ≡ k → ⊥
-  fourth-not k h f = neither (covers (q .n) (listsOf q)) 11 last k f (last-not k h)
+  fifth-not : (k : ℕ) → 6 < k → k < 15 → fifth ≡ k → ⊥
+  fifth-not k h b = neither (index.every (q .n) (oneKind ts q)) 15 last k (λ e. omega arith) (last-not k h)
 
-  third-not : (k : ℕ) → 6 < k → (11 ≡ k → ⊥) → (10 ≡ k → ⊥) → third ≡ k → ⊥
-  third-not k h f g = neither (index.every (q .«atom_count») (listOk ts q)) 10 fourth k g (fourth-not k h f)
+  fourth-not : (k : ℕ) → 6 < k → k < 15 → (11 ≡ k → ⊥) → fourth ≡ k → ⊥
+  fourth-not k h b f = neither (covers (q .n) (listsOf q)) 11 fifth k f (fifth-not k h b)
 
-  second-not : (k : ℕ) → 6 < k → (11 ≡ k → ⊥) → (10 ≡ k → ⊥) → (9 ≡ k → ⊥) → second ≡ k → ⊥
-  second-not k h f g n = neither (namedOk (ts .count) q) 9 third k n (third-not k h f g)
+  third-not : (k : ℕ) → 6 < k → k < 15 → (11 ≡ k → ⊥) → (10 ≡ k → ⊥) → third ≡ k → ⊥
+  third-not k h b f g = neither (index.every (q .«atom_count») (listOk ts q)) 10 fourth k g (fourth-not k h b f)
+
+  second-not : (k : ℕ) → 6 < k → k < 15 → (11 ≡ k → ⊥) → (10 ≡ k → ⊥) → (9 ≡ k → ⊥) → second ≡ k → ⊥
+  second-not k h b f g n = neither (namedOk (ts .count) q) 9 third k n (third-not k h b f g)
 
   pub not-12 : joinNumber pool ts q ≡ 12 → ⊥
   not-12 e =
-      neither (orderOk q) 8 second 12 (λ d. omega arith) (second-not 12 (omega arith) (λ d. omega arith) (λ d. omega arith) (λ d. omega arith)) (sym in-sequence ∙ e)
+      neither (orderOk q) 8 second 12 (λ d. omega arith) (second-not 12 (omega arith) (omega arith) (λ d. omega arith) (λ d. omega arith) (λ d. omega arith)) (sym in-sequence ∙ e)
 
   -- past a check
   past-order : (k : ℕ) {Q : Type 0} → (8 ≡ k → ⊥) → (Ordered q → Exactly (second ≡ k) Q) → Exactly (number ≡ k) (Ordered q × Q)
@@ -180,41 +249,49 @@ module _ (pool : List ℕ) (ts : Tables) (q : Query) (y : Typed q) where
     past-lists : (k : ℕ) {Q : Type 0} → (10 ≡ k → ⊥) → (AllFollow ts q → Exactly (fourth ≡ k) Q) → Exactly (third ≡ k) (AllFollow ts q × Q)
     past-lists k f g = later (index.every (q .«atom_count») (listOk ts q)) (lists-decide q y ts o n) 10 fourth k f g
 
-    past-covering : (k : ℕ) {Q : Type 0} → (11 ≡ k → ⊥) → (Covered q → Exactly (last ≡ k) Q) → Exactly (fourth ≡ k) (Covered q × Q)
-    past-covering k f g = later (covers (q .n) (listsOf q)) (covering-decides q y n) 11 last k f g
+    past-covering : (k : ℕ) {Q : Type 0} → (11 ≡ k → ⊥) → (Covered q → Exactly (fifth ≡ k) Q) → Exactly (fourth ≡ k) (Covered q × Q)
+    past-covering k f g = later (covers (q .n) (listsOf q)) (covering-decides q y n) 11 fifth k f g
+
+    past-kinds : AllFollow ts q → (k : ℕ) {Q : Type 0} → (15 ≡ k → ⊥) → (SameKinds ts q → Exactly (last ≡ k) Q) → Exactly (fifth ≡ k) (SameKinds ts q × Q)
+    past-kinds l k f g = later (index.every (q .n) (oneKind ts q)) (kinds-decide q y n ts l) 15 last k f g
 
   pub checks-8 : Exactly (joinNumber pool ts q ≡ 8) (Ordered q → ⊥)
   checks-8 =
       exactly-then (exactly-same in-sequence)
-      (here (orderOk q) (order-decides q) 8 second (second-not 8 (omega arith) (λ e. omega arith) (λ e. omega arith) (λ e. omega arith)))
+      (here (orderOk q) (order-decides q) 8 second (second-not 8 (omega arith) (omega arith) (λ e. omega arith) (λ e. omega arith) (λ e. omega arith)))
 
   pub checks-9 : Exactly (joinNumber pool ts q ≡ 9) (Ordered q × (Named (ts .count) q → ⊥))
   checks-9 =
       past-order 9 (λ e. omega arith) λ o.
-      here (namedOk (ts .count) q) (names-decide (ts .count) q) 9 third (third-not 9 (omega arith) (λ e. omega arith) (λ e. omega arith))
+      here (namedOk (ts .count) q) (names-decide (ts .count) q) 9 third (third-not 9 (omega arith) (omega arith) (λ e. omega arith) (λ e. omega arith))
 
   pub checks-10 : Exactly (joinNumber pool ts q ≡ 10) (Ordered q × (Named (ts .count) q × (AllFollow ts q → ⊥)))
   checks-10 =
       past-order 10 (λ e. omega arith) λ o. past-names 10 (λ e. omega arith) λ n.
-      here (index.every (q .«atom_count») (listOk ts q)) (lists-decide q y ts o n) 10 fourth (fourth-not 10 (omega arith) (λ e. omega arith))
+      here (index.every (q .«atom_count») (listOk ts q)) (lists-decide q y ts o n) 10 fourth (fourth-not 10 (omega arith) (omega arith) (λ e. omega arith))
 
   pub checks-11 : Exactly (joinNumber pool ts q ≡ 11) (Ordered q × (Named (ts .count) q × (AllFollow ts q × (Covered q → ⊥))))
   checks-11 =
       past-order 11 (λ e. omega arith) λ o. past-names 11 (λ e. omega arith) λ n. past-lists o n 11 (λ e. omega arith) λ f.
-      here (covers (q .n) (listsOf q)) (covering-decides q y n) 11 last (last-not 11 (omega arith))
+      here (covers (q .n) (listsOf q)) (covering-decides q y n) 11 fifth (fifth-not 11 (omega arith) (omega arith))
 
-  pub checks-6 : Exactly (joinNumber pool ts q ≡ 6) (Ordered q × (Named (ts .count) q × (AllFollow ts q × (Covered q × (SoundTables pool ts q → ⊥)))))
+  pub checks-15 : Exactly (joinNumber pool ts q ≡ 15) (Ordered q × (Named (ts .count) q × (AllFollow ts q × (Covered q × (SameKinds ts q → ⊥)))))
+  checks-15 =
+      past-order 15 (λ e. omega arith) λ o. past-names 15 (λ e. omega arith) λ n. past-lists o n 15 (λ e. omega arith) λ f. past-covering o n 15 (λ e. omega arith) λ c.
+      here (index.every (q .n) (oneKind ts q)) (kinds-decide q y n ts f) 15 last (last-not 15 (omega arith))
+
+  pub checks-6 : Exactly (joinNumber pool ts q ≡ 6) (Ordered q × (Named (ts .count) q × (AllFollow ts q × (Covered q × (SameKinds ts q × (SoundTables pool ts q → ⊥))))))
   checks-6 =
-      past-order 6 (λ e. omega arith) λ o. past-names 6 (λ e. omega arith) λ n. past-lists o n 6 (λ e. omega arith) λ f. past-covering o n 6 (λ e. omega arith) λ c.
+      past-order 6 (λ e. omega arith) λ o. past-names 6 (λ e. omega arith) λ n. past-lists o n 6 (λ e. omega arith) λ f. past-covering o n 6 (λ e. omega arith) λ c. past-kinds o n f 6 (λ e. omega arith) λ k.
       here (index.every (ts .count) (soundAt pool ts q)) (tables-decide q y pool ts n) 6 0 (λ e. omega arith)
 
   pub checks-0 : Exactly (joinNumber pool ts q ≡ 0) (Passing pool ts q)
   checks-0 =
       exactly-then
-      (past-order 0 (λ e. omega arith) λ o. past-names 0 (λ e. omega arith) λ n. past-lists o n 0 (λ e. omega arith) λ f. past-covering o n 0 (λ e. omega arith) λ c.
+      (past-order 0 (λ e. omega arith) λ o. past-names 0 (λ e. omega arith) λ n. past-lists o n 0 (λ e. omega arith) λ f. past-covering o n 0 (λ e. omega arith) λ c. past-kinds o n f 0 (λ e. omega arith) λ k.
       later (index.every (ts .count) (soundAt pool ts q)) (tables-decide q y pool ts n) 6 0 0 (λ e. omega arith) (λ s. exactly-same refl)) (
-        λ t. record { ordered = t .0; named = t .1 .0; follow = t .1 .1 .0; covered = t .1 .1 .1 .0; sound = t .1 .1 .1 .1 .0 },
-        λ p. (p .ordered, (p .named, (p .follow, (p .covered, (p .sound, refl))))),
+        λ t. record { ordered = t .0; named = t .1 .0; follow = t .1 .1 .0; covered = t .1 .1 .1 .0; kinds = t .1 .1 .1 .1 .0; sound = t .1 .1 .1 .1 .1 .0 },
+        λ p. (p .ordered, (p .named, (p .follow, (p .covered, (p .kinds, (p .sound, refl)))))),
       )
 
 -- ---- of the outcome

@@ -4,18 +4,18 @@ use Prim.Native.Nat.{ℕ, suc, _+_, _≤_, _<_}
 use native.Mathlib.Omega.{arith}
 use native.Mathlib.Numerals.{add-one}
 use native.Mathlib.Decide.{ℕ-discrete, decLt}
-use mathlib.Core.Path.{_≡_, refl, sym, subst, ap, _∙_}
-use mathlib.Core.Bool.{Bool, true, false, _&&_, _||_, not, false≢true}
+use mathlib.Core.Path.{_≡_, refl, sym, subst, ap, ap₂, _∙_}
+use mathlib.Core.Bool.{Bool, true, false, _&&_, _||_, not, Bool·beq, false≢true}
 use mathlib.Core.List.{List, [], _∷_, _++_, map}
 use lib.ListN.{length, getD, take, drop, drop-of-length-le}
 use lib.Seq.{drop-cons, drop-drop, getD-take, length-take-le, take-suc}
 use lib.Dec.{eqb, ltb, leb, eqb·zero-suc, eqb·suc-suc}
 use borrow.Author.Count.{below-more}
-use borrow.Author.Tests.{eq-eqb, ne-eqb, le-leb, lt-leb, leb-true, ltb-true}
+use borrow.Author.Tests.{eq-eqb, ne-eqb, le-leb, lt-leb, leb-true, ltb-true, not-true, not-false}
 use Rattle.relation.specs.Order.{pick}
 use Rattle.relation.specs.Lists.{_∈_}
 use Rattle.relation.specs.Tests as index
-use Rattle.relation.proofs.Tests.{and-true, and-left, and-right, gate-shut, gate-open, every-at}
+use Rattle.relation.proofs.Tests.{and-true, and-left, and-right, or-right, gate-shut, gate-open, every-at}
 use Rattle.query.specs.Meaning.{Permutation, follows}
 use Rattle.query.specs.Meet.{has}
 use Rattle.query.specs.Solve.{headed}
@@ -23,9 +23,10 @@ use Rattle.query.specs.Checks.{some, permutes, listed, covers}
 use Rattle.query.proofs.Meet.{in-has, has-in, has-not, getD-in, in-getD}
 use Rattle.query.proofs.Checks.{permutes-true, true-permutes, permutes-false, distinct-at, at-distinct, listed-is, listed-true, some-in, in-some, covers-false}
 use Rattle.column_trie.specs.Limits.{maxArity}
-use Rattle.column_trie.specs.Table.{undamaged}
+use Rattle.column_trie.specs.Table.{gradeAt, undamaged}
+use Rattle.column_trie.specs.declared.ColumnTrie.{ColumnTrie}
 use Rattle.query.specs.Limits.{maxAtoms}
-use Rattle.join_query.specs.Query.{maxTables, maxVariables, noAtom, atomAt, tableAt, orderOf, varsOf, atomsIn, listsOf, orderOk, namedOk, listedAt, listOk, named, soundAt, joinNumber}
+use Rattle.join_query.specs.Query.{maxTables, maxVariables, noAtom, atomAt, tableAt, orderOf, varsOf, varAt, atomsIn, listsOf, orderOk, namedOk, listedAt, listOk, columnOk, bindsOnly, oneKind, named, soundAt, joinNumber}
 use Rattle.join_query.specs.Facts.{Ordered, Named}
 use Rattle.join_query.specs.Checking.{reached, Listed}
 use Rattle.join_query.specs.declared.Atom.{Atom}
@@ -282,6 +283,33 @@ module _ (pool : List ℕ) (ts : Tables) (q : Query) (t : ℕ) where
   unfolding soundAt
   sound-named e = ap (λ (b : Bool). not b || undamaged pool (tableAt ts t)) e
 
+-- ---- 15: the kinds of a variable's columns
+
+-- column j: of the other kind, of this kind, or another variable's
+module _ (t : ColumnTrie) (a : Atom) (v : ℕ) (grade : Bool) (j : ℕ) where
+  abbrev same-kind : Bool
+  same-kind = Bool·beq (gradeAt t j) grade
+
+  pub column-fails : varAt a j ≡ v → not same-kind ≡ true → columnOk t a v grade j ≡ false
+  column-fails e h = ap₂ (λ (x y : Bool). not x || y) (eq-eqb (varAt a j) v e) (not-true same-kind h)
+
+  pub column-same : not same-kind ≡ false → columnOk t a v grade j ≡ true
+  column-same h = or-right (not (eqb (varAt a j) v)) same-kind (not-false same-kind h)
+
+  pub column-other : (varAt a j ≡ v → ⊥) → columnOk t a v grade j ≡ true
+  column-other f = ap (λ (x : Bool). not x || same-kind) (ne-eqb (varAt a j) v f)
+
+-- a variable: only plain columns, only grades, or both
+module _ (ts : Tables) (q : Query) (v : ℕ) where
+  pub plain-alone : bindsOnly ts q v false ≡ true → oneKind ts q v ≡ true
+  plain-alone e = ap (λ (x : Bool). x || bindsOnly ts q v true) e
+
+  pub grades-alone : bindsOnly ts q v true ≡ true → oneKind ts q v ≡ true
+  grades-alone e = or-right (bindsOnly ts q v false) (bindsOnly ts q v true) e
+
+  pub both-kinds : bindsOnly ts q v false ≡ false → bindsOnly ts q v true ≡ false → oneKind ts q v ≡ false
+  both-kinds e f = ap₂ _||_ e f
+
 -- ---- what the tests tell
 
 pub named-told : (count : ℕ) (q : Query) → namedOk count q ≡ true → Named count q
@@ -317,11 +345,14 @@ lists-told ts q n e = record {
 -- ---- the number
 
 module _ (pool : List ℕ) (ts : Tables) (q : Query) where
-  abbrev five : Bool → Bool → Bool → Bool → Bool → ℕ
-  five a b c d e = pick (not a) 8 (pick (not b) 9 (pick (not c) 10 (pick (not d) 11 (pick (not e) 6 0))))
+  abbrev six : Bool → Bool → Bool → Bool → Bool → Bool → ℕ
+  six a b c d k e = pick (not a) 8 (pick (not b) 9 (pick (not c) 10 (pick (not d) 11 (pick (not k) 15 (pick (not e) 6 0)))))
 
   abbrev lists-pass : Bool
   lists-pass = index.every (q .«atom_count») (listOk ts q)
+
+  abbrev kinds-pass : Bool
+  kinds-pass = index.every (q .n) (oneKind ts q)
 
   abbrev tables-pass : Bool
   tables-pass = index.every (ts .count) (soundAt pool ts q)
@@ -331,42 +362,48 @@ module _ (pool : List ℕ) (ts : Tables) (q : Query) where
     pub names : namedOk (ts .count) q ≡ true
     pub lists : lists-pass ≡ true
     pub covered : covers (q .n) (listsOf q) ≡ true
+    pub kinds : kinds-pass ≡ true
     pub sound : tables-pass ≡ true
 
-  number : {a b c d e : Bool} → orderOk q ≡ a → namedOk (ts .count) q ≡ b → lists-pass ≡ c → covers (q .n) (listsOf q) ≡ d → tables-pass ≡ e → five a b c d e ≡ joinNumber pool ts q
+  number : {a b c d k e : Bool} → orderOk q ≡ a → namedOk (ts .count) q ≡ b → lists-pass ≡ c → covers (q .n) (listsOf q) ≡ d → kinds-pass ≡ k → tables-pass ≡ e → six a b c d k e ≡ joinNumber pool ts q
   unfolding joinNumber
-  number p r s t u i = five (sym p i) (sym r i) (sym s i) (sym t i) (sym u i)
+  number p r s t g u i = six (sym p i) (sym r i) (sym s i) (sym t i) (sym g i) (sym u i)
 
   pub number-8 : orderOk q ≡ false → 8 ≡ joinNumber pool ts q
-  number-8 e = number e refl refl refl refl
+  number-8 e = number e refl refl refl refl refl
 
   module _ (o : orderOk q ≡ true) where
     pub number-9 : namedOk (ts .count) q ≡ false → 9 ≡ joinNumber pool ts q
-    number-9 e = number o e refl refl refl
+    number-9 e = number o e refl refl refl refl
 
     module _ (n : namedOk (ts .count) q ≡ true) where
       pub number-10 : lists-pass ≡ false → 10 ≡ joinNumber pool ts q
-      number-10 e = number o n e refl refl
+      number-10 e = number o n e refl refl refl
 
       module _ (l : lists-pass ≡ true) where
         pub number-11 : covers (q .n) (listsOf q) ≡ false → 11 ≡ joinNumber pool ts q
-        number-11 e = number o n l e refl
+        number-11 e = number o n l e refl refl
 
         module _ (c : covers (q .n) (listsOf q) ≡ true) where
-          pub number-6 : tables-pass ≡ false → 6 ≡ joinNumber pool ts q
-          number-6 e = number o n l c e
+          pub number-15 : kinds-pass ≡ false → 15 ≡ joinNumber pool ts q
+          number-15 e = number o n l c e refl
 
-          pub number-0 : tables-pass ≡ true → 0 ≡ joinNumber pool ts q
-          number-0 e = number o n l c e
+          module _ (k : kinds-pass ≡ true) where
+            pub number-6 : tables-pass ≡ false → 6 ≡ joinNumber pool ts q
+            number-6 e = number o n l c k e
+
+            pub number-0 : tables-pass ≡ true → 0 ≡ joinNumber pool ts q
+            number-0 e = number o n l c k e
 
   -- and 0 tells that every check passed
   pub passed-all : joinNumber pool ts q ≡ 0 → Passed
-  passed-all z = go (orderOk q) (namedOk (ts .count) q) lists-pass (covers (q .n) (listsOf q)) tables-pass refl refl refl refl refl
+  passed-all z = go (orderOk q) (namedOk (ts .count) q) lists-pass (covers (q .n) (listsOf q)) (kinds-pass) tables-pass refl refl refl refl refl refl
     where
-      go : (a b c d e : Bool) → orderOk q ≡ a → namedOk (ts .count) q ≡ b → lists-pass ≡ c → covers (q .n) (listsOf q) ≡ d → tables-pass ≡ e → Passed
-      go true true true true true p r s t u = record { order = p; names = r; lists = s; covered = t; sound = u }
-      go true true true true false p r s t u = absurd (omega (arith, z, number p r s t u))
-      go true true true false e p r s t u = absurd (omega (arith, z, number p r s t u))
-      go true true false d e p r s t u = absurd (omega (arith, z, number p r s t u))
-      go true false c d e p r s t u = absurd (omega (arith, z, number p r s t u))
-      go false b c d e p r s t u = absurd (omega (arith, z, number p r s t u))
+      go : (a b c d k e : Bool) → orderOk q ≡ a → namedOk (ts .count) q ≡ b → lists-pass ≡ c → covers (q .n) (listsOf q) ≡ d → kinds-pass ≡ k → tables-pass ≡ e → Passed
+      go true true true true true true p r s t g u = record { order = p; names = r; lists = s; covered = t; kinds = g; sound = u }
+      go true true true true true false p r s t g u = absurd (omega (arith, z, number p r s t g u))
+      go true true true true false e p r s t g u = absurd (omega (arith, z, number p r s t g u))
+      go true true true false k e p r s t g u = absurd (omega (arith, z, number p r s t g u))
+      go true true false d k e p r s t g u = absurd (omega (arith, z, number p r s t g u))
+      go true false c d k e p r s t g u = absurd (omega (arith, z, number p r s t g u))
+      go false b c d k e p r s t g u = absurd (omega (arith, z, number p r s t g u))

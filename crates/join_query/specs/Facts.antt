@@ -1,4 +1,4 @@
--- Of theorems: what document 01 asks of a query, as facts: one record for each number, in the sequence of the checks. They say nothing of how a check is made.
+-- Of theorems: what documents 01 and 02 ask of a query, as facts: one record for each number, in the sequence of the checks. They say nothing of how a check is made.
 use Prim.Native.Nat.{ℕ, _≤_, _<_}
 use mathlib.Core.Path.{_≡_}
 use mathlib.Core.List.{List, Sublistᴰ}
@@ -6,9 +6,9 @@ use lib.ListN.{length}
 use Rattle.relation.specs.Lists.{_∈_}
 use Rattle.query.specs.Meaning.{Permutation}
 use Rattle.column_trie.specs.Limits.{maxArity}
-use Rattle.column_trie.specs.Table.{Undamaged}
+use Rattle.column_trie.specs.Table.{gradeAt, Undamaged}
 use Rattle.query.specs.Limits.{maxAtoms}
-use Rattle.join_query.specs.Query.{maxTables, maxVariables, atomAt, tableAt, orderOf, varsOf}
+use Rattle.join_query.specs.Query.{maxTables, maxVariables, atomAt, tableAt, atomTable, orderOf, varsOf, varAt}
 use Rattle.join_query.specs.declared.Atom.{Atom}
 use Rattle.join_query.specs.declared.Query.{Query}
 use Rattle.join_query.specs.declared.Tables.{Tables}
@@ -45,6 +45,15 @@ AllFollow ts q = (i : ℕ) → i < q .«atom_count» → Follows q (atomAt q i) 
 abbrev pub Covered : Query → Type 0
 Covered q = (x : ℕ) → x < q .n → (i : ℕ) × (i < q .«atom_count») × (x ∈ varsOf (atomAt q i))
 
+-- atom i's list has a column j
+pub record HasColumn (q : Query) (i j : ℕ) : Type 0 where
+  pub atom : i < q .«atom_count»
+  pub place : j < atomAt q i .len
+
+-- not 15: two columns that the same variable binds are of the same kind
+abbrev pub SameKinds : Tables → Query → Type 0
+SameKinds ts q = (i j k l : ℕ) → HasColumn q i j → HasColumn q k l → varAt (atomAt q i) j ≡ varAt (atomAt q k) l → gradeAt (atomTable ts q i) j ≡ gradeAt (atomTable ts q k) l
+
 -- not 6: each table that an atom names is undamaged
 abbrev pub SoundTables : List ℕ → Tables → Query → Type 0
 SoundTables pool ts q = (i : ℕ) → i < q .«atom_count» → Undamaged pool (tableAt ts (atomAt q i .table))
@@ -55,4 +64,5 @@ pub record Passing (pool : List ℕ) (ts : Tables) (q : Query) : Type 0 where
   pub named : Named (ts .count) q
   pub follow : AllFollow ts q
   pub covered : Covered q
+  pub kinds : SameKinds ts q
   pub sound : SoundTables pool ts q

@@ -2,4 +2,3 @@ pub mod Query
 pub mod Facts
 pub mod Outcome
 pub mod Checking
-pub mod Window

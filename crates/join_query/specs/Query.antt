@@ -1,7 +1,7 @@
 -- Public: a query in the call's words, as the theory of joins has it: its numbers as lists, its atoms with the relations of their tables, and its checks.
 use Prim.Native.Nat.{ℕ}
 use mathlib.Core.Path.{_≡_}
-use mathlib.Core.Bool.{Bool, _&&_, _||_, not}
+use mathlib.Core.Bool.{Bool, true, false, _&&_, _||_, not, Bool·beq}
 use mathlib.Core.List.{List, [], map}
 use lib.ListN.{length, take, getD}
 use lib.Dec.{eqb, ltb, leb}
@@ -10,7 +10,7 @@ use Rattle.relation.specs.Tests as index
 use Rattle.query.specs.Meaning as meaning
 use Rattle.query.specs.Checks.{some, permutes, listed, covers}
 use Rattle.column_trie.specs.Limits.{maxArity}
-use Rattle.column_trie.specs.Table.{noTable, rowsIn, undamaged}
+use Rattle.column_trie.specs.Table.{noTable, gradeAt, rowsIn, undamaged}
 use Rattle.column_trie.specs.declared.ColumnTrie.{ColumnTrie}
 use Rattle.query.specs.Limits.{maxAtoms}
 use Rattle.join_query.specs.declared.Atom.{Atom}
@@ -47,6 +47,10 @@ atomsIn q = take (q .«atom_count») (q .atoms)
 abbrev pub listsOf : Query → List (List ℕ)
 listsOf q = map varsOf (atomsIn q)
 
+-- the variable that binds column j of an atom
+abbrev pub varAt : Atom → ℕ → ℕ
+varAt a j = getD (a .variables) j 0
+
 -- the atoms of the theory: their lists, with the rows that their tables hold in the pool
 abbrev pub atomOf : List ℕ → Tables → Atom → meaning.Atom
 atomOf pool ts a = record { vars = varsOf a; rows = rowsIn pool (tableAt ts (a .table)) }
@@ -58,7 +62,7 @@ atomsOf pool ts q = map (atomOf pool ts) (atomsIn q)
 abbrev pub atomTable : Tables → Query → ℕ → ColumnTrie
 atomTable ts q i = tableAt ts (atomAt q i .table)
 
--- ---- the checks, in document 01's sequence
+-- ---- the checks, in document 01's sequence, with 15 of document 02 behind 11
 
 -- not 8: the order is a permutation of 0 to n - 1, and n is at most 8
 unfoldable pub orderOk : Query → Bool
@@ -78,6 +82,22 @@ listedAt q a arity = leb (a .len) maxArity && listed (q .n) (orderOf q) arity (v
 abbrev pub listOk : Tables → Query → ℕ → Bool
 listOk ts q i = listedAt q (atomAt q i) (tableAt ts (atomAt q i .table) .arity)
 
+-- column j of an atom's list is column j of its table: where v binds it, it is of this kind (yes: grade)
+abbrev pub columnOk : ColumnTrie → Atom → ℕ → Bool → ℕ → Bool
+columnOk t a v grade j = not (eqb (varAt a j) v) || Bool·beq (gradeAt t j) grade
+
+-- the same of each column of atom i
+abbrev pub columnsOk : Tables → Query → ℕ → Bool → ℕ → Bool
+columnsOk ts q v grade i = index.every (atomAt q i .len) (columnOk (atomTable ts q i) (atomAt q i) v grade)
+
+-- v binds only columns of this kind
+abbrev pub bindsOnly : Tables → Query → ℕ → Bool → Bool
+bindsOnly ts q v grade = index.every (q .«atom_count») (columnsOk ts q v grade)
+
+-- not 15, of one variable: it binds only plain columns, or only grades
+abbrev pub oneKind : Tables → Query → ℕ → Bool
+oneKind ts q v = bindsOnly ts q v false || bindsOnly ts q v true
+
 -- an atom names table t
 unfoldable pub named : Query → ℕ → Bool
 unfolding some
@@ -96,8 +116,9 @@ joinNumber pool ts q =
     (pick (not (namedOk (ts .count) q)) 9
     (pick (not (index.every (q .«atom_count») (listOk ts q))) 10
     (pick (not (covers (q .n) (listsOf q))) 11
+    (pick (not (index.every (q .n) (oneKind ts q))) 15
     (pick (not (index.every (ts .count) (soundAt pool ts q))) 6
-    0))))
+    0)))))
 
 -- the query passed the checks; that its array of atoms is full is what its type says
 pub record Accepted (pool : List ℕ) (ts : Tables) (q : Query) : Type 0 where

@@ -1,4 +1,4 @@
-// The checks of a query, in document 01's sequence. `refusal` asks nothing; the others are internal, and some ask of their caller what an earlier check found.
+// The checks of a query, in document 01's sequence, with 15 of document 02 behind 11. `refusal` asks nothing; the others are internal, and some ask of their caller what an earlier check found.
 ghost use mathlib.Core.Path.{_≡_};
 ghost use mathlib.Core.Bool.{true};
 ghost use mathlib.Core.List.{List};
@@ -10,7 +10,7 @@ ghost use Rattle.query.specs.Solve.{headed};
 ghost use Rattle.query.specs.Checks.{some, covers};
 ghost use Rattle.column_trie.specs.Limits.{maxArity};
 ghost use Rattle.query.specs.Limits.{maxAtoms};
-ghost use Rattle.join_query.specs.Query.{maxVariables, varsOf, listsOf, orderOk, namedOk, listedAt, listOk, named, soundAt, joinNumber};
+ghost use Rattle.join_query.specs.Query.{maxVariables, varsOf, listsOf, orderOk, namedOk, listedAt, listOk, columnOk, bindsOnly, oneKind, named, soundAt, joinNumber};
 ghost use Rattle.join_query.specs.Checking.{reached, Listed};
 use crate::Atom;
 use crate::Query;
@@ -166,6 +166,54 @@ fn all_held(q: Query) -> bool
     true
 }
 
+// Whether v binds only columns of this kind (yes: grade) in the atom. Column j of its list is column j of its table.
+fn columns_ok(t: ColumnTrie, a: Atom, v: usize, grade: bool) -> bool
+    requires { ⌜ a .len ≤ maxArity ⌝ }
+    ensures { λ r. ⌜ r ≡ index.every (a .len) (columnOk t a v grade) ⌝ }
+{
+    let mut j = 0;
+    while j < a.len {
+        if a.variables[j] == v && t.grade[j] != grade {
+            return false;
+        }
+        j += 1;
+    }
+    true
+}
+
+// Whether v binds only columns of this kind.
+fn binds_only(ts: Tables, q: Query, v: usize, grade: bool) -> bool
+    requires { ⌜ (namedOk (ts .count) q ≡ true) × Listed q ⌝ }
+    ensures { λ r. ⌜ r ≡ bindsOnly ts q v grade ⌝ }
+{
+    let mut i = 0;
+    while i < q.atom_count {
+        let a = q.atoms[i];
+        let named = a.table;
+        let t = ts.tables[named];
+        if !columns_ok(t, a, v, grade) {
+            return false;
+        }
+        i += 1;
+    }
+    true
+}
+
+// Not 15: each variable binds only plain columns, or only grades.
+fn kinds_ok(ts: Tables, q: Query) -> bool
+    requires { ⌜ (namedOk (ts .count) q ≡ true) × Listed q ⌝ }
+    ensures { λ r. ⌜ r ≡ index.every (q .n) (oneKind ts q) ⌝ }
+{
+    let mut v = 0;
+    while v < q.n {
+        if !binds_only(ts, q, v, false) && !binds_only(ts, q, v, true) {
+            return false;
+        }
+        v += 1;
+    }
+    true
+}
+
 // Whether an atom names table t.
 fn is_named(q: Query, t: usize) -> bool
     requires { ⌜ q .«atom_count» ≤ maxAtoms ⌝ }
@@ -215,6 +263,9 @@ pub fn refusal(pool: &[u64], ts: Tables, q: Query) -> u64
     }
     if !all_held(q) {
         return 11;
+    }
+    if !kinds_ok(ts, q) {
+        return 15;
     }
     if !tables_ok(pool, ts, q) {
         return 6;

@@ -1,10 +1,8 @@
-// A query over tables in the pool, without an engine that answers it: its types, the checks that refuse it, the outcome that any answer must have, and how a
-// row is written into the window.
+// A query over tables in the pool, without an engine that answers it: its types, the checks that refuse it, and the outcome that any answer must have.
 //
-// The number of the first check that a query fails is `joinNumber` (specs/Query.antt), and given exactly when document 01 says (proofs/Exactly.antt). What a join
+// The number of the first check that a query fails is `joinNumber` (specs/Query.antt), and given exactly when documents 01 and 02 say (proofs/Exactly.antt). What a join
 // writes and answers is `outcome` (specs/Outcome.antt), a function of pool, tables, query and window alone. Nothing here knows how the rows are found.
 pub mod checks;
-pub mod window;
 
 use column_trie::ColumnTrie;
 

@@ -32,7 +32,7 @@ use Rattle.ring_sort.specs.Sorted.{keyAt}
 use Rattle.leapfrog_join.specs.declared.Searched.{Searched}
 use Rattle.leapfrog_join.proofs.Runs.{ready-runs}
 use Rattle.join_query.specs.Query.{orderOf, atomsOf}
-use Rattle.join_query.specs.Window.{written}
+use Rattle.join_window.specs.Window.{written}
 use Rattle.join_depths.specs.Depth.{countAt, Based, Stands, AgreedAt, AtKey, Answers, Leapt, groupsAt, Starts, Begins, Steps, Opening, Onward, variableAt}
 use Rattle.leapfrog_triejoin.specs.Descent.{Counted, Completes}
 use Rattle.join_query.specs.declared.Query.{Query}

@@ -10,7 +10,7 @@ use Rattle.query.specs.Window.{Progress}
 use Rattle.query.specs.Descend.{standings, Descends}
 use Rattle.leapfrog.specs.Walk.{Tally, walkOf, capped}
 use Rattle.join_query.specs.Query.{orderOf, atomsOf}
-use Rattle.join_query.specs.Window.{written}
+use Rattle.join_window.specs.Window.{written}
 use Rattle.join_query.specs.declared.Query.{Query}
 use Rattle.join_query.specs.declared.Tables.{Tables}
 use Rattle.join_depths.specs.Depth.{Stands}

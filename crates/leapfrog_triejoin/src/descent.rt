@@ -1,6 +1,6 @@
 // Internal: the descent of a join whose query passed the checks, by the depths of crates/join_depths.
 ghost use lib.ListN.{length};
-ghost use Rattle.join_query.specs.Window.{Fits};
+ghost use Rattle.join_window.specs.Window.{Fits};
 ghost use Rattle.join_depths.specs.Depth.{Standing};
 ghost use Rattle.leapfrog_triejoin.specs.Descent.{Completes};
 use join_depths::depth::onward;
@@ -9,7 +9,7 @@ use join_depths::plan::COUNT;
 use join_depths::plan::DEPTH_WORDS;
 use join_depths::plan::PLAN_WORDS;
 use join_query::Query;
-use join_query::window::emit;
+use join_window::emit;
 use leapfrog_join::Landed;
 use query::MAX_ATOMS;
 use seek::SeekStrategy;

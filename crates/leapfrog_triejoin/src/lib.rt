@@ -22,7 +22,7 @@ pub struct Joined {
 }
 
 // Joins the tables that the query's atoms name, and writes the rows into the window, by variable number, ascending as read in the query's order. Refuses by
-// 8, 9, 10, 11 and 6 in sequence; 12 says that more rows exist than fit the window, which then holds the first that do. The seeks are those of the leapfrogs,
+// 8, 9, 10, 11, 15 and 6 in sequence; 12 says that more rows exist than fit the window, which then holds the first that do. The seeks are those of the leapfrogs,
 // on 12 up to finding the first row that does not fit.
 pub fn join(
     strategy: SeekStrategy,

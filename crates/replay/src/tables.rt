@@ -24,7 +24,8 @@ pub struct Made {
     pub table: ColumnTrie,
 }
 
-// The table of the text's next numbers: the arity, the capacity, the number of words, and the words. No recorded build is refused.
+// The table of the text's next numbers: the arity, the capacity, the number of words, and the words. Its columns are plain, and no recorded build is
+// refused.
 pub fn table_of(text: &[u8], from: usize, pool: &mut [u64], start: usize) -> Made {
     let arity = number(text, from);
     let capacity = number(text, arity.at);
@@ -32,12 +33,14 @@ pub fn table_of(text: &[u8], from: usize, pool: &mut [u64], start: usize) -> Mad
     let mut words = [0u64; WORDS];
     let at = numbers(text, count.at, &mut words, count.word as usize);
     let n = cut(&words, count.word as usize);
+    let grade = [false; ColumnTrie::MAX_ARITY];
     let built = build(
         &mut words[..n],
         pool,
         start,
         arity.word as usize,
         capacity.word as usize,
+        grade,
     );
     let table = built.table;
     if built.number != 0 {

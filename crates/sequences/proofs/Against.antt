@@ -1,6 +1,7 @@
 -- "Leaves the layers of a build over the old rows and the new one": an insert against a build, each by its contract.
 use Prim.Native.Nat.{ℕ}
 use mathlib.Core.Path.{_≡_, sym, ap, subst, _∙_}
+use mathlib.Core.Bool.{Bool}
 use mathlib.Core.Logic.{⊎-elim}
 use mathlib.Core.List.{List, _∷_}
 use Rattle.relation.specs.Order.{Row}
@@ -14,18 +15,18 @@ use Rattle.column_trie.specs.declared.ColumnTrie.{ColumnTrie}
 use Rattle.column_trie.proofs.Layers.{Whole}
 use Rattle.column_trie.proofs.Tables.{holds}
 use Rattle.from_sorted.specs.Given.{rowsGiven}
-use Rattle.column_trie_build.specs.Build.{Builds}
+use Rattle.column_trie_build.specs.Build.{keptKinds, Builds}
 use Rattle.column_trie_build.specs.declared.Built.{Built}
 use Rattle.build_laws.proofs.Leaves.{built-pool, built-table, build-leaves-the-layers-of-the-set-of-rows}
 use Rattle.column_trie_insert.specs.Insert.{Inserts}
 use Rattle.column_trie_insert.specs.declared.Inserted.{Inserted}
 use Rattle.insert_laws.proofs.Laws.{Table, insert-leaves-the-layers-of-the-set-of-the-old-rows-and-the-new-one, insert-stores-the-layers-over-the-pool, undamaged-before}
 
--- Two tables, one that an insert into t left and one that was built: the same layers; in the same place also the same header; and over the same pool
--- every word is the same.
-pub record Alike (pool : List ℕ) (t : ColumnTrie) (lent : List ℕ) (start capacity : ℕ) (pool′ : List ℕ) (left : ColumnTrie) (lent′ : List ℕ) (built : ColumnTrie) : Type 0 where
+-- Two tables, one that an insert into t left and one that was built: the same layers; in the same place over the same pool every word is the same; and
+-- of the same kinds also the header.
+pub record Alike (pool : List ℕ) (t : ColumnTrie) (lent : List ℕ) (start capacity : ℕ) (kinds : List Bool) (pool′ : List ℕ) (left : ColumnTrie) (lent′ : List ℕ) (built : ColumnTrie) : Type 0 where
   pub layers : layersIn pool′ left ≡ layersIn lent′ built
-  pub header : t .start ≡ start → t .capacity ≡ capacity → left ≡ built
+  pub header : t .start ≡ start → t .capacity ≡ capacity → t .grade ≡ keptKinds (t .arity) kinds → left ≡ built
   pub words : t .start ≡ start → t .capacity ≡ capacity → pool ≡ lent → pool′ ≡ lent′
 
 -- the old rows and the new one, as a list and as a set
@@ -36,18 +37,18 @@ put-members r rows q = (
 )
 
 pub an-insert-leaves-what-a-build-over-the-old-rows-and-the-new-one-leaves :
-    {pool pool′ : List ℕ} {t : ColumnTrie} {tuple : Row} {i : Inserted} (given lent : List ℕ) (start capacity : ℕ) {given′ lent′ : List ℕ} {b : Built} → Whole t → Inserts pool pool′ t tuple i → i .number ≡ 0 →
-    Builds given lent start (t .arity) capacity given′ lent′ b → b .number ≡ 0 → Members (rowsGiven (t .arity) given) (tuple ∷ rowsIn pool t) → Alike pool t lent start capacity pool′ (i .table) lent′ (b .table)
-an-insert-leaves-what-a-build-over-the-old-rows-and-the-new-one-leaves {pool} {pool′} {t} {tuple} {i} given lent start capacity {given′} {lent′} {b} o s y d z m =
+    {pool pool′ : List ℕ} {t : ColumnTrie} {tuple : Row} {i : Inserted} (given lent : List ℕ) (start capacity : ℕ) (kinds : List Bool) {given′ lent′ : List ℕ} {b : Built} → Whole t → Inserts pool pool′ t tuple i → i .number ≡ 0 →
+    Builds given lent start (t .arity) capacity kinds given′ lent′ b → b .number ≡ 0 → Members (rowsGiven (t .arity) given) (tuple ∷ rowsIn pool t) → Alike pool t lent start capacity kinds pool′ (i .table) lent′ (b .table)
+an-insert-leaves-what-a-build-over-the-old-rows-and-the-new-one-leaves {pool} {pool′} {t} {tuple} {i} given lent start capacity kinds {given′} {lent′} {b} o s y d z m =
     record {
-      layers = left .layers-are ∙ ap (layersOf (t .arity)) same ∙ sym (build-leaves-the-layers-of-the-set-of-rows given lent start (t .arity) capacity d z .layers);
-      header = λ e f.
-          left .header-is ∙ (λ j. tableOf (e j) (t .arity) (f j) (same j)) ∙ sym (built-table given lent start (t .arity) capacity d z);
+      layers = left .layers-are ∙ ap (layersOf (t .arity)) same ∙ sym (build-leaves-the-layers-of-the-set-of-rows given lent start (t .arity) capacity kinds d z .layers);
+      header = λ e f g.
+          left .header-is ∙ (λ j. tableOf (e j) (t .arity) (f j) (g j) (same j)) ∙ sym (built-table given lent start (t .arity) capacity kinds d z);
       words = λ e f g.
-          insert-stores-the-layers-over-the-pool o s y ∙ (λ j. store (e j) (f j) (layersOf (t .arity) (same j)) (g j)) ∙ sym (built-pool given lent start (t .arity) capacity d z);
+          insert-stores-the-layers-over-the-pool o s y ∙ (λ j. store (e j) (f j) (layersOf (t .arity) (same j)) (g j)) ∙ sym (built-pool given lent start (t .arity) capacity kinds d z);
     }
   where
-    left : Table (t .start) (t .arity) (t .capacity) (put tuple (rowsIn pool t)) pool′ (i .table)
+    left : Table (t .start) (t .arity) (t .capacity) (t .grade) (put tuple (rowsIn pool t)) pool′ (i .table)
     left = insert-leaves-the-layers-of-the-set-of-the-old-rows-and-the-new-one o s y
 
     same : put tuple (rowsIn pool t) ≡ asSet (rowsGiven (t .arity) given)

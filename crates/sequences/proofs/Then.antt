@@ -1,6 +1,7 @@
 -- A build, then inserts, each accepted: they leave the layers of the set of all rows given, to either.
 use Prim.Native.Nat.{ℕ}
 use mathlib.Core.Path.{_≡_, sym, subst}
+use mathlib.Core.Bool.{Bool}
 use mathlib.Core.List.{List, _++_}
 use lib.ListN.{length}
 use Rattle.relation.specs.Order.{Row}
@@ -11,24 +12,24 @@ use Rattle.column_trie.specs.declared.ColumnTrie.{ColumnTrie}
 use Rattle.column_trie.proofs.Layers.{Whole}
 use Rattle.column_trie.proofs.Stored.{header-whole}
 use Rattle.from_sorted.specs.Given.{rowsGiven}
-use Rattle.column_trie_build.specs.Build.{Builds}
+use Rattle.column_trie_build.specs.Build.{keptKinds, Builds}
 use Rattle.column_trie_build.specs.declared.Built.{Built}
 use Rattle.build_laws.proofs.Leaves.{built-accepted, built-table, build-leaves-the-layers-of-the-set-of-rows}
 use Rattle.insert_laws.proofs.Laws.{Table, table-of, Inserted-all, inserts-leave-the-set-of-all-rows-given}
 
-module _ (given lent : List ℕ) (start arity capacity : ℕ) {given′ lent′ : List ℕ} {r : Built} (b : Builds given lent start arity capacity given′ lent′ r) (z : r .number ≡ 0) where
+module _ (given lent : List ℕ) (start arity capacity : ℕ) (kinds : List Bool) {given′ lent′ : List ℕ} {r : Built} (b : Builds given lent start arity capacity kinds given′ lent′ r) (z : r .number ≡ 0) where
   whole : Whole (r .table)
   whole =
       let rows = asSet (rowsGiven arity given) in
-      subst Whole (sym (built-table given lent start arity capacity b z))
-      (header-whole start arity capacity (layersOf arity rows) (length rows) (layers-count arity 0 rows) (built-accepted given lent start arity capacity b z .few))
+      subst Whole (sym (built-table given lent start arity capacity kinds b z))
+      (header-whole start arity capacity (keptKinds arity kinds) (layersOf arity rows) (length rows) (layers-count arity 0 rows) (built-accepted given lent start arity capacity kinds b z .few))
 
   -- what the build alone leaves
-  pub a-build-leaves-the-set-of-all-rows-given : Table start arity capacity (asSet (rowsGiven arity given)) lent′ (r .table)
+  pub a-build-leaves-the-set-of-all-rows-given : Table start arity capacity (keptKinds arity kinds) (asSet (rowsGiven arity given)) lent′ (r .table)
   a-build-leaves-the-set-of-all-rows-given =
-      let l = build-leaves-the-layers-of-the-set-of-rows given lent start arity capacity b z in
-      subst (λ (x : ColumnTrie). Table (x .start) (x .arity) (x .capacity) (asSet (rowsGiven arity given)) lent′ (r .table)) (built-table given lent start arity capacity b z)
+      let l = build-leaves-the-layers-of-the-set-of-rows given lent start arity capacity kinds b z in
+      subst (λ (x : ColumnTrie). Table (x .start) (x .arity) (x .capacity) (x .grade) (asSet (rowsGiven arity given)) lent′ (r .table)) (built-table given lent start arity capacity kinds b z)
       (table-of whole (l .undamaged) (l .rows))
 
-  pub a-build-and-inserts-leave-the-set-of-all-rows-given : {tuples : List Row} {pool : List ℕ} {t : ColumnTrie} → Inserted-all lent′ (r .table) tuples pool t → Table start arity capacity (asSet (tuples ++ rowsGiven arity given)) pool t
+  pub a-build-and-inserts-leave-the-set-of-all-rows-given : {tuples : List Row} {pool : List ℕ} {t : ColumnTrie} → Inserted-all lent′ (r .table) tuples pool t → Table start arity capacity (keptKinds arity kinds) (asSet (tuples ++ rowsGiven arity given)) pool t
   a-build-and-inserts-leave-the-set-of-all-rows-given = inserts-leave-the-set-of-all-rows-given (rowsGiven arity given) a-build-leaves-the-set-of-all-rows-given

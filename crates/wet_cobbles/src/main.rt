@@ -3,11 +3,16 @@
 // A key is packed: a kind times 2^32, plus a code. Wet cobbles and icy cobbles have the same code, so their keys cut to 32 bits are one and the same, and
 // so are those of two tyres. That is how another row was once chosen; here a key is a 64-bit word on every machine. Beside each row stands the one that
 // cut keys would have chosen: the first that the same join lists over the same tables with every word cut.
+//
+// Then the lesson's slope, whose stretches list by grade, the steepest descent first. A grade that is joined to a tyre's key is refused, since a column
+// says of which kind it is.
 use column_trie::ColumnTrie;
 use column_trie_build::build;
+use grade::word_of;
 use join_query::Atom;
 use join_query::Query;
 use join_query::Tables;
+use leapfrog_triejoin::Joined;
 use leapfrog_triejoin::join;
 use seek::SeekStrategy;
 use show::number;
@@ -41,6 +46,11 @@ fn told(what: &[u8], refusal: u64) {
 
 // ---- the tables, in one pool; over cut keys where `cut` says so
 
+// The kinds of a table without grades.
+fn plain() -> [bool; ColumnTrie::MAX_ARITY] {
+    [false; ColumnTrie::MAX_ARITY]
+}
+
 fn key(packed: u64, cut: bool) -> u64 {
     if cut { packed % CUT } else { packed }
 }
@@ -48,7 +58,7 @@ fn key(packed: u64, cut: bool) -> u64 {
 // The lesson's surface.
 fn surfaces(cut: bool, pool: &mut [u64]) -> ColumnTrie {
     let mut rows = [key(WET_COBBLES, cut)];
-    let built = build(&mut rows, pool, 0, 1, 8);
+    let built = build(&mut rows, pool, 0, 1, 8, plain());
     told(b"the surfaces", built.number);
     built.table
 }
@@ -56,7 +66,7 @@ fn surfaces(cut: bool, pool: &mut [u64]) -> ColumnTrie {
 // The lesson's tyre.
 fn tyres(cut: bool, pool: &mut [u64]) -> ColumnTrie {
     let mut rows = [key(ALL_SEASON, cut)];
-    let built = build(&mut rows, pool, 16, 1, 8);
+    let built = build(&mut rows, pool, 16, 1, 8, plain());
     told(b"the tyres", built.number);
     built.table
 }
@@ -66,7 +76,7 @@ fn bands(cut: bool, pool: &mut [u64]) -> ColumnTrie {
     let wet = key(WET_COBBLES, cut);
     let icy = key(ICY_COBBLES, cut);
     let mut rows = [wet, 20, wet, 40, wet, 60, icy, 20, icy, 40, icy, 60];
-    let built = build(&mut rows, pool, 32, 2, 8);
+    let built = build(&mut rows, pool, 32, 2, 8, plain());
     told(b"the bands", built.number);
     built.table
 }
@@ -115,7 +125,7 @@ fn frictions(cut: bool, pool: &mut [u64]) -> ColumnTrie {
         60,
         130,
     ];
-    let built = build(&mut rows, pool, 64, 4, 10);
+    let built = build(&mut rows, pool, 64, 4, 10, plain());
     told(b"the frictions", built.number);
     built.table
 }
@@ -167,6 +177,49 @@ fn joined(cut: bool, window: &mut [u64]) -> usize {
     let came = join(SeekStrategy::Galloping, &pool, given, lesson(), window);
     told(b"the join", came.number);
     came.rows
+}
+
+// ---- the lesson's slope
+
+// Grade, in thousandths, and stretch: level, downhill, uphill. The first column is a grade.
+fn slope(pool: &mut [u64]) -> ColumnTrie {
+    let mut rows = [word_of(0), 1, word_of(-60), 2, word_of(45), 3];
+    let grade = [true, false, false, false, false, false, false, false];
+    let built = build(&mut rows, pool, 0, 2, 4, grade);
+    told(b"the slope", built.number);
+    built.table
+}
+
+// Variables: grade 0, stretch 1. The first atom is the slope; the second would have a tyre's key be a grade.
+fn by_grade(atom_count: usize) -> Query {
+    let order = [0usize, 1, 2, 3, 4, 5, 6, 7];
+    let mut atoms = [atom(0, 0, 0, 0); Query::MAX_ATOMS];
+    atoms[0] = atom(0, 2, 0, 1);
+    atoms[1] = atom(1, 1, 0, 0);
+    Query {
+        n: 2,
+        order,
+        atom_count,
+        atoms,
+    }
+}
+
+// Joins the slope alone, or with the tyres.
+fn slope_joined(atom_count: usize, window: &mut [u64]) -> Joined {
+    let mut pool = [0u64; 32];
+    let mut tables = [ColumnTrie::empty(0, 0, 0); Tables::MAX_TABLES];
+    let stretches = slope(&mut pool);
+    let tyre = tyres(false, &mut pool);
+    tables[0] = stretches;
+    tables[1] = tyre;
+    let given = Tables { count: 2, tables };
+    join(
+        SeekStrategy::Galloping,
+        &pool,
+        given,
+        by_grade(atom_count),
+        window,
+    )
 }
 
 // ---- what is printed
@@ -257,6 +310,39 @@ fn table(window: &[u64], rows: usize, over_cut: &[u64], rows_cut: usize) {
     }
 }
 
+// The grade of a word, with its sign: words ascend as grades do, so those below the word of 0 are downhill.
+fn signed(word: u64) {
+    let level = word_of(0);
+    if word < level {
+        text(b"-");
+        number(level - word);
+    } else {
+        number(word - level);
+    }
+}
+
+fn stretch_line(grade: u64, stretch: u64) {
+    text(b"stretch ");
+    number(stretch);
+    text(b": ");
+    signed(grade);
+    text(b"\n");
+}
+
+// The three stretches as the join lists them, and what comes of a grade that is joined to a tyre.
+fn stretches() {
+    text(b"\nThe lesson's slope, by grade in thousandths\n\n");
+    let mut window = [0u64; 6];
+    let alone = slope_joined(1, &mut window);
+    told(b"the slope's join", alone.number);
+    stretch_line(window[0], window[1]);
+    stretch_line(window[2], window[3]);
+    stretch_line(window[4], window[5]);
+    text(b"\n");
+    let with_tyres = slope_joined(2, &mut window);
+    told(b"A grade joined to a tyre", with_tyres.number);
+}
+
 fn keys() {
     text(b"A surface's key is a 64-bit word: wet cobbles ");
     number(WET_COBBLES);
@@ -284,4 +370,5 @@ fn main() {
     text(b"; over cut keys: ");
     number(rows_cut as u64);
     text(b"\n");
+    stretches();
 }

@@ -1,5 +1,6 @@
-// Headers as a case writes them: start, arity, capacity, eight lengths of data, eight of intervals, and the count of tuples.
+// Headers as a case writes them: start, arity, capacity, eight lengths of data, eight of intervals, the count of tuples, and eight kinds.
 use crate::choices::said;
+use crate::choices::word_of;
 use cases::reader::number;
 use cases::tally::Tally;
 use column_trie::ColumnTrie;
@@ -41,6 +42,34 @@ fn eight_said(text: &[u8], start: Tally, eight: [usize; ColumnTrie::MAX_ARITY]) 
     tally
 }
 
+// The kinds that eight numbers stand for: 1 is a grade.
+pub fn kinds_of(eight: [usize; ColumnTrie::MAX_ARITY]) -> [bool; ColumnTrie::MAX_ARITY] {
+    [
+        eight[0] == 1,
+        eight[1] == 1,
+        eight[2] == 1,
+        eight[3] == 1,
+        eight[4] == 1,
+        eight[5] == 1,
+        eight[6] == 1,
+        eight[7] == 1,
+    ]
+}
+
+// The numbers that stand for eight kinds.
+fn numbers_of(grade: [bool; ColumnTrie::MAX_ARITY]) -> [usize; ColumnTrie::MAX_ARITY] {
+    [
+        word_of(grade[0]) as usize,
+        word_of(grade[1]) as usize,
+        word_of(grade[2]) as usize,
+        word_of(grade[3]) as usize,
+        word_of(grade[4]) as usize,
+        word_of(grade[5]) as usize,
+        word_of(grade[6]) as usize,
+        word_of(grade[7]) as usize,
+    ]
+}
+
 // The text's next header.
 pub fn header_at(text: &[u8], from: usize) -> Header {
     let start = number(text, from);
@@ -49,10 +78,13 @@ pub fn header_at(text: &[u8], from: usize) -> Header {
     let data = eight_at(text, capacity.at);
     let intervals = eight_at(text, data.at);
     let count = number(text, intervals.at);
+    let kinds = eight_at(text, count.at);
     let data_len = data.eight;
     let interval_len = intervals.eight;
+    let eight = kinds.eight;
+    let grade = kinds_of(eight);
     Header {
-        at: count.at,
+        at: kinds.at,
         table: ColumnTrie {
             start: start.word as usize,
             arity: arity.word as usize,
@@ -60,6 +92,7 @@ pub fn header_at(text: &[u8], from: usize) -> Header {
             data_len,
             interval_len,
             tuple_count: count.word as usize,
+            grade,
         },
     }
 }
@@ -73,5 +106,8 @@ pub fn headed(text: &[u8], tally: Tally, t: ColumnTrie) -> Tally {
     let data = eight_said(text, capacity, data_len);
     let interval_len = t.interval_len;
     let intervals = eight_said(text, data, interval_len);
-    said(text, intervals, t.tuple_count as u64)
+    let count = said(text, intervals, t.tuple_count as u64);
+    let grade = t.grade;
+    let kinds = numbers_of(grade);
+    eight_said(text, count, kinds)
 }

@@ -1,8 +1,10 @@
 // Tables that are made: the header of an empty one, a build, an insert.
 use crate::choices::said;
 use crate::choices::word_of;
+use crate::headers::eight_at;
 use crate::headers::headed;
 use crate::headers::header_at;
+use crate::headers::kinds_of;
 use crate::lists::left;
 use cases::reader::numbers;
 use cases::tally::Tally;
@@ -16,19 +18,23 @@ pub fn empty(text: &[u8], tally: Tally) -> Tally {
     headed(text, tally.at(at), table)
 }
 
-// Behind pool and rows start, arity and capacity; then the number, the header, the rows and the pool.
+// Behind pool and rows start, arity, capacity and eight kinds; then the number, the header, the rows and the pool.
 pub fn build(text: &[u8], tally: Tally, pool: &mut [u64], rows: &mut [u64]) -> Tally {
     let mut given = [0u64; 3];
     let at = numbers(text, tally.at, &mut given, 3);
+    let kinds = eight_at(text, at);
+    let eight = kinds.eight;
+    let grade = kinds_of(eight);
     let came = column_trie_build::build(
         rows,
         pool,
         given[0] as usize,
         given[1] as usize,
         given[2] as usize,
+        grade,
     );
     let table = came.table;
-    let numbered = said(text, tally.at(at), came.number);
+    let numbered = said(text, tally.at(kinds.at), came.number);
     let then = headed(text, numbered, table);
     let sorted = left(text, then, rows);
     left(text, sorted, pool)

@@ -19,7 +19,10 @@ pub fn build(times: usize) {
             timed(batch, |batch| ColumnTrie::<GallopingSeek>::from_tuples(2.into(), batch))
         });
         let ours: Side = Box::new(|| {
-            timed(|| rows.clone(), |mut rows| assert_eq!(calls::build(&mut rows, &mut pool, 0, 2, room as u64).number, 0))
+            timed(
+                || rows.clone(),
+                |mut rows| assert_eq!(calls::build(&mut rows, &mut pool, 0, 2, room as u64, calls::Kinds::default()).number, 0),
+            )
         });
         let [kermit, ours] = medians(times, [kermit, ours]);
         println!("| {} | {} | {} | {} | {:.2} |", set.count, set.name, micros(kermit), micros(ours), ours / kermit);

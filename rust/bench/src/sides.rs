@@ -1,6 +1,6 @@
 //! What both sides are handed: kermit's tries, and our tables in a pool.
 use crate::data::Row;
-use ducatbriar::calls::{self, Tables};
+use ducatbriar::calls::{self, Kinds, Tables};
 use ducatbriar::limits::MAX_CAPACITY;
 use oracle::{ColumnTrie, Relation, SeekStrategy, Tuples};
 
@@ -26,7 +26,7 @@ pub fn tables(relations: &[Vec<Row>], capacity: usize) -> (Vec<u64>, Tables) {
     let mut pool = vec![1; relations.len() * 4 * capacity];
     let mut tables = Tables { count: relations.len() as u64, ..Default::default() };
     for (i, rows) in relations.iter().enumerate() {
-        let built = calls::build(&mut rows.concat(), &mut pool, (i * 4 * capacity) as u64, 2, capacity as u64);
+        let built = calls::build(&mut rows.concat(), &mut pool, (i * 4 * capacity) as u64, 2, capacity as u64, Kinds::default());
         assert_eq!(built.number, 0);
         tables.tables[i] = built.table;
     }

@@ -1,7 +1,7 @@
 //! The works: what is prepared, and what is timed, on either side.
 use crate::data::{self, Words};
 use crate::times::{timed, Work};
-use ducatbriar::calls::{self, Atom, Query, SeekStrategy, Tables};
+use ducatbriar::calls::{self, Atom, Kinds, Query, SeekStrategy, Tables};
 use oracle::{BinarySeek, ColumnTrie, ExecutedQuery, GallopingSeek, JoinAlgo, LeapfrogTriejoin, LinearSeek, Relation, Tuples};
 use std::hint::black_box;
 use std::time::Duration;
@@ -26,7 +26,7 @@ fn tables(relations: &[Vec<[u64; 2]>]) -> (Vec<u64>, Tables) {
     let mut pool = vec![0; relations.len() * 4 * CAPACITY];
     let mut tables = Tables { count: relations.len() as u64, ..Default::default() };
     for (i, rows) in relations.iter().enumerate() {
-        let built = calls::build(&mut flat(rows), &mut pool, (i * 4 * CAPACITY) as u64, 2, CAPACITY as u64);
+        let built = calls::build(&mut flat(rows), &mut pool, (i * 4 * CAPACITY) as u64, 2, CAPACITY as u64, Kinds::default());
         assert_eq!(built.number, 0);
         tables.tables[i] = built.table;
     }
@@ -47,7 +47,7 @@ fn build(shape: &'static str, count: usize) -> Work {
             timed(batch, |batch| ColumnTrie::<GallopingSeek>::from_tuples(2.into(), batch))
         }),
         ours: Box::new(move || {
-            timed(|| rows.clone(), |mut rows| calls::build(&mut rows, &mut pool, 0, 2, CAPACITY as u64).number)
+            timed(|| rows.clone(), |mut rows| calls::build(&mut rows, &mut pool, 0, 2, CAPACITY as u64, Kinds::default()).number)
         }),
     }
 }

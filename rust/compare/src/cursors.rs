@@ -32,11 +32,11 @@ impl fmt::Display for Walk {
     }
 }
 
-/// A table of these rows in a pool of its own, with room for one row more.
+/// A table of these rows in a pool of its own, with room for one row more and plain columns.
 pub fn table(arity: usize, rows: &[Row]) -> (Vec<u64>, ColumnTrie) {
     let capacity = rows.len() + 1;
     let mut pool = marked(2 * arity * capacity + 1);
-    let built = build(&mut rows.concat(), &mut pool, 1, arity as u64, capacity as u64);
+    let built = build(&mut rows.concat(), &mut pool, 1, arity as u64, capacity as u64, Kinds::default());
     assert_eq!(built.number, 0, "the rows of a case fit its table");
     (pool, built.table)
 }

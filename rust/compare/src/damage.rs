@@ -1,4 +1,4 @@
-//! Damaged words: every call on small tables with one word changed, and cursors at every place, against document 01's rules.
+//! Damaged words: every call on small tables with one word or kind changed, and cursors at every place, against document 01's rules.
 use crate::case::{shorter, show_rows, Case, Tally};
 use crate::cursors::table;
 use crate::model::{self, Row};
@@ -17,12 +17,13 @@ pub fn header_words(t: &mut ColumnTrie) -> Vec<&mut u64> {
 
 const HEADER: usize = 20;
 
-/// A small table with some words changed: the header's first, then the pool's.
+/// A small table with some words changed, the header's first, then the pool's; and with some columns, also past the arity, said to be grades.
 #[derive(Clone)]
 pub struct Damaged {
     pub arity: usize,
     pub rows: Vec<Row>,
     pub changes: Vec<(usize, u64)>,
+    pub grades: Vec<usize>,
 }
 
 impl fmt::Display for Damaged {
@@ -30,8 +31,8 @@ impl fmt::Display for Damaged {
         writeln!(f, "arity {}, rows {}", self.arity, show_rows(&self.rows))?;
         write!(
             f,
-            "words changed {:?} (start, arity, capacity, count, data lengths, interval lengths, then the pool)",
-            self.changes
+            "words changed {:?} (start, arity, capacity, count, data lengths, interval lengths, then the pool), grades {:?}",
+            self.changes, self.grades
         )
     }
 }
@@ -50,6 +51,7 @@ impl Damaged {
     /// The table with its words changed.
     fn spoiled(&self) -> (Vec<u64>, ColumnTrie) {
         let (mut pool, mut t) = table(self.arity, &self.rows);
+        self.grades.iter().for_each(|&column| t.grade[column] = true);
         let mut words = header_words(&mut t);
         words.extend(&mut pool);
         let len = words.len();
@@ -57,10 +59,12 @@ impl Damaged {
         (pool, t)
     }
 
-    /// Tables with a change or a row less.
+    /// Tables with a change, a grade or a row less.
     fn fewer(&self) -> Vec<Damaged> {
         let changes = shorter(&self.changes).into_iter().map(|changes| Damaged { changes, ..self.clone() });
-        changes.chain(shorter(&self.rows).into_iter().map(|rows| Damaged { rows, ..self.clone() })).collect()
+        let grades = shorter(&self.grades).into_iter().map(|grades| Damaged { grades, ..self.clone() });
+        let rows = shorter(&self.rows).into_iter().map(|rows| Damaged { rows, ..self.clone() });
+        changes.chain(grades).chain(rows).collect()
     }
 
     fn cursors(&self, t: ColumnTrie) -> Vec<ColumnTrieIter> {
@@ -162,7 +166,7 @@ impl Case for Spoiled {
     }
 }
 
-/// Small tables, each word of header and pool changed to each of the others.
+/// Small tables, each word of header and pool changed to each of the others, and each column said to be a grade.
 pub fn exhaustive() -> impl Iterator<Item = Damaged> {
     let tables: [(usize, &[&[u64]]); 6] = [
         (1, &[]),
@@ -178,10 +182,12 @@ pub fn exhaustive() -> impl Iterator<Item = Damaged> {
         let mut words: Vec<u64> = header_words(&mut t).into_iter().map(|word| *word).collect();
         assert_eq!(words.len(), HEADER);
         words.append(&mut pool);
-        words.into_iter().enumerate().flat_map(move |(i, word)| {
-            let rows = rows.clone();
-            others(word).into_iter().map(move |other| Damaged { arity, rows: rows.clone(), changes: vec![(i, other)] })
-        })
+        let damaged = move |changes, grades| Damaged { arity, rows: rows.clone(), changes, grades };
+        let graded: Vec<_> = (0..model::MAX).map(|column| damaged(vec![], vec![column])).collect();
+        let changed = words.into_iter().enumerate().flat_map(move |(i, word)| {
+            others(word).into_iter().map(|other| damaged(vec![(i, other)], vec![])).collect::<Vec<_>>()
+        });
+        graded.into_iter().chain(changed)
     })
 }
 
@@ -199,7 +205,8 @@ pub fn random(rng: &mut Rng) -> Damaged {
             (i, word)
         })
         .collect();
-    Damaged { arity, rows, changes }
+    let grades = (0..rng.below(8) / 3).map(|_| rng.below(model::MAX)).collect();
+    Damaged { arity, rows, changes, grades }
 }
 
 /// One or two words changed of a table with seven of eight of so many rows, so that groups have gaps and differ in length.
@@ -218,7 +225,7 @@ fn spoiled(rng: &mut Rng, arity: usize, count: usize) -> Spoiled {
             (HEADER + at, word)
         })
         .collect();
-    Spoiled(Damaged { arity, rows, changes })
+    Spoiled(Damaged { arity, rows, changes, grades: vec![] })
 }
 
 pub fn larger(rng: &mut Rng) -> Spoiled {

@@ -1,4 +1,5 @@
-//! Joins: rows and seeks under all strategies and in windows of every size around full against kermit, and refusals against document 01's table.
+//! Joins: rows and seeks under all strategies and in windows of every size around full against kermit, and refusals against document 01's table. kermit
+//! knows no kinds: where a query passes the checks they change nothing.
 use crate::case::{shorter, show_rows, smaller_rows, Case, Tally};
 use crate::kermit;
 use crate::model::{self, Row};
@@ -39,13 +40,13 @@ pub struct Call {
 }
 
 impl Joins {
-    /// The tables one behind the other in a pool, and the query in the call's words.
-    pub fn call(&self) -> Call {
+    /// The tables one behind the other in a pool, of these kinds, and the query in the call's words.
+    fn call(&self, kinds: &[Kinds]) -> Call {
         let mut call = Call { pool: vec![], tables: Tables::default(), query: Query::default() };
         for (i, (arity, rows)) in self.tables.iter().enumerate() {
             let (start, capacity) = (call.pool.len(), rows.len().max(1));
             call.pool.extend(marked(2 * arity * capacity));
-            let built = build(&mut rows.concat(), &mut call.pool, start as u64, *arity as u64, capacity as u64);
+            let built = build(&mut rows.concat(), &mut call.pool, start as u64, *arity as u64, capacity as u64, kinds[i]);
             assert_eq!(built.number, 0, "the rows of a case fit its table");
             call.tables.tables[i] = built.table;
         }
@@ -110,9 +111,9 @@ fn windows(n: usize, rows: usize) -> Vec<usize> {
     sizes
 }
 
-impl Case for Joins {
-    fn run(&self, tally: &mut Tally) -> Result<(), String> {
-        let call = self.call();
+impl Joins {
+    /// Runs a call of this join, which passes the checks.
+    fn run_call(&self, call: &Call, tally: &mut Tally) -> Result<(), String> {
         let n = self.order.len();
         tally.same(model::join_number(&call.pool, &call.tables, &call.query), 0, || "the query passes the checks".into())?;
         // The definition tries every row.
@@ -135,6 +136,12 @@ impl Case for Joins {
             }
         }
         Ok(())
+    }
+}
+
+impl Case for Joins {
+    fn run(&self, tally: &mut Tally) -> Result<(), String> {
+        self.run_call(&self.call(&vec![Kinds::default(); self.tables.len()]), tally)
     }
 
     fn smaller(&self) -> Vec<Self> {
@@ -231,19 +238,70 @@ pub fn random(rng: &mut Rng) -> Joins {
     Joins { order, tables, atoms }
 }
 
-/// A query with some words changed: its number, rows and window by document 01.
+/// A join some of whose variables are grades; so are all the columns that they bind, and all variables that bind one of these.
+#[derive(Clone)]
+pub struct Graded {
+    base: Joins,
+    grades: Vec<usize>,
+}
+
+impl fmt::Display for Graded {
+    fn fmt(&self, f: &mut fmt::Formatter) -> fmt::Result {
+        write!(f, "{}\ngrades {:?}", self.base, self.grades)
+    }
+}
+
+impl Graded {
+    fn kinds(&self) -> Vec<Kinds> {
+        let mut is_grade: Vec<bool> = (0..self.base.order.len()).map(|v| self.grades.contains(&v)).collect();
+        let mut kinds = vec![Kinds::default(); self.base.tables.len()];
+        loop {
+            let before = (is_grade.clone(), kinds.clone());
+            for (table, variables) in &self.base.atoms {
+                for (grade, &v) in kinds[*table].grade.iter_mut().zip(variables) {
+                    *grade |= is_grade[v];
+                    is_grade[v] |= *grade;
+                }
+            }
+            if before == (is_grade.clone(), kinds.clone()) {
+                return kinds;
+            }
+        }
+    }
+}
+
+impl Case for Graded {
+    fn run(&self, tally: &mut Tally) -> Result<(), String> {
+        self.base.run_call(&self.base.call(&self.kinds()), tally)
+    }
+
+    fn smaller(&self) -> Vec<Self> {
+        let fewer = shorter(&self.grades).into_iter().map(|grades| Graded { grades, ..self.clone() });
+        fewer.chain(self.base.smaller().into_iter().map(|base| Graded { base, ..self.clone() })).collect()
+    }
+}
+
+pub fn graded(rng: &mut Rng) -> Graded {
+    let base = random(rng);
+    let grades = (0..rng.below(3)).map(|_| rng.below(base.order.len())).collect();
+    Graded { base, grades }
+}
+
+/// A query with some words and kinds changed: its number, rows and window by document 01.
 #[derive(Clone)]
 pub struct Changed {
-    base: Joins,
+    base: Graded,
     /// Which word, counted through the query, the tables' count and headers, and the pool; and what it becomes.
     changes: Vec<(usize, u64)>,
+    /// Table and column of each kind that becomes the other one.
+    kinds: Vec<(usize, usize)>,
     window: usize,
 }
 
 impl fmt::Display for Changed {
     fn fmt(&self, f: &mut fmt::Formatter) -> fmt::Result {
         writeln!(f, "{}", self.base)?;
-        write!(f, "words changed {:?}, window of {}", self.changes, self.window)
+        write!(f, "words changed {:?}, kinds changed {:?}, window of {}", self.changes, self.kinds, self.window)
     }
 }
 
@@ -264,7 +322,8 @@ fn words(call: &mut Call) -> Vec<&mut u64> {
 
 impl Case for Changed {
     fn run(&self, tally: &mut Tally) -> Result<(), String> {
-        let mut call = self.base.call();
+        let mut call = self.base.base.call(&self.base.kinds());
+        self.kinds.iter().for_each(|&(table, column)| call.tables.tables[table].grade[column] ^= true);
         let mut all = words(&mut call);
         for &(i, word) in &self.changes {
             let len = all.len();
@@ -283,21 +342,43 @@ impl Case for Changed {
     fn smaller(&self) -> Vec<Self> {
         let mut all: Vec<Changed> =
             shorter(&self.changes).into_iter().map(|changes| Changed { changes, ..self.clone() }).collect();
+        all.extend(shorter(&self.kinds).into_iter().map(|kinds| Changed { kinds, ..self.clone() }));
         all.extend(self.base.smaller().into_iter().map(|base| Changed { base, ..self.clone() }));
         all
     }
 }
 
+/// A triangle with every choice of kinds for its six columns and one past the arity, over words as they are and over damaged ones.
+pub fn every_kind() -> impl Iterator<Item = Changed> {
+    let columns: Vec<(usize, usize)> = vec![(0, 0), (0, 1), (1, 0), (1, 1), (2, 0), (2, 1), (2, 2)];
+    let rows = || vec![vec![0, 1], vec![1, 2], vec![1, 1]];
+    let base = Joins {
+        order: vec![0, 1, 2],
+        tables: vec![(2, rows()), (2, rows()), (2, rows())],
+        atoms: vec![(0, vec![0, 1]), (1, vec![1, 2]), (2, vec![0, 2])],
+    };
+    (0..1 << columns.len()).flat_map(move |chosen: usize| {
+        let kinds: Vec<_> = columns.iter().enumerate().filter(|(i, _)| chosen >> i & 1 == 1).map(|(_, &column)| column).collect();
+        let base = Graded { base: base.clone(), grades: vec![] };
+        // The count of the first table's tuples.
+        [vec![], vec![(QUERY + 3, 9)]].map(|changes| Changed { base: base.clone(), changes, kinds: kinds.clone(), window: 9 })
+    })
+}
+
+/// How many words a query and the tables' count have.
+const QUERY: usize = 3 + 8 + 8 * 10;
+
 pub fn changed(rng: &mut Rng) -> Changed {
-    let base = random(rng);
-    // The query's own words, 3 + 8 + 8 * 10 of them, more often than the rest.
+    let base = graded(rng);
+    // The query's own words more often than the rest.
     let changes = (0..rng.within(0, 3))
         .map(|_| {
-            let i = if rng.below(3) == 0 { rng.below(2000) } else { rng.below(91) };
+            let i = if rng.below(3) == 0 { rng.below(2000) } else { rng.below(QUERY) };
             let odd = [u64::MAX, 1 << 63, 1 << 32, model::MAX_CAPACITY, 9, 8, 7];
             let word = if rng.below(4) == 0 { rng.pick(&odd) } else { rng.below(6) as u64 };
             (i, word)
         })
         .collect();
-    Changed { base, changes, window: rng.below(30) }
+    let kinds = (0..rng.below(6) / 3).map(|_| (rng.below(base.base.tables.len()), rng.below(4))).collect();
+    Changed { base, changes, kinds, window: rng.below(30) }
 }

@@ -111,7 +111,7 @@ fn group(layer: &Layer, i: u64) -> Option<(u64, u64)> {
 
 pub fn undamaged(pool: &[u64], t: ColumnTrie) -> bool {
     let past = |lengths: [u64; MAX]| lengths[t.arity as usize..].iter().all(|&len| len == 0);
-    if !header_sound(pool, t) || !past(t.data_len) || !past(t.interval_len) {
+    if !header_sound(pool, t) || !past(t.data_len) || !past(t.interval_len) || t.grade[t.arity as usize..].contains(&true) {
         return false;
     }
     let layers = layers(pool, t);
@@ -170,13 +170,13 @@ pub fn layers_of(arity: usize, rows: &[Row]) -> Vec<Layer> {
         .collect()
 }
 
-/// The layers of the rows laid over the pool, and the header.
-fn store(pool: &mut [u64], start: u64, arity: u64, capacity: u64, rows: &[Row]) -> ColumnTrie {
-    let mut t = ColumnTrie { start, arity, capacity, tuple_count: rows.len() as u64, ..Default::default() };
-    for (d, layer) in layers_of(arity as usize, rows).iter().enumerate() {
-        let at = (start + 2 * capacity * d as u64) as usize;
+/// The layers of the rows laid over the pool for this table, whatever it held, and the header.
+fn store(pool: &mut [u64], table: ColumnTrie, rows: &[Row]) -> ColumnTrie {
+    let mut t = ColumnTrie { tuple_count: rows.len() as u64, ..table };
+    for (d, layer) in layers_of(t.arity as usize, rows).iter().enumerate() {
+        let at = (t.start + 2 * t.capacity * d as u64) as usize;
         pool[at..at + layer.data.len()].copy_from_slice(&layer.data);
-        let at = at + capacity as usize;
+        let at = at + t.capacity as usize;
         pool[at..at + layer.interval.len()].copy_from_slice(&layer.interval);
         t.data_len[d] = layer.data.len() as u64;
         t.interval_len[d] = layer.interval.len() as u64;
@@ -200,7 +200,14 @@ fn build_number(rows: &[u64], pool: &[u64], start: u64, arity: u64, capacity: u6
     }
 }
 
-pub fn build(rows: &mut [u64], pool: &mut [u64], start: u64, arity: u64, capacity: u64) -> Built {
+/// A table without rows: of these kinds those inside the arity.
+fn unfilled(start: u64, arity: u64, capacity: u64, kinds: Kinds) -> ColumnTrie {
+    let mut t = ColumnTrie { start, arity, capacity, ..Default::default() };
+    t.grade[..arity as usize].copy_from_slice(&kinds.grade[..arity as usize]);
+    t
+}
+
+pub fn build(rows: &mut [u64], pool: &mut [u64], start: u64, arity: u64, capacity: u64, kinds: Kinds) -> Built {
     let number = build_number(rows, pool, start, arity, capacity);
     if number != 0 {
         return Built { number, table: ColumnTrie::default() };
@@ -209,7 +216,7 @@ pub fn build(rows: &mut [u64], pool: &mut [u64], start: u64, arity: u64, capacit
     sorted.sort();
     rows.copy_from_slice(&sorted.concat());
     sorted.dedup();
-    Built { number, table: store(pool, start, arity, capacity, &sorted) }
+    Built { number, table: store(pool, unfilled(start, arity, capacity, kinds), &sorted) }
 }
 
 pub fn insert(pool: &mut [u64], t: ColumnTrie, tuple: &[u64]) -> Inserted {
@@ -228,7 +235,7 @@ pub fn insert(pool: &mut [u64], t: ColumnTrie, tuple: &[u64]) -> Inserted {
         return refused(5);
     }
     rows.insert(place, tuple.to_vec());
-    Inserted { number: 0, is_new: true, table: store(pool, t.start, t.arity, t.capacity, &rows) }
+    Inserted { number: 0, is_new: true, table: store(pool, t, &rows) }
 }
 
 /// The listing, or the refusal of a damaged table.
@@ -414,6 +421,14 @@ pub fn join_number(pool: &[u64], tables: &Tables, query: &Query) -> u64 {
     }
     if (0..n).any(|v| !atoms.iter().any(|atom| atom.variables[..atom.len as usize].contains(&v))) {
         return 11;
+    }
+    let binds = |v: u64, grade: bool| {
+        let columns =
+            |atom: &Atom| atom.variables.into_iter().zip(tables.tables[atom.table as usize].grade).take(atom.len as usize);
+        atoms.iter().any(|atom| columns(atom).any(|column| column == (v, grade)))
+    };
+    if (0..n).any(|v| binds(v, true) && binds(v, false)) {
+        return 15;
     }
     if atoms.iter().any(|atom| !undamaged(pool, tables.tables[atom.table as usize])) {
         return 6;

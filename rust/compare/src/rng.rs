@@ -1,4 +1,5 @@
 //! Random numbers that a seed repeats: the SplitMix64 generator.
+use ducatbriar::calls::Kinds;
 
 pub struct Rng(u64);
 
@@ -59,6 +60,12 @@ impl Rng {
                 _ => self.word(),
             },
         }
+    }
+
+    /// Any kinds, past a table's arity too; all plain half of the time.
+    pub fn kinds(&mut self) -> Kinds {
+        let drawn = self.below(2) == 0;
+        Kinds { grade: [(); 8].map(|()| drawn && self.below(2) == 0) }
     }
 
     pub fn row(&mut self, arity: usize, keys: Keys) -> Vec<u64> {

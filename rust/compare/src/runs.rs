@@ -41,8 +41,9 @@ pub fn run(name: &str, seed: u64, rounds: usize) -> Result<Tally, String> {
         }
         "joins" => {
             all(t, joins::exhaustive())?;
+            all(t, joins::every_kind())?;
             all(t, large.then(|| joins::large(rng)).into_iter().flatten())?;
-            some(t, rng, rounds, joins::random)?;
+            some(t, rng, rounds, joins::graded)?;
             some(t, rng, 4 * rounds, joins::changed)?;
         }
         "damage" => {

@@ -13,6 +13,7 @@ pub struct Grown {
     pub capacity: usize,
     /// Words of the pool before the table, and behind it.
     pub margins: (usize, usize),
+    pub kinds: Kinds,
     pub built: Vec<Row>,
     pub inserted: Vec<Row>,
 }
@@ -20,6 +21,7 @@ pub struct Grown {
 impl fmt::Display for Grown {
     fn fmt(&self, f: &mut fmt::Formatter) -> fmt::Result {
         writeln!(f, "arity {}, capacity {}, words before and behind {:?}", self.arity, self.capacity, self.margins)?;
+        writeln!(f, "grades {:?}", self.kinds.grade)?;
         writeln!(f, "built from {}", show_rows(&self.built))?;
         write!(f, "inserted {}", show_rows(&self.inserted))
     }
@@ -60,8 +62,8 @@ impl Case for Grown {
         let mut rows = self.built.concat();
 
         let (mut model_rows, mut model_pool) = (rows.clone(), pool.clone());
-        let built = build(&mut rows, &mut pool, start, arity, capacity);
-        let expected = model::build(&mut model_rows, &mut model_pool, start, arity, capacity);
+        let built = build(&mut rows, &mut pool, start, arity, capacity, self.kinds);
+        let expected = model::build(&mut model_rows, &mut model_pool, start, arity, capacity, self.kinds);
         tally.same(built, expected, || "answer of the build".into())?;
         tally.same(&rows, &model_rows, || "rows after the build".into())?;
         tally.same(&pool, &model_pool, || "pool after the build".into())?;
@@ -91,6 +93,9 @@ impl Case for Grown {
 
     fn smaller(&self) -> Vec<Self> {
         let mut all = vec![];
+        if self.kinds != Kinds::default() {
+            all.push(Grown { kinds: Kinds::default(), ..self.clone() });
+        }
         if self.margins != (0, 0) {
             all.push(Grown { margins: (0, 0), ..self.clone() });
         }
@@ -124,7 +129,8 @@ pub fn all_rows(arity: usize, keys: u64) -> Vec<Row> {
     (0..keys.pow(arity as u32)).map(|code| (0..arity).map(|i| code / keys.pow(i as u32) % keys).collect()).collect()
 }
 
-/// All relations over the keys 0 to 2 with arity 1 and 2 and up to four rows, in every order of inserting them, some or none of them built first.
+/// All relations over the keys 0 to 2 with arity 1 and 2 and up to four rows, in every order of inserting them, some or none of them built first. Where
+/// their number is odd, all columns are asked to be grades.
 pub fn exhaustive() -> impl Iterator<Item = Grown> {
     [1, 2].into_iter().flat_map(|arity| {
         sequences(&all_rows(arity, 3), 4).into_iter().flat_map(move |rows| {
@@ -132,6 +138,7 @@ pub fn exhaustive() -> impl Iterator<Item = Grown> {
                 arity,
                 capacity: 4,
                 margins: (1, 1),
+                kinds: Kinds { grade: [rows.len() % 2 == 1; 8] },
                 built: rows[..built].to_vec(),
                 inserted: rows[built..].to_vec(),
             })
@@ -162,7 +169,7 @@ pub fn random(rng: &mut Rng) -> Grown {
         251..=500 => built.len().max(1),
         _ => all + rng.within(1, 5),
     };
-    Grown { arity, capacity, margins: (rng.below(4), rng.below(4)), built, inserted }
+    Grown { arity, capacity, margins: (rng.below(4), rng.below(4)), kinds: rng.kinds(), built, inserted }
 }
 
 /// As many rows as a table can have.
@@ -184,11 +191,12 @@ fn many(rng: &mut Rng) -> Vec<Grown> {
         for rows in [MOST, MOST + 1] {
             let built: Vec<Row> = (0..rows).map(|_| (0..arity).map(|_| rng.below(keys) as u64).collect()).collect();
             let inserted = vec![built[0].clone(), vec![99_999; arity]];
-            all.push(Grown { arity, capacity: MOST, margins: (2, 2), built, inserted });
+            all.push(Grown { arity, capacity: MOST, margins: (2, 2), kinds: rng.kinds(), built, inserted });
         }
     }
     for rows in [MOST, MOST + 1] {
-        all.push(Grown { arity: 1, capacity: MOST, margins: (0, 0), built: vec![vec![7]; rows], inserted: vec![vec![7]] });
+        let (margins, kinds) = ((0, 0), Kinds::default());
+        all.push(Grown { arity: 1, capacity: MOST, margins, kinds, built: vec![vec![7]; rows], inserted: vec![vec![7]] });
     }
     all
 }
@@ -201,7 +209,7 @@ fn full(rng: &mut Rng) -> Vec<Grown> {
             let mut built = distinct(rng, arity, MOST + 2);
             let new = built.split_off(MOST - missing);
             let inserted = [&built[0], &new[0], &built[1], &new[0], &new[1]].map(Row::clone).to_vec();
-            all.push(Grown { arity, capacity: MOST, margins: (1, 1), built, inserted });
+            all.push(Grown { arity, capacity: MOST, margins: (1, 1), kinds: rng.kinds(), built, inserted });
         }
     }
     all
@@ -222,6 +230,7 @@ pub struct Refused {
     start: u64,
     arity: u64,
     capacity: u64,
+    kinds: Kinds,
 }
 
 impl fmt::Display for Refused {
@@ -234,8 +243,8 @@ impl Case for Refused {
     fn run(&self, tally: &mut Tally) -> Result<(), String> {
         let (mut rows, mut pool) = (self.rows.clone(), marked(self.pool));
         let (mut model_rows, mut model_pool) = (rows.clone(), pool.clone());
-        let answer = build(&mut rows, &mut pool, self.start, self.arity, self.capacity);
-        let expected = model::build(&mut model_rows, &mut model_pool, self.start, self.arity, self.capacity);
+        let answer = build(&mut rows, &mut pool, self.start, self.arity, self.capacity, self.kinds);
+        let expected = model::build(&mut model_rows, &mut model_pool, self.start, self.arity, self.capacity, self.kinds);
         tally.same(answer, expected, || "answer of the build".into())?;
         tally.same(rows, model_rows, || "rows after the build".into())?;
         tally.same(pool, model_pool, || "pool after the build".into())?;
@@ -270,5 +279,6 @@ pub fn refused(rng: &mut Rng) -> Refused {
         start: number(rng, 20),
         arity: number(rng, 4),
         capacity: number(rng, 8),
+        kinds: rng.kinds(),
     }
 }

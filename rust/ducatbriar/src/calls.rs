@@ -33,7 +33,8 @@ c_struct!(
     Sought { offset: u64, probes: u64, hit: bool }
 );
 c_struct!(
-    /// A table's header: where its words start in the pool, its limits, the lengths of each layer's two lists, and the number of distinct rows.
+    /// A table's header: where its words start in the pool, its limits, the lengths of each layer's two lists, the number of distinct rows, and each
+    /// column's kind: yes for a grade.
     ColumnTrie {
         start: u64,
         arity: u64,
@@ -41,7 +42,12 @@ c_struct!(
         data_len: [u64; MAX_ARITY],
         interval_len: [u64; MAX_ARITY],
         tuple_count: u64,
+        grade: [bool; MAX_ARITY],
     }
+);
+c_struct!(
+    /// The kinds of a table's columns: yes for a grade. By default all are plain.
+    Kinds { grade: [bool; MAX_ARITY] }
 );
 c_struct!(Built { number: u64, table: ColumnTrie });
 c_struct!(Inserted { number: u64, is_new: bool, table: ColumnTrie });
@@ -89,6 +95,7 @@ mod c {
             start: u64,
             arity: u64,
             capacity: u64,
+            kinds: Kinds,
         ) -> Built;
         pub fn ducatbriar_insert(pool: *mut u64, len: u64, table: ColumnTrie, tuple: *const u64, tuple_len: u64) -> Inserted;
         pub fn ducatbriar_list(pool: *const u64, len: u64, table: ColumnTrie, text: *mut u8, text_len: u64) -> Listed;
@@ -147,7 +154,7 @@ pub fn grade_of(word: u64) -> i64 {
     unsafe { c::ducatbriar_grade_of(word) }
 }
 
-/// The header of a table without rows.
+/// The header of a table without rows, with plain columns.
 pub fn empty(start: u64, arity: u64, capacity: u64) -> ColumnTrie {
     unsafe { c::ducatbriar_empty(start, arity, capacity) }
 }
@@ -157,14 +164,14 @@ pub fn undamaged(pool: &[u64], table: ColumnTrie) -> bool {
     unsafe { c::ducatbriar_undamaged(pool.as_ptr(), pool.len() as u64, table) }
 }
 
-/// Sorts the rows in place and leaves at `start` of the pool a table with each distinct row once. Refusals 1 to 5.
-pub fn build(rows: &mut [u64], pool: &mut [u64], start: u64, arity: u64, capacity: u64) -> Built {
-    unsafe {
-        c::ducatbriar_build(rows.as_mut_ptr(), rows.len() as u64, pool.as_mut_ptr(), pool.len() as u64, start, arity, capacity)
-    }
+/// Sorts the rows in place and leaves at `start` of the pool a table with each distinct row once, whose columns are of these kinds; those past the arity
+/// are stored as plain. Refusals 1 to 5.
+pub fn build(rows: &mut [u64], pool: &mut [u64], start: u64, arity: u64, capacity: u64, kinds: Kinds) -> Built {
+    let (rows_len, pool_len) = (rows.len() as u64, pool.len() as u64);
+    unsafe { c::ducatbriar_build(rows.as_mut_ptr(), rows_len, pool.as_mut_ptr(), pool_len, start, arity, capacity, kinds) }
 }
 
-/// Inserts the tuple. Refusals 6, 4, 5.
+/// Inserts the tuple; the kinds stay. Refusals 6, 4, 5.
 pub fn insert(pool: &mut [u64], table: ColumnTrie, tuple: &[u64]) -> Inserted {
     unsafe { c::ducatbriar_insert(pool.as_mut_ptr(), pool.len() as u64, table, tuple.as_ptr(), tuple.len() as u64) }
 }
@@ -174,7 +181,7 @@ pub fn list(pool: &[u64], table: ColumnTrie, text: &mut [u8]) -> Listed {
     unsafe { c::ducatbriar_list(pool.as_ptr(), pool.len() as u64, table, text.as_mut_ptr(), text.len() as u64) }
 }
 
-/// The rows of the query, written into the window by variable number. Refusals 8, 9, 10, 11, 6, 12.
+/// The rows of the query, written into the window by variable number. Refusals 8, 9, 10, 11, 15, 6, 12.
 pub fn join(strategy: SeekStrategy, pool: &[u64], tables: Tables, query: Query, window: &mut [u64]) -> Joined {
     unsafe {
         c::ducatbriar_join(

@@ -24,6 +24,7 @@
 //! # Ok(())
 //! # }
 //! ```
+mod kind;
 mod pool;
 mod query;
 mod refusal;
@@ -32,6 +33,7 @@ pub mod calls;
 pub mod limits;
 
 pub use calls::{grade_of, word_of, SeekStrategy, Sought};
+pub use kind::{Cell, Kind};
 pub use pool::{Cursor, Filled, Pool, Rows, RowsIter, Table};
 pub use query::Query;
 pub use refusal::Refusal;

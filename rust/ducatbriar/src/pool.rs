@@ -1,5 +1,6 @@
 //! A pool that owns its tables' words, with cursors and joins over them.
 use crate::calls::{self, ColumnTrie, ColumnTrieIter, SeekAnswer, SeekStrategy, Tables};
+use crate::kind::{kinds_of, leading, words_of, Cell, Kind};
 use crate::limits::{listing, words, MAX_ARITY, MAX_CAPACITY, MAX_VARIABLES};
 use crate::{Query, Refusal};
 use std::ops::Range;
@@ -35,6 +36,11 @@ impl Table {
         self.len() == 0
     }
 
+    /// The kind of each column.
+    pub fn kinds(&self) -> Vec<Kind> {
+        leading(self.header.grade, self.arity())
+    }
+
     pub fn header(&self) -> ColumnTrie {
         self.header
     }
@@ -54,7 +60,7 @@ pub struct Filled {
 /// The rows of a join, in the order in which they were found.
 #[derive(Clone, Debug, PartialEq, Eq)]
 pub struct Rows {
-    width: usize,
+    kinds: Vec<Kind>,
     count: usize,
     words: Vec<u64>,
 }
@@ -68,14 +74,38 @@ impl Rows {
         self.count == 0
     }
 
+    /// The kind of each variable: that of the columns that it binds.
+    pub fn kinds(&self) -> &[Kind] {
+        &self.kinds
+    }
+
     /// Row i, by variable number.
     fn row(&self, i: usize) -> &[u64] {
-        &self.words[i * self.width..(i + 1) * self.width]
+        let width = self.kinds.len();
+        &self.words[i * width..(i + 1) * width]
     }
 
     /// Each row, by variable number.
     pub fn iter(&self) -> RowsIter<'_> {
         RowsIter { rows: self, left: 0..self.count }
+    }
+
+    /// Each row, by variable number, its grades as grades.
+    ///
+    /// ```
+    /// # fn main() -> Result<(), ducatbriar::Refusal> {
+    /// use ducatbriar::{Cell, Kind, Pool};
+    /// let mut pool = Pool::new();
+    /// let slope = pool.build_with_kinds(&[Kind::Grade, Kind::Plain], 4, &[[Cell::Grade(45), 12.into()], [Cell::Grade(-60), 11.into()]])?;
+    /// for row in pool.rows(&slope)?.cells() {
+    ///     println!("stretch {}: {} thousandths", row[1], row[0]);
+    /// }
+    /// assert_eq!(pool.rows(&slope)?.cells().next(), Some(vec![Cell::Grade(-60), Cell::Plain(11)]));
+    /// # Ok(())
+    /// # }
+    /// ```
+    pub fn cells(&self) -> impl ExactSizeIterator<Item = Vec<Cell>> + '_ {
+        self.iter().map(|row| self.kinds.iter().zip(row).map(|(kind, &word)| kind.cell(word)).collect())
     }
 }
 
@@ -138,7 +168,7 @@ impl Pool {
         &self.words
     }
 
-    /// Builds a table of these rows, with room for `capacity` of them. A refused build leaves the pool as it was.
+    /// Builds a table of these rows, with room for `capacity` of them and plain columns. A refused build leaves the pool as it was.
     ///
     /// ```
     /// # fn main() -> Result<(), ducatbriar::Refusal> {
@@ -150,13 +180,40 @@ impl Pool {
     /// # }
     /// ```
     pub fn build<R: AsRef<[u64]>>(&mut self, arity: usize, capacity: usize, rows: &[R]) -> Result<Table, Refusal> {
+        self.built(arity, capacity, rows, &[])
+    }
+
+    /// Builds a table with a column of each of these kinds. Grades go in as grades, and ascend in the table.
+    ///
+    /// ```
+    /// # fn main() -> Result<(), ducatbriar::Refusal> {
+    /// use ducatbriar::{Cell::{Grade, Plain}, Kind, Pool, Query, Refusal, SeekStrategy};
+    /// let mut pool = Pool::new();
+    /// let slope = pool.build_with_kinds(&[Kind::Grade, Kind::Plain], 4, &[[Grade(45), Plain(12)], [Grade(-60), Plain(11)]])?;
+    /// let tyres = pool.build(1, 4, &[[21]])?;
+    /// // A grade is no tyre.
+    /// let query = Query::new(&[0, 1]).atom(0, &[0, 1]).atom(1, &[0]);
+    /// assert_eq!(pool.join(SeekStrategy::Galloping, &[&slope, &tyres], &query), Err(Refusal::MixedKinds));
+    /// # Ok(())
+    /// # }
+    /// ```
+    ///
+    /// # Panics
+    ///
+    /// Where a cell is not of its column's kind.
+    pub fn build_with_kinds<R: AsRef<[Cell]>>(&mut self, kinds: &[Kind], capacity: usize, rows: &[R]) -> Result<Table, Refusal> {
+        let rows: Vec<_> = rows.iter().map(|row| words_of(kinds, row.as_ref())).collect();
+        self.built(kinds.len(), capacity, &rows, kinds)
+    }
+
+    fn built<R: AsRef<[u64]>>(&mut self, arity: usize, capacity: usize, rows: &[R], kinds: &[Kind]) -> Result<Table, Refusal> {
         let start = self.words.len();
         // The library refuses any other arity or capacity before it looks at the pool.
         if (1..=MAX_ARITY).contains(&arity) && (1..=MAX_CAPACITY).contains(&capacity) {
             self.words.resize(start + words(arity, capacity), 0);
         }
         let mut given = rows.iter().flat_map(|row| row.as_ref()).copied().collect::<Vec<_>>();
-        let built = calls::build(&mut given, &mut self.words, start as u64, arity as u64, capacity as u64);
+        let built = calls::build(&mut given, &mut self.words, start as u64, arity as u64, capacity as u64, kinds_of(kinds));
         // Rows of other lengths could make up whole rows between them.
         let whole = rows.iter().all(|row| row.as_ref().len() == arity);
         let number = if whole || (1..=3).contains(&built.number) { built.number } else { 4 };
@@ -181,6 +238,27 @@ impl Pool {
         let inserted = calls::insert(&mut self.words, table.header, row);
         table.header = inserted.table;
         Refusal::check(inserted.number).map(|()| inserted.is_new)
+    }
+
+    /// Inserts a row, its grades as grades, and says whether it was new.
+    ///
+    /// ```
+    /// # fn main() -> Result<(), ducatbriar::Refusal> {
+    /// use ducatbriar::{Cell, Kind, Pool};
+    /// let mut pool = Pool::new();
+    /// let mut grades = pool.build_with_kinds(&[Kind::Grade], 4, &[[Cell::Grade(0)]])?;
+    /// assert!(pool.insert_cells(&mut grades, &[Cell::Grade(-1)])?);
+    /// assert_eq!(grades.kinds(), [Kind::Grade]);
+    /// # Ok(())
+    /// # }
+    /// ```
+    ///
+    /// # Panics
+    ///
+    /// Where a cell is not of its column's kind.
+    pub fn insert_cells(&mut self, table: &mut Table, row: &[Cell]) -> Result<bool, Refusal> {
+        let words = words_of(&table.kinds(), row);
+        self.insert(table, &words)
     }
 
     /// The table's layers as text.
@@ -229,6 +307,15 @@ impl Pool {
         all
     }
 
+    /// The kinds of the variables of a query that passed the checks: each binds columns of one kind.
+    fn kinds(tables: &[&Table], query: &Query) -> Vec<Kind> {
+        let mut kinds = vec![Kind::Plain; query.variables()];
+        for (table, variables) in query.atoms() {
+            variables.zip(tables[table].kinds()).for_each(|(v, kind)| kinds[v] = kind);
+        }
+        kinds
+    }
+
     /// Writes the first rows of the query that fit into the window, each by variable number. Words behind them stay.
     pub fn join_into(
         &self,
@@ -253,7 +340,7 @@ impl Pool {
             let filled = self.join_into(strategy, tables, query, &mut words)?;
             if !filled.full {
                 words.truncate(filled.rows * width);
-                return Ok(Rows { width, count: filled.rows, words });
+                return Ok(Rows { kinds: Self::kinds(tables, query), count: filled.rows, words });
             }
             words.resize(4 * words.len(), 0);
         }

@@ -32,6 +32,12 @@ impl Query {
         self
     }
 
+    /// The table and the variables of each atom, of a query that passed the checks.
+    pub(crate) fn atoms(&self) -> impl Iterator<Item = (usize, impl Iterator<Item = usize> + '_)> + '_ {
+        let atoms = &self.query.atoms[..self.query.atom_count as usize];
+        atoms.iter().map(|atom| (atom.table as usize, atom.variables[..atom.len as usize].iter().map(|&v| v as usize)))
+    }
+
     /// How many variables it has, and so how many words a row.
     pub fn variables(&self) -> usize {
         self.query.n as usize

@@ -60,6 +60,8 @@ refusals!(
     Full = 12,
     /// By a listing; never by that of a [`Pool`](crate::Pool), which makes room.
     LongText = 14,
+    /// By a join: a grade is joined to what is none.
+    MixedKinds = 15,
 );
 
 impl Refusal {
@@ -104,6 +106,7 @@ impl Refusal {
             Refusal::FreeVariable => "some variable is in no atom",
             Refusal::Full => "more rows exist than fit the window",
             Refusal::LongText => "the text is longer than its destination",
+            Refusal::MixedKinds => "some variable binds columns of both kinds, plain and grade",
             Refusal::BadArity | Refusal::BadCapacity | Refusal::BadOrder | Refusal::BadAtoms => "",
         }
     }

@@ -1,6 +1,6 @@
 //! This side of docs/DIFFERENCES.md, by the numbers there, where a single call shows it.
 use ducatbriar::calls::partition_point;
-use ducatbriar::{Pool, SeekStrategy};
+use ducatbriar::{grade_of, Cell, Kind, Pool, Query, Refusal, SeekStrategy};
 
 /// The offset and the probes.
 fn seek(strategy: SeekStrategy, run: &[u64], target: u64) -> (u64, u64) {
@@ -27,4 +27,14 @@ fn no_4_a_falling_run() {
     assert_eq!(seek(SeekStrategy::Linear, &[0, 0, 0, 1, 0], 1).0, 3);
     assert_eq!(seek(SeekStrategy::Binary, &[0, 0, 0, 1, 0], 1).0, 5);
     assert_eq!(seek(SeekStrategy::Galloping, &[0, 0, 0, 0, 0, 0, 0, 0, 0, 0, 0, 0, 1, 0], 1).0, 14);
+}
+
+#[test]
+fn no_17_a_grade_is_joined_to_grades_alone() {
+    let mut pool = Pool::new();
+    let grade = pool.build_with_kinds(&[Kind::Grade], 1, &[[Cell::Grade(grade_of(0))]]).unwrap();
+    let plain = pool.build(1, 1, &[[0]]).unwrap();
+    let query = Query::new(&[0]).atom(0, &[0]).atom(1, &[0]);
+    assert_eq!(pool.join(SeekStrategy::Linear, &[&grade, &plain], &query), Err(Refusal::MixedKinds));
+    assert_eq!(pool.join(SeekStrategy::Linear, &[&grade, &grade], &query).unwrap().len(), 1);
 }

@@ -69,7 +69,7 @@ fn no_listing_is_longer() {
 #[test]
 fn an_empty_header_is_that_of_a_build_over_no_rows() {
     let mut pool = vec![0; words(MAX_ARITY, 4)];
-    let built = calls::build(&mut [], &mut pool, 0, MAX_ARITY as u64, 4);
+    let built = calls::build(&mut [], &mut pool, 0, MAX_ARITY as u64, 4, calls::Kinds::default());
     assert_eq!((built.number, built.table), (0, calls::empty(0, MAX_ARITY as u64, 4)));
     assert!(calls::undamaged(&pool, built.table));
     // Outside the limits, and where its words do not lie in the pool, it is damaged.
@@ -83,7 +83,7 @@ fn an_empty_header_is_that_of_a_build_over_no_rows() {
 /// The number of a build of no rows.
 fn built(arity: usize, capacity: usize) -> u64 {
     let mut pool = vec![0; words(arity, capacity)];
-    calls::build(&mut [], &mut pool, 0, arity as u64, capacity as u64).number
+    calls::build(&mut [], &mut pool, 0, arity as u64, capacity as u64, calls::Kinds::default()).number
 }
 
 #[test]

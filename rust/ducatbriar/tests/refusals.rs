@@ -1,6 +1,6 @@
 //! Each number of refusal that the owned types can meet, and what the pool holds behind it.
 use ducatbriar::limits::MAX_CAPACITY;
-use ducatbriar::{calls, Pool, Query, Refusal, SeekStrategy, Table};
+use ducatbriar::{calls, Cell, Kind, Pool, Query, Refusal, SeekStrategy, Table};
 
 const HEADER: &str = include_str!("../../../include/ducatbriar.h");
 
@@ -22,7 +22,7 @@ fn names_numbers_and_texts_are_the_header_s() {
     }
     // One more is for what is done.
     assert_eq!(HEADER.matches("    case DUCATBRIAR_").count(), Refusal::ALL.len() + 1);
-    assert_eq!([0, 13, 15].map(Refusal::of), [None; 3]);
+    assert_eq!([0, 13, 16].map(Refusal::of), [None; 3]);
 }
 
 const NO_ROWS: &[[u64; 2]] = &[];
@@ -85,6 +85,39 @@ fn joins() {
     assert_eq!(number(join(&nine)), 9);
     assert_eq!(number(join(&Query::new(&[0, 1]).atom(0, &[1, 0]))), 10);
     assert_eq!(number(join(&Query::new(&[0, 1, 2]).atom(0, &[0, 1]))), 11);
+}
+
+/// Two grades may be joined, and two plain columns; the check stands behind 11.
+#[test]
+fn kinds() {
+    let mut pool = Pool::new();
+    let slope = [[Cell::Grade(-60), Cell::Plain(1)], [Cell::Grade(0), Cell::Plain(2)]];
+    let slope = pool.build_with_kinds(&[Kind::Grade, Kind::Plain], 2, &slope).unwrap();
+    let plain = pool.build(2, 2, &[[1, 2], [2, 3]]).unwrap();
+    let join = |query: &Query| pool.join(SeekStrategy::Galloping, &[&slope, &plain], query).map(|rows| rows.len());
+    assert_eq!(join(&Query::new(&[0, 1]).atom(0, &[0, 1]).atom(0, &[0, 1])), Ok(2));
+    assert_eq!(join(&Query::new(&[0, 1, 2]).atom(0, &[0, 1]).atom(1, &[1, 2])), Ok(2));
+    assert_eq!(number(join(&Query::new(&[0, 1]).atom(0, &[0, 1]).atom(1, &[0, 1]))), 15);
+    assert_eq!(number(join(&Query::new(&[0, 1, 2]).atom(0, &[0, 1]).atom(1, &[0, 1]))), 11);
+}
+
+#[test]
+fn kinds_stay() {
+    let mut pool = Pool::new();
+    let mut slope = pool.build_with_kinds(&[Kind::Plain, Kind::Grade], 2, &[[Cell::Plain(7), Cell::Grade(1)]]).unwrap();
+    assert!(pool.insert_cells(&mut slope, &[Cell::Plain(7), Cell::Grade(-1)]).unwrap());
+    assert_eq!(slope.kinds(), [Kind::Plain, Kind::Grade]);
+    let rows = pool.rows(&slope).unwrap();
+    assert_eq!(rows.kinds(), slope.kinds());
+    let cells: Vec<_> = rows.cells().collect();
+    assert_eq!(cells, [[Cell::Plain(7), Cell::Grade(-1)], [Cell::Plain(7), Cell::Grade(1)]]);
+    assert_eq!(number(pool.build_with_kinds(&[Kind::Grade; 9], 1, &[[Cell::Grade(0); 9]])), 1);
+}
+
+#[test]
+#[should_panic(expected = "Plain(7) in column 0, which is Grade")]
+fn a_cell_of_another_kind() {
+    _ = Pool::new().build_with_kinds(&[Kind::Grade], 1, &[[Cell::Plain(7)]]);
 }
 
 #[test]

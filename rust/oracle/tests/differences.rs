@@ -154,4 +154,9 @@ mod differences {
     fn no_16_a_tuple_of_another_length_panics() {
         assert!(panics(|| trie(1, &[]).insert([1, 2])));
     }
+
+    #[test]
+    fn no_17_columns_have_no_kinds() {
+        assert_eq!(join(&[0], &[(0, &[0]), (1, &[0])], &[trie(1, &[&[0]]), trie(1, &[&[0]])]), [[0]]);
+    }
 }

@@ -37,6 +37,9 @@ mul-if2 c = omega arith
 element-copy-out-if2 : tie.Need-element-copy-out-if2 Inv-loop μ-loop
 element-copy-out-if2 c = omega arith
 
+element-copy-out-if3 : tie.Need-element-copy-out-if3 Inv-loop μ-loop
+element-copy-out-if3 c = omega arith
+
 returns : tie.Need-returns Inv-loop μ-loop
 returns c =
     let d = c .before .before .before .loop .d in
@@ -44,7 +47,8 @@ returns c =
     sym
     (every-fails (pastAt t) maxArity d (omega arith)
     (past-not t d (c .before .before .before .loop .inv .0)
-    (⊎-elim (λ w. inl (w .taken)) (λ w. inr (eqb-false (intervalLen t d) 0 (not-true (eqb (intervalLen t d) 0) (w .2 .taken)))) (c .if1 .came))))
+    (⊎-elim (λ w. inl (w .taken))
+    (λ v. inr (⊎-elim (λ w. inl (eqb-false (intervalLen t d) 0 (not-true (eqb (intervalLen t d) 0) (w .2 .taken)))) (λ w. inr (w .4 .taken)) v)) (c .if1 .came))))
 
 add-d : tie.Need-add-d Inv-loop μ-loop
 add-d c = omega arith
@@ -54,11 +58,12 @@ loop-less c = omega arith
 
 loop-again : tie.Need-loop-again Inv-loop μ-loop
 loop-again c =
-    let d = c .before .before .before .before .before .loop .d in
-    let t = c .before .before .before .before .before .before .args .t1 in (
+    let l = c .before .before .before .before .before .before .before .loop in
+    let d = l .d in
+    let t = c .before .before .before .before .before .before .before .before .args .t1 in (
       omega arith,
-      every-more (pastAt t) d (c .before .before .before .before .before .loop .inv .1)
-          (past-told t d (inr (c .before .before .if1 .left, eqb-true (intervalLen t d) 0 (not-false (eqb (intervalLen t d) 0) (c .if2 .left))))),
+      every-more (pastAt t) d (l .inv .1)
+          (past-told t d (inr (c .before .before .before .before .if1 .left, eqb-true (intervalLen t d) 0 (not-false (eqb (intervalLen t d) 0) (c .before .before .if2 .left)), c .if3 .left))),
     )
 
 returns-2 : tie.Need-returns-2 Inv-loop μ-loop
@@ -77,6 +82,7 @@ past-arity-spec =
     element-copy-out-if1
     mul-if2
     element-copy-out-if2
+    element-copy-out-if3
     returns
     add-d
     loop-less

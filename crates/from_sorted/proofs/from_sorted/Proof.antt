@@ -91,13 +91,13 @@ array-read-tuple-count : tie.Need-array-read-tuple-count Inv-loop μ-loop
 array-read-tuple-count c = omega (arith, c .before .before .before .before .before .before .before .before .before .before .before .before .before .pre .few, c .before .before .before .before .before .before .before .before .before .before .before .before .before .pre .positive)
 
 same-length : tie.Need-same-length Inv-loop μ-loop
-same-length c = c .before .loop .inv .long ∙ c .before .before .before .before .push-row .kept .0
+same-length c = c .before .before .loop .inv .long ∙ c .before .before .before .before .before .push-row .kept .0
 
 returns-2 : tie.Need-returns-2 Inv-loop μ-loop
 returns-2 c =
-    let k = c .before .before in
+    let k = c .before .before .before in
     let s = start k in
-    fills-all (s .pre) (wide s) (k .before .before .push-row .ensures) (c .before .loop .inv) (omega (arith, length-given (s .args .t .arity) (s .args .rows .now), c .loop-test .left))
+    fills-all (s .pre) (wide s) (k .before .before .push-row .ensures) (c .before .before .loop .inv) (omega (arith, length-given (s .args .t .arity) (s .args .rows .now), c .before .loop-test .left))
 
 pub from-sorted-spec : {M : Type 1} → statement M
 from-sorted-spec =

@@ -104,7 +104,7 @@ mod recorded {
             for rows in tables::sequences(&all_rows(arity, keys), 3) {
                 for built in 0..=rows.len() {
                     let (built, inserted) = (rows[..built].to_vec(), rows[built..].to_vec());
-                    cases.push(Grown { arity, capacity: 4, margins: (0, 0), built, inserted });
+                    cases.push(plain(arity, 4, built, inserted));
                 }
             }
         }
@@ -113,12 +113,12 @@ mod recorded {
             let keys = rng.keys();
             let mut rows = |count: usize| -> Vec<Row> { (0..count).map(|_| rng.row(arity, keys)).collect() };
             let (built, inserted) = (rows(1 + i / 3), rows(2));
-            cases.push(Grown { arity, capacity: built.len() + 2, margins: (0, 0), built, inserted });
+            cases.push(plain(arity, built.len() + 2, built, inserted));
         }
         for (arity, below, count) in [(1, 2000, 200), (2, 30, 200), (3, 8, 100), (8, 2, 50)] {
             let built: Vec<Row> = (0..count).map(|_| rng.row(arity, Keys::Below(below))).collect();
             let inserted = vec![rng.row(arity, Keys::Below(below))];
-            cases.push(Grown { arity, capacity: count + 1, margins: (0, 0), built, inserted });
+            cases.push(plain(arity, count + 1, built, inserted));
         }
         cases
             .iter()
@@ -127,6 +127,11 @@ mod recorded {
     }
 
     /// The count of tuples, and the listing.
+    /// A table of plain columns, which is what kermit has.
+    fn plain(arity: usize, capacity: usize, built: Vec<Row>, inserted: Vec<Row>) -> Grown {
+        Grown { arity, capacity, margins: (0, 0), kinds: Default::default(), built, inserted }
+    }
+
     fn listing<S: oracle::SeekStrategy>(trie: &oracle::ColumnTrie<S>) -> String {
         let text = trie.to_string();
         format!("tuples {}, listing of {}\n{text}", trie.tuple_count(), text.len())

@@ -4,8 +4,8 @@ use mathlib.Core.Bool.{true}
 use Rattle.relation.specs.Tests.{every}
 use Rattle.relation.proofs.Tests.{passed, failed}
 use Rattle.query.specs.Checks.{covers}
-use Rattle.join_query.specs.Query.{orderOk, namedOk, listOk, listsOf}
-use Rattle.join_query.proofs.Lists.{lists-told, number-8, number-9, number-10, number-11, number-6, number-0}
+use Rattle.join_query.specs.Query.{orderOk, namedOk, listOk, listsOf, oneKind}
+use Rattle.join_query.proofs.Lists.{lists-told, number-8, number-9, number-10, number-11, number-15, number-6, number-0}
 use Rattle.join_query.proofs.checks.refusal.Statement.{statement}
 use Rattle.join_query.proofs.checks.refusal.Tie as tie
 
@@ -21,6 +21,9 @@ listed c = passed (c .before .lists-ok .ensures) (c .if3 .left)
 
 covered : (c : tie.Else4) → let a = c .before .before .before .before .before .before .before .before .before .args in covers (a .q .n) (listsOf (a .q)) ≡ true
 covered c = passed (c .before .all-held .ensures) (c .if4 .left)
+
+of-one-kind : (c : tie.Else5) → let a = c .before .before .before .before .before .before .before .before .before .before .before .args in every (a .q .n) (oneKind (a .ts) (a .q)) ≡ true
+of-one-kind c = passed (c .before .kinds-ok .ensures) (c .if5 .left)
 
 order-ok-requires : tie.Need-order-ok-requires
 order-ok-requires c κs = tt
@@ -50,18 +53,28 @@ returns-4 c =
     let a = c .before .before .before .before .before .before .before .before .before .args in
     number-11 (a .pool .now) (a .ts) (a .q) (ordered (c .before .before .before .before .before .before)) (named (c .before .before .before .before)) (listed (c .before .before)) (failed (c .before .all-held .ensures) (c .if4 .taken))
 
-tables-ok-requires : tie.Need-tables-ok-requires
-tables-ok-requires c κs = named (c .before .before .before .before)
+kinds-ok-requires : tie.Need-kinds-ok-requires
+kinds-ok-requires c κs =
+    let a = c .before .before .before .before .before .before .before .before .before .args in
+    (named (c .before .before .before .before), lists-told (a .ts) (a .q) (named (c .before .before .before .before)) (listed (c .before .before)))
 
 returns-5 : tie.Need-returns-5
 returns-5 c =
     let a = c .before .before .before .before .before .before .before .before .before .before .before .args in
-    number-6 (a .pool .now) (a .ts) (a .q) (ordered (c .before .before .before .before .before .before .before .before)) (named (c .before .before .before .before .before .before)) (listed (c .before .before .before .before)) (covered (c .before .before)) (failed (c .before .tables-ok .ensures) (c .if5 .taken))
+    number-15 (a .pool .now) (a .ts) (a .q) (ordered (c .before .before .before .before .before .before .before .before)) (named (c .before .before .before .before .before .before)) (listed (c .before .before .before .before)) (covered (c .before .before)) (failed (c .before .kinds-ok .ensures) (c .if5 .taken))
+
+tables-ok-requires : tie.Need-tables-ok-requires
+tables-ok-requires c κs = named (c .before .before .before .before .before .before)
 
 returns-6 : tie.Need-returns-6
 returns-6 c =
-    let a = c .before .before .before .before .before .before .before .before .before .before .before .args in
-    number-0 (a .pool .now) (a .ts) (a .q) (ordered (c .before .before .before .before .before .before .before .before)) (named (c .before .before .before .before .before .before)) (listed (c .before .before .before .before)) (covered (c .before .before)) (passed (c .before .tables-ok .ensures) (c .if5 .left))
+    let a = c .before .before .before .before .before .before .before .before .before .before .before .before .before .args in
+    number-6 (a .pool .now) (a .ts) (a .q) (ordered (c .before .before .before .before .before .before .before .before .before .before)) (named (c .before .before .before .before .before .before .before .before)) (listed (c .before .before .before .before .before .before)) (covered (c .before .before .before .before)) (of-one-kind (c .before .before)) (failed (c .before .tables-ok .ensures) (c .if6 .taken))
+
+returns-7 : tie.Need-returns-7
+returns-7 c =
+    let a = c .before .before .before .before .before .before .before .before .before .before .before .before .before .args in
+    number-0 (a .pool .now) (a .ts) (a .q) (ordered (c .before .before .before .before .before .before .before .before .before .before)) (named (c .before .before .before .before .before .before .before .before)) (listed (c .before .before .before .before .before .before)) (covered (c .before .before .before .before)) (of-one-kind (c .before .before)) (passed (c .before .tables-ok .ensures) (c .if6 .left))
 
 pub refusal-spec : {M : Type 1} → statement M
 refusal-spec =
@@ -75,6 +88,8 @@ refusal-spec =
     returns-3
     all-held-requires
     returns-4
-    tables-ok-requires
+    kinds-ok-requires
     returns-5
-    returns-6)
+    tables-ok-requires
+    returns-6
+    returns-7)

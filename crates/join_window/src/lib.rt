@@ -4,9 +4,9 @@ ghost use mathlib.Core.Bool.{false};
 ghost use Prim.Native.Nat.{_≤_};
 ghost use lib.ListN.{length, take};
 ghost use Rattle.query.specs.Window.{emit};
 ghost use Rattle.join_query.specs.Query.{maxVariables};
-ghost use Rattle.join_query.specs.Window.{written, Fits};
-use crate::Query;
+ghost use Rattle.join_window.specs.Window.{written, Fits};
+use join_query::Query;
 
 // How many rows the window holds, and whether more exist than fit.
 pub struct Written {

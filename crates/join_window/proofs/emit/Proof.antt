@@ -1,4 +1,4 @@
--- `window::emit` meets its contract: v words of the row are pasted into the window, behind the rows that it holds.
+-- `emit` meets its contract: v words of the row are pasted into the window, behind the rows that it holds.
 use Prim.Native.Nat.{ℕ, _+_, _*_, _-_, _≤_}
 use native.Mathlib.Omega.{arith}
 use native.Mathlib.Nat.{add-mul, one-mul}
@@ -11,10 +11,10 @@ use lib.Seq.{paste, paste-zero, paste-suc, length-paste}
 use borrow.Author.Needs.{needs}
 use Rattle.query.specs.Window.{Progress}
 use Rattle.query.proofs.Window.{emit-room, emit-out, paste-row}
 use Rattle.join_query.specs.Query.{maxVariables}
-use Rattle.join_query.specs.Window.{written}
-use Rattle.join_query.proofs.window.emit.Statement.{statement}
-use Rattle.join_query.proofs.window.emit.Tie as tie
+use Rattle.join_window.specs.Window.{written}
+use Rattle.join_window.proofs.emit.Statement.{statement}
+use Rattle.join_window.proofs.emit.Tie as tie
 
 abbrev Inv-loop : tie.InvT-loop
 Inv-loop window₀ n rows row base v₀ window v = (v ≤ n) × (base + n ≤ length window₀) × (window ≡ paste window₀ base row v)
