@@ -66,7 +66,8 @@ enum {
     DUCATBRIAR_FREE_VARIABLE = 11,
     DUCATBRIAR_FULL = 12,
     DUCATBRIAR_LONG_TEXT = 14,
-    DUCATBRIAR_MIXED_KINDS = 15
+    DUCATBRIAR_MIXED_KINDS = 15,
+    DUCATBRIAR_PART_ROWS = 16
 };
 
 /* What a number means, in one line. It is here and not in the archive. */
@@ -103,6 +104,8 @@ static inline const char *ducatbriar_meaning(uint64_t number)
         return "the text is longer than its destination";
     case DUCATBRIAR_MIXED_KINDS:
         return "some variable binds columns of both kinds, plain and grade";
+    case DUCATBRIAR_PART_ROWS:
+        return "the window's length is no whole number of rows";
     default:
         return "a number that no call gives";
     }
@@ -285,10 +288,10 @@ typedef struct {
 } ducatbriar_joined;
 
 /* Writes the query's rows at the front of the window: the assignments of words to variables whose part for each atom is a row of its table, each once,
- * n words by variable number, ascending as read in the order, the same under all strategies. Refusals 8, 9, 10, 11, 15, 6, 12, in that sequence; only
- * tables that atoms name are looked at. 15: a grade is joined to what is none. With 12 the window holds the first rows that fit, `rows` says how many, and
- * `seeks` are those up to finding the first row that does not fit; with any other refusal both are 0. Words behind the rows stay, and the pool is only
- * read. */
+ * n words by variable number, ascending as read in the order, the same under all strategies. Refusals 8, 9, 10, 11, 15, 16, 6, 12, in that sequence; only
+ * tables that atoms name are looked at. 15: a grade is joined to what is none. 16: n is above 0 and `window_len` is not a multiple of it; 0 is one. With 12
+ * the window holds as many of the first rows as it is rows long, `rows` says how many, and `seeks` are those up to finding the first row that does not
+ * fit; with any other refusal both are 0. Words behind the rows stay, and the pool is only read. */
 ducatbriar_joined ducatbriar_join(uint64_t strategy, const uint64_t *pool, uint64_t len, ducatbriar_tables tables, ducatbriar_query query,
                                   uint64_t *window, uint64_t window_len);
 

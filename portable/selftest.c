@@ -164,13 +164,17 @@ static void joins(void)
     uint64_t least = count == 0 ? words : words - q.n, most = words < COUNT(window) ? words + 1 : words;
     for (uint64_t strategy = 0; strategy < 3; strategy++)
         for (uint64_t size = most + 1; size-- > least;) {
-            bool fits = words <= size, holds = true;
+            bool whole = q.n == 0 || size % q.n == 0, fits = words <= size, holds = true;
+            uint64_t written = whole ? (fits ? words : least) : 0;
             for (size_t i = 0; i < COUNT(window); i++)
                 window[i] = mark;
             ducatbriar_joined j = ducatbriar_join(strategy, pool, COUNT(pool), ts, q, window, size);
-            same(j.number == (fits ? 0 : 12) && j.rows == (fits ? count : count - 1));
+            if (whole)
+                same(j.number == (fits ? 0 : 12) && j.rows == (fits ? count : count - 1));
+            else
+                same(j.number == 16 && j.rows == 0);
             for (size_t i = 0; i < COUNT(window); i++)
-                holds = holds && window[i] == (i < (fits ? words : least) ? rows[i] : mark);
+                holds = holds && window[i] == (i < written ? rows[i] : mark);
             same(holds);
         }
 }
@@ -200,7 +204,7 @@ static void replay(const char *folder, const char *name, void (*one)(void))
 
 /* ---- drawn calls */
 
-static uint64_t state = UINT64_C(88172645463325252), sum = UINT64_C(14695981039346656037), calls, refusals[16];
+static uint64_t state = UINT64_C(88172645463325252), sum = UINT64_C(14695981039346656037), calls, refusals[17];
 
 static uint64_t draw(uint64_t below)
 {
@@ -362,6 +366,8 @@ static void query(const uint64_t *pool, uint64_t len, ducatbriar_tables ts)
     if (draw(24) == 0)
         ts.count = key();
     uint64_t strategy = draw(4), size = draw(3) ? COUNT(window) : draw(12);
+    if (draw(8) && q.n > 0) /* whole rows for the most part, so that most joins pass 16 */
+        size -= size % q.n;
     for (size_t i = 0; i < COUNT(window); i++)
         window[i] = i;
     ducatbriar_joined j = ducatbriar_join(strategy, pool, len, ts, q, window, size);
@@ -506,7 +512,7 @@ static void heap(uint64_t arity)
 #ifndef SELFTEST_SMALL
 static void limits(void)
 {
-    static uint64_t rows[2 * 65536], pool[4 * 65536], window[64];
+    static uint64_t rows[2 * 65536], pool[4 * 65536], window[63];
     for (uint64_t i = 0; i < COUNT(rows); i++)
         rows[i] = i % 2 ? draw(UINT64_C(1) << 40) : draw(300);
     ducatbriar_built over = ducatbriar_build(rows, COUNT(rows), pool, COUNT(pool), 0, 2, 65537, plain);

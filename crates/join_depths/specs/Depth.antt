@@ -118,9 +118,10 @@ pub record Placed (pool : List ℕ) (t : ColumnTrie) (at : ℕ) (p : Row) : Type
   pub under : prefixAt (length p) (at - aboveOf t (length p)) (rowsIn pool t) ≡ p
   pub inside : 0 < length (rowsIn pool t) → at - aboveOf t (length p) < length (prefixes (length p) (rowsIn pool t))
 
--- such a query with its plan, d of its n variables given words
+-- such a query with its plan, d of its n variables given words; `len` is the length of the window that it passed with
 pub record Based (pool : List ℕ) (ts : Tables) (q : Query) (plan : List ℕ) (n d : ℕ) (f : ℕ → Row) : Type 0 where
-  pub accepted : Accepted pool ts q
+  pub len : ℕ
+  pub accepted : Accepted pool ts q len
   pub planned : Planned plan ts q
   pub size : q .n ≡ n
   pub deep : d ≤ n

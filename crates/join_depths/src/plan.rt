@@ -6,10 +6,10 @@ ghost use Rattle.column_trie.specs.Limits.{maxArity, maxCapacity};
 ghost use Rattle.join_depths.specs.Plan.{openingWords, planWords, aboveOf, Planned, Plannable, OpeningMade, DepthMade};
 use column_trie::ColumnTrie;
 use column_trie::layer_at;
+use join_checks::heads;
+use join_checks::reached;
 use join_query::Query;
 use join_query::Tables;
-use join_query::checks::heads;
-use join_query::checks::reached;
 
 // Where the numbers of an opening stand, behind its atom: where the keys above the layer start, where its keys start and how many they are, and the same of
 // its intervals.

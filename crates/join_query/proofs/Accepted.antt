@@ -45,9 +45,9 @@ getD-default (x ∷ l) (suc i) a b k = getD-default l i a b (omega arith)
 
 -- ---- a query that passed
 
-module _ {pool : List ℕ} {ts : Tables} {q : Query} (z : Accepted pool ts q) where
-  checks : Passed pool ts q
-  checks = passed-all pool ts q (z .passed)
+module _ {pool : List ℕ} {ts : Tables} {q : Query} {len : ℕ} (z : Accepted pool ts q len) where
+  checks : Passed pool ts q len
+  checks = passed-all pool ts q len (z .passed)
 
   pub sized : Ordered q
   sized = order-told q (checks .order)

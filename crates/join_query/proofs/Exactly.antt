@@ -1,7 +1,8 @@
 -- Each number of the checks is given exactly when documents 01 and 02 say: from the facts of a query, and not from the tests that the code makes. A test too strict
 -- or too lax would be refused here. What `join` answers crates/demand_3 says from these.
-use Prim.Native.Nat.{ℕ, zero, suc, _<_}
+use Prim.Native.Nat.{ℕ, zero, suc, _*_, _/_, _%_, _<_}
 use native.Mathlib.Omega.{arith}
+use native.Mathlib.Nat.{mul-mod-left, div-add-mod'}
 use mathlib.Core.Path.{_≡_, refl, sym, subst, ap, _∙_}
 use mathlib.Core.Bool.{Bool, true, false, _&&_, _||_, not, Bool·beq}
 use mathlib.Core.Logic.{_⊎_, inl, inr, ⊎-elim}
@@ -14,7 +15,7 @@ use Rattle.relation.specs.Order.{pick}
 use Rattle.relation.specs.Lists.{_∈_}
 use Rattle.relation.specs.Exactly.{Exactly}
 use Rattle.relation.specs.Tests as index
-use Rattle.relation.proofs.Tests.{and-true, not-both, every-at, every-all}
+use Rattle.relation.proofs.Tests.{and-true, or-right, not-both, every-at, every-all}
 use Rattle.relation.proofs.Sequence.{exactly-then, exactly-same, turned, here, later, neither}
 use Rattle.query.specs.Meaning.{follows}
 use Rattle.query.specs.Checks.{permutes, listed, covers}
@@ -28,8 +29,8 @@ use Rattle.column_trie.specs.Table.{gradeAt}
 use Rattle.column_trie.specs.declared.ColumnTrie.{ColumnTrie}
 use Rattle.column_trie.proofs.Damage.{undamaged-told, told-undamaged}
 use Rattle.query.specs.Limits.{maxAtoms}
-use Rattle.join_query.specs.Query.{maxTables, maxVariables, noAtom, atomAt, tableAt, atomTable, orderOf, varsOf, varAt, atomsIn, listsOf, orderOk, namedOk, listedAt, listOk, columnOk, columnsOk, bindsOnly, oneKind, named, soundAt, joinNumber}
-use Rattle.join_query.specs.Facts.{Typed, Ordered, Named, Follows, AllFollow, Covered, HasColumn, SameKinds, SoundTables, Passing}
+use Rattle.join_query.specs.Query.{maxTables, maxVariables, noAtom, atomAt, tableAt, atomTable, orderOf, varsOf, varAt, atomsIn, listsOf, orderOk, namedOk, listedAt, listOk, columnOk, columnsOk, bindsOnly, oneKind, wholeRows, named, soundAt, joinNumber}
+use Rattle.join_query.specs.Facts.{Typed, Ordered, Named, Follows, AllFollow, Covered, HasColumn, SameKinds, WholeRows, SoundTables, Passing}
 use Rattle.join_query.specs.Outcome.{answered}
 use Rattle.join_query.specs.declared.Atom.{Atom}
 use Rattle.join_query.specs.declared.Query.{Query}
@@ -115,6 +116,19 @@ only-decides ts q v grade = (
     column : (i j : ℕ) → Exactly (test i j ≡ true) (varAt (atomAt q i) j ≡ v → gradeAt (atomTable ts q i) j ≡ grade)
     column i j = column-decides (atomTable ts q i) (atomAt q i) v grade j
 
+pub rows-decide : (n len : ℕ) → Exactly (wholeRows n len ≡ true) (WholeRows n len)
+rows-decide n len = (
+  λ e. ⊎-elim (λ z. inl (eqb-true n 0 z)) (λ z. inr (len / n, multiple (eqb-true (len % n) 0 z))) (either (eqb n 0) (eqb (len % n) 0) e),
+  back,
+)
+  where
+    multiple : len % n ≡ 0 → len ≡ len / n * n
+    multiple z = omega (arith, div-add-mod' len n)
+
+    back : WholeRows n len → wholeRows n len ≡ true
+    back (inl z) = ap (λ (b : Bool). b || eqb (len % n) 0) (eq-eqb n 0 z)
+    back (inr t) = or-right (eqb n 0) (eqb (len % n) 0) (eq-eqb (len % n) 0 (ap (λ (l : ℕ). l % n) (t .1) ∙ mul-mod-left (t .0) n))
+
 module _ (q : Query) (y : Typed q) where
   lists-decide : (ts : Tables) → Ordered q → Named (ts .count) q → Exactly (index.every (q .«atom_count») (listOk ts q) ≡ true) (AllFollow ts q)
   lists-decide ts o n = (
@@ -195,15 +209,18 @@ module _ (q : Query) (y : Typed q) where
 
 -- ---- the number of the first check that fails
 
-module _ (pool : List ℕ) (ts : Tables) (q : Query) (y : Typed q) where
+module _ (pool : List ℕ) (ts : Tables) (q : Query) (len : ℕ) (y : Typed q) where
   abbrev number : ℕ
-  number = joinNumber pool ts q
+  number = joinNumber pool ts q len
 
   abbrev last : ℕ
   last = pick (index.every (ts .count) (soundAt pool ts q)) 0 6
 
+  abbrev sixth : ℕ
+  sixth = pick (wholeRows (q .n) len) last 16
+
   abbrev fifth : ℕ
-  fifth = pick (index.every (q .n) (oneKind ts q)) last 15
+  fifth = pick (index.every (q .n) (oneKind ts q)) sixth 15
 
   abbrev fourth : ℕ
   fourth = pick (covers (q .n) (listsOf q)) fifth 11
@@ -222,8 +239,11 @@ module _ (pool : List ℕ) (ts : Tables) (q : Query) (y : Typed q) where
   last-not : (k : ℕ) → 6 < k → last ≡ k → ⊥
   last-not k h = neither (index.every (ts .count) (soundAt pool ts q)) 6 0 k (λ e. omega arith) (λ e. omega arith)
 
+  sixth-not : (k : ℕ) → 6 < k → k < 16 → sixth ≡ k → ⊥
+  sixth-not k h b = neither (wholeRows (q .n) len) 16 last k (λ e. omega arith) (last-not k h)
+
   fifth-not : (k : ℕ) → 6 < k → k < 15 → fifth ≡ k → ⊥
-  fifth-not k h b = neither (index.every (q .n) (oneKind ts q)) 15 last k (λ e. omega arith) (last-not k h)
+  fifth-not k h b = neither (index.every (q .n) (oneKind ts q)) 15 sixth k (λ e. omega arith) (sixth-not k h (omega arith))
 
   fourth-not : (k : ℕ) → 6 < k → k < 15 → (11 ≡ k → ⊥) → fourth ≡ k → ⊥
   fourth-not k h b f = neither (covers (q .n) (listsOf q)) 11 fifth k f (fifth-not k h b)
@@ -234,7 +254,7 @@ module _ (pool : List ℕ) (ts : Tables) (q : Query) (y : Typed q) where
   second-not : (k : ℕ) → 6 < k → k < 15 → (11 ≡ k → ⊥) → (10 ≡ k → ⊥) → (9 ≡ k → ⊥) → second ≡ k → ⊥
   second-not k h b f g n = neither (namedOk (ts .count) q) 9 third k n (third-not k h b f g)
 
-  pub not-12 : joinNumber pool ts q ≡ 12 → ⊥
+  pub not-12 : joinNumber pool ts q len ≡ 12 → ⊥
   not-12 e =
       neither (orderOk q) 8 second 12 (λ d. omega arith) (second-not 12 (omega arith) (omega arith) (λ d. omega arith) (λ d. omega arith) (λ d. omega arith)) (sym in-sequence ∙ e)
 
@@ -252,46 +272,54 @@ module _ (pool : List ℕ) (ts : Tables) (q : Query) (y : Typed q) where
     past-covering : (k : ℕ) {Q : Type 0} → (11 ≡ k → ⊥) → (Covered q → Exactly (fifth ≡ k) Q) → Exactly (fourth ≡ k) (Covered q × Q)
     past-covering k f g = later (covers (q .n) (listsOf q)) (covering-decides q y n) 11 fifth k f g
 
-    past-kinds : AllFollow ts q → (k : ℕ) {Q : Type 0} → (15 ≡ k → ⊥) → (SameKinds ts q → Exactly (last ≡ k) Q) → Exactly (fifth ≡ k) (SameKinds ts q × Q)
-    past-kinds l k f g = later (index.every (q .n) (oneKind ts q)) (kinds-decide q y n ts l) 15 last k f g
+    past-kinds : AllFollow ts q → (k : ℕ) {Q : Type 0} → (15 ≡ k → ⊥) → (SameKinds ts q → Exactly (sixth ≡ k) Q) → Exactly (fifth ≡ k) (SameKinds ts q × Q)
+    past-kinds l k f g = later (index.every (q .n) (oneKind ts q)) (kinds-decide q y n ts l) 15 sixth k f g
 
-  pub checks-8 : Exactly (joinNumber pool ts q ≡ 8) (Ordered q → ⊥)
+  past-rows : (k : ℕ) {Q : Type 0} → (16 ≡ k → ⊥) → (WholeRows (q .n) len → Exactly (last ≡ k) Q) → Exactly (sixth ≡ k) (WholeRows (q .n) len × Q)
+  past-rows k f g = later (wholeRows (q .n) len) (rows-decide (q .n) len) 16 last k f g
+
+  pub checks-8 : Exactly (joinNumber pool ts q len ≡ 8) (Ordered q → ⊥)
   checks-8 =
       exactly-then (exactly-same in-sequence)
       (here (orderOk q) (order-decides q) 8 second (second-not 8 (omega arith) (omega arith) (λ e. omega arith) (λ e. omega arith) (λ e. omega arith)))
 
-  pub checks-9 : Exactly (joinNumber pool ts q ≡ 9) (Ordered q × (Named (ts .count) q → ⊥))
+  pub checks-9 : Exactly (joinNumber pool ts q len ≡ 9) (Ordered q × (Named (ts .count) q → ⊥))
   checks-9 =
       past-order 9 (λ e. omega arith) λ o.
       here (namedOk (ts .count) q) (names-decide (ts .count) q) 9 third (third-not 9 (omega arith) (omega arith) (λ e. omega arith) (λ e. omega arith))
 
-  pub checks-10 : Exactly (joinNumber pool ts q ≡ 10) (Ordered q × (Named (ts .count) q × (AllFollow ts q → ⊥)))
+  pub checks-10 : Exactly (joinNumber pool ts q len ≡ 10) (Ordered q × (Named (ts .count) q × (AllFollow ts q → ⊥)))
   checks-10 =
       past-order 10 (λ e. omega arith) λ o. past-names 10 (λ e. omega arith) λ n.
       here (index.every (q .«atom_count») (listOk ts q)) (lists-decide q y ts o n) 10 fourth (fourth-not 10 (omega arith) (omega arith) (λ e. omega arith))
 
-  pub checks-11 : Exactly (joinNumber pool ts q ≡ 11) (Ordered q × (Named (ts .count) q × (AllFollow ts q × (Covered q → ⊥))))
+  pub checks-11 : Exactly (joinNumber pool ts q len ≡ 11) (Ordered q × (Named (ts .count) q × (AllFollow ts q × (Covered q → ⊥))))
   checks-11 =
       past-order 11 (λ e. omega arith) λ o. past-names 11 (λ e. omega arith) λ n. past-lists o n 11 (λ e. omega arith) λ f.
       here (covers (q .n) (listsOf q)) (covering-decides q y n) 11 fifth (fifth-not 11 (omega arith) (omega arith))
 
-  pub checks-15 : Exactly (joinNumber pool ts q ≡ 15) (Ordered q × (Named (ts .count) q × (AllFollow ts q × (Covered q × (SameKinds ts q → ⊥)))))
+  pub checks-15 : Exactly (joinNumber pool ts q len ≡ 15) (Ordered q × (Named (ts .count) q × (AllFollow ts q × (Covered q × (SameKinds ts q → ⊥)))))
   checks-15 =
       past-order 15 (λ e. omega arith) λ o. past-names 15 (λ e. omega arith) λ n. past-lists o n 15 (λ e. omega arith) λ f. past-covering o n 15 (λ e. omega arith) λ c.
-      here (index.every (q .n) (oneKind ts q)) (kinds-decide q y n ts f) 15 last (last-not 15 (omega arith))
+      here (index.every (q .n) (oneKind ts q)) (kinds-decide q y n ts f) 15 sixth (sixth-not 15 (omega arith) (omega arith))
 
-  pub checks-6 : Exactly (joinNumber pool ts q ≡ 6) (Ordered q × (Named (ts .count) q × (AllFollow ts q × (Covered q × (SameKinds ts q × (SoundTables pool ts q → ⊥))))))
+  pub checks-16 : Exactly (joinNumber pool ts q len ≡ 16) (Ordered q × (Named (ts .count) q × (AllFollow ts q × (Covered q × (SameKinds ts q × (WholeRows (q .n) len → ⊥))))))
+  checks-16 =
+      past-order 16 (λ e. omega arith) λ o. past-names 16 (λ e. omega arith) λ n. past-lists o n 16 (λ e. omega arith) λ f. past-covering o n 16 (λ e. omega arith) λ c. past-kinds o n f 16 (λ e. omega arith) λ k.
+      here (wholeRows (q .n) len) (rows-decide (q .n) len) 16 last (last-not 16 (omega arith))
+
+  pub checks-6 : Exactly (joinNumber pool ts q len ≡ 6) (Ordered q × (Named (ts .count) q × (AllFollow ts q × (Covered q × (SameKinds ts q × (WholeRows (q .n) len × (SoundTables pool ts q → ⊥)))))))
   checks-6 =
-      past-order 6 (λ e. omega arith) λ o. past-names 6 (λ e. omega arith) λ n. past-lists o n 6 (λ e. omega arith) λ f. past-covering o n 6 (λ e. omega arith) λ c. past-kinds o n f 6 (λ e. omega arith) λ k.
+      past-order 6 (λ e. omega arith) λ o. past-names 6 (λ e. omega arith) λ n. past-lists o n 6 (λ e. omega arith) λ f. past-covering o n 6 (λ e. omega arith) λ c. past-kinds o n f 6 (λ e. omega arith) λ k. past-rows 6 (λ e. omega arith) λ w.
       here (index.every (ts .count) (soundAt pool ts q)) (tables-decide q y pool ts n) 6 0 (λ e. omega arith)
 
-  pub checks-0 : Exactly (joinNumber pool ts q ≡ 0) (Passing pool ts q)
+  pub checks-0 : Exactly (joinNumber pool ts q len ≡ 0) (Passing pool ts q len)
   checks-0 =
       exactly-then
-      (past-order 0 (λ e. omega arith) λ o. past-names 0 (λ e. omega arith) λ n. past-lists o n 0 (λ e. omega arith) λ f. past-covering o n 0 (λ e. omega arith) λ c. past-kinds o n f 0 (λ e. omega arith) λ k.
+      (past-order 0 (λ e. omega arith) λ o. past-names 0 (λ e. omega arith) λ n. past-lists o n 0 (λ e. omega arith) λ f. past-covering o n 0 (λ e. omega arith) λ c. past-kinds o n f 0 (λ e. omega arith) λ k. past-rows 0 (λ e. omega arith) λ w.
       later (index.every (ts .count) (soundAt pool ts q)) (tables-decide q y pool ts n) 6 0 0 (λ e. omega arith) (λ s. exactly-same refl)) (
-        λ t. record { ordered = t .0; named = t .1 .0; follow = t .1 .1 .0; covered = t .1 .1 .1 .0; kinds = t .1 .1 .1 .1 .0; sound = t .1 .1 .1 .1 .1 .0 },
-        λ p. (p .ordered, (p .named, (p .follow, (p .covered, (p .kinds, (p .sound, refl)))))),
+        λ t. record { ordered = t .0; named = t .1 .0; follow = t .1 .1 .0; covered = t .1 .1 .1 .0; kinds = t .1 .1 .1 .1 .0; window = t .1 .1 .1 .1 .1 .0; sound = t .1 .1 .1 .1 .1 .1 .0 },
+        λ p. (p .ordered, (p .named, (p .follow, (p .covered, (p .kinds, (p .window, (p .sound, refl))))))),
       )
 
 -- ---- of the outcome

@@ -26,7 +26,7 @@ use Rattle.column_trie.specs.Limits.{maxArity}
 use Rattle.column_trie.specs.Table.{gradeAt, undamaged}
 use Rattle.column_trie.specs.declared.ColumnTrie.{ColumnTrie}
 use Rattle.query.specs.Limits.{maxAtoms}
-use Rattle.join_query.specs.Query.{maxTables, maxVariables, noAtom, atomAt, tableAt, orderOf, varsOf, varAt, atomsIn, listsOf, orderOk, namedOk, listedAt, listOk, columnOk, bindsOnly, oneKind, named, soundAt, joinNumber}
+use Rattle.join_query.specs.Query.{maxTables, maxVariables, noAtom, atomAt, tableAt, orderOf, varsOf, varAt, atomsIn, listsOf, orderOk, namedOk, listedAt, listOk, columnOk, bindsOnly, oneKind, wholeRows, named, soundAt, joinNumber}
 use Rattle.join_query.specs.Facts.{Ordered, Named}
 use Rattle.join_query.specs.Checking.{reached, Listed}
 use Rattle.join_query.specs.declared.Atom.{Atom}
@@ -344,9 +344,9 @@ lists-told ts q n e = record {
 
 -- ---- the number
 
-module _ (pool : List ℕ) (ts : Tables) (q : Query) where
-  abbrev six : Bool → Bool → Bool → Bool → Bool → Bool → ℕ
-  six a b c d k e = pick (not a) 8 (pick (not b) 9 (pick (not c) 10 (pick (not d) 11 (pick (not k) 15 (pick (not e) 6 0)))))
+module _ (pool : List ℕ) (ts : Tables) (q : Query) (len : ℕ) where
+  abbrev seven : Bool → Bool → Bool → Bool → Bool → Bool → Bool → ℕ
+  seven a b c d k w e = pick (not a) 8 (pick (not b) 9 (pick (not c) 10 (pick (not d) 11 (pick (not k) 15 (pick (not w) 16 (pick (not e) 6 0))))))
 
   abbrev lists-pass : Bool
   lists-pass = index.every (q .«atom_count») (listOk ts q)
@@ -363,47 +363,53 @@ module _ (pool : List ℕ) (ts : Tables) (q : Query) where
     pub lists : lists-pass ≡ true
     pub covered : covers (q .n) (listsOf q) ≡ true
     pub kinds : kinds-pass ≡ true
+    pub window : wholeRows (q .n) len ≡ true
     pub sound : tables-pass ≡ true
 
-  number : {a b c d k e : Bool} → orderOk q ≡ a → namedOk (ts .count) q ≡ b → lists-pass ≡ c → covers (q .n) (listsOf q) ≡ d → kinds-pass ≡ k → tables-pass ≡ e → six a b c d k e ≡ joinNumber pool ts q
+  number : {a b c d k w e : Bool} → orderOk q ≡ a → namedOk (ts .count) q ≡ b → lists-pass ≡ c → covers (q .n) (listsOf q) ≡ d → kinds-pass ≡ k → wholeRows (q .n) len ≡ w → tables-pass ≡ e → seven a b c d k w e ≡ joinNumber pool ts q len
   unfolding joinNumber
-  number p r s t g u i = six (sym p i) (sym r i) (sym s i) (sym t i) (sym g i) (sym u i)
+  number p r s t g v u i = seven (sym p i) (sym r i) (sym s i) (sym t i) (sym g i) (sym v i) (sym u i)
 
-  pub number-8 : orderOk q ≡ false → 8 ≡ joinNumber pool ts q
-  number-8 e = number e refl refl refl refl refl
+  pub number-8 : orderOk q ≡ false → 8 ≡ joinNumber pool ts q len
+  number-8 e = number e refl refl refl refl refl refl
 
   module _ (o : orderOk q ≡ true) where
-    pub number-9 : namedOk (ts .count) q ≡ false → 9 ≡ joinNumber pool ts q
-    number-9 e = number o e refl refl refl refl
+    pub number-9 : namedOk (ts .count) q ≡ false → 9 ≡ joinNumber pool ts q len
+    number-9 e = number o e refl refl refl refl refl
 
     module _ (n : namedOk (ts .count) q ≡ true) where
-      pub number-10 : lists-pass ≡ false → 10 ≡ joinNumber pool ts q
-      number-10 e = number o n e refl refl refl
+      pub number-10 : lists-pass ≡ false → 10 ≡ joinNumber pool ts q len
+      number-10 e = number o n e refl refl refl refl
 
       module _ (l : lists-pass ≡ true) where
-        pub number-11 : covers (q .n) (listsOf q) ≡ false → 11 ≡ joinNumber pool ts q
-        number-11 e = number o n l e refl refl
+        pub number-11 : covers (q .n) (listsOf q) ≡ false → 11 ≡ joinNumber pool ts q len
+        number-11 e = number o n l e refl refl refl
 
         module _ (c : covers (q .n) (listsOf q) ≡ true) where
-          pub number-15 : kinds-pass ≡ false → 15 ≡ joinNumber pool ts q
-          number-15 e = number o n l c e refl
+          pub number-15 : kinds-pass ≡ false → 15 ≡ joinNumber pool ts q len
+          number-15 e = number o n l c e refl refl
 
           module _ (k : kinds-pass ≡ true) where
-            pub number-6 : tables-pass ≡ false → 6 ≡ joinNumber pool ts q
-            number-6 e = number o n l c k e
+            pub number-16 : wholeRows (q .n) len ≡ false → 16 ≡ joinNumber pool ts q len
+            number-16 e = number o n l c k e refl
 
-            pub number-0 : tables-pass ≡ true → 0 ≡ joinNumber pool ts q
-            number-0 e = number o n l c k e
+            module _ (w : wholeRows (q .n) len ≡ true) where
+              pub number-6 : tables-pass ≡ false → 6 ≡ joinNumber pool ts q len
+              number-6 e = number o n l c k w e
+
+              pub number-0 : tables-pass ≡ true → 0 ≡ joinNumber pool ts q len
+              number-0 e = number o n l c k w e
 
   -- and 0 tells that every check passed
-  pub passed-all : joinNumber pool ts q ≡ 0 → Passed
-  passed-all z = go (orderOk q) (namedOk (ts .count) q) lists-pass (covers (q .n) (listsOf q)) (kinds-pass) tables-pass refl refl refl refl refl refl
+  pub passed-all : joinNumber pool ts q len ≡ 0 → Passed
+  passed-all z = go (orderOk q) (namedOk (ts .count) q) lists-pass (covers (q .n) (listsOf q)) kinds-pass (wholeRows (q .n) len) tables-pass refl refl refl refl refl refl refl
     where
-      go : (a b c d k e : Bool) → orderOk q ≡ a → namedOk (ts .count) q ≡ b → lists-pass ≡ c → covers (q .n) (listsOf q) ≡ d → kinds-pass ≡ k → tables-pass ≡ e → Passed
-      go true true true true true true p r s t g u = record { order = p; names = r; lists = s; covered = t; kinds = g; sound = u }
-      go true true true true true false p r s t g u = absurd (omega (arith, z, number p r s t g u))
-      go true true true true false e p r s t g u = absurd (omega (arith, z, number p r s t g u))
-      go true true true false k e p r s t g u = absurd (omega (arith, z, number p r s t g u))
-      go true true false d k e p r s t g u = absurd (omega (arith, z, number p r s t g u))
-      go true false c d k e p r s t g u = absurd (omega (arith, z, number p r s t g u))
-      go false b c d k e p r s t g u = absurd (omega (arith, z, number p r s t g u))
+      go : (a b c d k w e : Bool) → orderOk q ≡ a → namedOk (ts .count) q ≡ b → lists-pass ≡ c → covers (q .n) (listsOf q) ≡ d → kinds-pass ≡ k → wholeRows (q .n) len ≡ w → tables-pass ≡ e → Passed
+      go true true true true true true true p r s t g v u = record { order = p; names = r; lists = s; covered = t; kinds = g; window = v; sound = u }
+      go true true true true true true false p r s t g v u = absurd (omega (arith, z, number p r s t g v u))
+      go true true true true true false e p r s t g v u = absurd (omega (arith, z, number p r s t g v u))
+      go true true true true false w e p r s t g v u = absurd (omega (arith, z, number p r s t g v u))
+      go true true true false k w e p r s t g v u = absurd (omega (arith, z, number p r s t g v u))
+      go true true false d k w e p r s t g v u = absurd (omega (arith, z, number p r s t g v u))
+      go true false c d k w e p r s t g v u = absurd (omega (arith, z, number p r s t g v u))
+      go false b c d k w e p r s t g v u = absurd (omega (arith, z, number p r s t g v u))

@@ -1,6 +1,7 @@
 -- Of theorems: what documents 01 and 02 ask of a query, as facts: one record for each number, in the sequence of the checks. They say nothing of how a check is made.
-use Prim.Native.Nat.{ℕ, _≤_, _<_}
+use Prim.Native.Nat.{ℕ, _*_, _≤_, _<_}
 use mathlib.Core.Path.{_≡_}
+use mathlib.Core.Logic.{_⊎_}
 use mathlib.Core.List.{List, Sublistᴰ}
 use lib.ListN.{length}
 use Rattle.relation.specs.Lists.{_∈_}
@@ -54,15 +55,20 @@ pub record HasColumn (q : Query) (i j : ℕ) : Type 0 where
 abbrev pub SameKinds : Tables → Query → Type 0
 SameKinds ts q = (i j k l : ℕ) → HasColumn q i j → HasColumn q k l → varAt (atomAt q i) j ≡ varAt (atomAt q k) l → gradeAt (atomTable ts q i) j ≡ gradeAt (atomTable ts q k) l
 
+-- not 16: n is 0, or the window, len words long, is some number of rows of n words long
+abbrev pub WholeRows : ℕ → ℕ → Type 0
+WholeRows n len = (n ≡ 0) ⊎ ((rows : ℕ) × (len ≡ rows * n))
+
 -- not 6: each table that an atom names is undamaged
 abbrev pub SoundTables : List ℕ → Tables → Query → Type 0
 SoundTables pool ts q = (i : ℕ) → i < q .«atom_count» → Undamaged pool (tableAt ts (atomAt q i .table))
 
--- none of these numbers
-pub record Passing (pool : List ℕ) (ts : Tables) (q : Query) : Type 0 where
+-- none of these numbers, where the window has len words
+pub record Passing (pool : List ℕ) (ts : Tables) (q : Query) (len : ℕ) : Type 0 where
   pub ordered : Ordered q
   pub named : Named (ts .count) q
   pub follow : AllFollow ts q
   pub covered : Covered q
   pub kinds : SameKinds ts q
+  pub window : WholeRows (q .n) len
   pub sound : SoundTables pool ts q

@@ -1,6 +1,7 @@
 -- Public: what comes of a query, whatever finds its rows: the number, the rows written and the window's words, all of them determined on every input.
 use Prim.Native.Nat.{ℕ, zero, suc}
 use mathlib.Core.List.{List}
+use lib.ListN.{length}
 use Rattle.query.specs.Solve.{listing}
 use Rattle.query.specs.Window.{Progress, windowed}
 use Rattle.query.specs.Outcome.{Comes, told, refused}
@@ -20,4 +21,4 @@ answered (suc number) window s = refused (suc number) window
 
 unfoldable pub outcome : List ℕ → Tables → Query → List ℕ → Comes
 unfolding answered joinNumber listing windowed
-outcome pool ts q window = answered (joinNumber pool ts q) window (listed pool ts q window)
+outcome pool ts q window = answered (joinNumber pool ts q (length window)) window (listed pool ts q window)

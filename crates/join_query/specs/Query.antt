@@ -1,5 +1,5 @@
 -- Public: a query in the call's words, as the theory of joins has it: its numbers as lists, its atoms with the relations of their tables, and its checks.
-use Prim.Native.Nat.{ℕ}
+use Prim.Native.Nat.{ℕ, _%_}
 use mathlib.Core.Path.{_≡_}
 use mathlib.Core.Bool.{Bool, true, false, _&&_, _||_, not, Bool·beq}
 use mathlib.Core.List.{List, [], map}
@@ -62,7 +62,7 @@ atomsOf pool ts q = map (atomOf pool ts) (atomsIn q)
 abbrev pub atomTable : Tables → Query → ℕ → ColumnTrie
 atomTable ts q i = tableAt ts (atomAt q i .table)
 
--- ---- the checks, in document 01's sequence, with 15 of document 02 behind 11
+-- ---- the checks, in document 01's sequence, with 15 and 16 of document 02 behind 11
 
 -- not 8: the order is a permutation of 0 to n - 1, and n is at most 8
 unfoldable pub orderOk : Query → Bool
@@ -98,6 +98,10 @@ bindsOnly ts q v grade = index.every (q .«atom_count») (columnsOk ts q v grade
 abbrev pub oneKind : Tables → Query → ℕ → Bool
 oneKind ts q v = bindsOnly ts q v false || bindsOnly ts q v true
 
+-- not 16: a window of len words is some number of rows of n words long; where they have no words, any is
+abbrev pub wholeRows : ℕ → ℕ → Bool
+wholeRows n len = eqb n 0 || eqb (len % n) 0
+
 -- an atom names table t
 unfoldable pub named : Query → ℕ → Bool
 unfolding some
@@ -108,19 +112,20 @@ unfoldable pub soundAt : List ℕ → Tables → Query → ℕ → Bool
 unfolding named undamaged
 soundAt pool ts q t = not (named q t) || undamaged pool (tableAt ts t)
 
--- the refusal, or 0
-unfoldable pub joinNumber : List ℕ → Tables → Query → ℕ
+-- the refusal, or 0, where the window has len words
+unfoldable pub joinNumber : List ℕ → Tables → Query → ℕ → ℕ
 unfolding orderOk namedOk listedAt covers soundAt
-joinNumber pool ts q =
+joinNumber pool ts q len =
     pick (not (orderOk q)) 8
     (pick (not (namedOk (ts .count) q)) 9
     (pick (not (index.every (q .«atom_count») (listOk ts q))) 10
     (pick (not (covers (q .n) (listsOf q))) 11
     (pick (not (index.every (q .n) (oneKind ts q))) 15
+    (pick (not (wholeRows (q .n) len)) 16
     (pick (not (index.every (ts .count) (soundAt pool ts q))) 6
-    0)))))
+    0))))))
 
--- the query passed the checks; that its array of atoms is full is what its type says
-pub record Accepted (pool : List ℕ) (ts : Tables) (q : Query) : Type 0 where
-  pub passed : joinNumber pool ts q ≡ 0
+-- the query passed the checks, with a window of len words; that its array of atoms is full is what its type says
+pub record Accepted (pool : List ℕ) (ts : Tables) (q : Query) (len : ℕ) : Type 0 where
+  pub passed : joinNumber pool ts q len ≡ 0
   pub whole : length (q .atoms) ≡ maxAtoms

@@ -1,9 +1,8 @@
-// A query over tables in the pool, without an engine that answers it: its types, the checks that refuse it, and the outcome that any answer must have.
+// A query over tables in the pool, without an engine that answers it: its types, the numbers that refuse it, and the outcome that any answer must have.
 //
 // The number of the first check that a query fails is `joinNumber` (specs/Query.antt), and given exactly when documents 01 and 02 say (proofs/Exactly.antt). What a join
-// writes and answers is `outcome` (specs/Outcome.antt), a function of pool, tables, query and window alone. Nothing here knows how the rows are found.
-pub mod checks;
-
+// writes and answers is `outcome` (specs/Outcome.antt), a function of pool, tables, query and window alone. The code that finds the number is crates/join_checks; nothing here
+// knows how the rows are found.
 use column_trie::ColumnTrie;
 
 #[repr(C)]

@@ -1,17 +1,18 @@
 // The leapfrog triejoin of tables in the pool: the port of kermit-algos/src/sorted/leapfrog_triejoin.rs of the Rust, Algorithms 5 and 6 of Veldhuizen 2014.
 //
 // The public call is `join`. Its answer and every word of the window are those that specs/Outcome.antt gives, for any pool, tables, query and window,
-// under each strategy: nothing is asked of them. The rows are exactly those that the query means (crates/demand_3, `demand-3`). The query's types, its checks and
-// its outcome are crates/join_query's. The Rust's emit closure is the window, its trie iterators are places kept by columns, and what would panic there is refused.
+// under each strategy: nothing is asked of them. The rows are exactly those that the query means (crates/demand_3, `demand-3`). The query's types and
+// its outcome are crates/join_query's, its checks crates/join_checks's. The Rust's emit closure is the window, its trie iterators are places kept by columns, and
+// what would panic there is refused.
 mod descent;
 
 ghost use Rattle.leapfrog_triejoin.specs.Outcome.{Joins};
 use crate::descent::descend;
+use join_checks::refusal;
 use join_depths::plan::PLAN_WORDS;
 use join_depths::plan::make_plan;
 use join_query::Query;
 use join_query::Tables;
-use join_query::checks::refusal;
 use seek::SeekStrategy;
 
 #[repr(C)]
@@ -22,7 +23,7 @@ pub struct Joined {
 }
 
 // Joins the tables that the query's atoms name, and writes the rows into the window, by variable number, ascending as read in the query's order. Refuses by
-// 8, 9, 10, 11, 15 and 6 in sequence; 12 says that more rows exist than fit the window, which then holds the first that do. The seeks are those of the leapfrogs,
+// 8, 9, 10, 11, 15, 16 and 6 in sequence; 12 says that more rows exist than fit the window, which then holds the first that do. The seeks are those of the leapfrogs,
 // on 12 up to finding the first row that does not fit.
 pub fn join(
     strategy: SeekStrategy,
@@ -33,7 +34,7 @@ pub fn join(
 ) -> Joined
     ensures { λ r. ⌜ Joins (now (pool .entry)) tables query (now (window .entry)) r (now (window .exit)) ⌝ }
 {
-    let number = refusal(pool, tables, query);
+    let number = refusal(pool, tables, query, window.len());
     if number != 0 {
         return Joined {
             number,

@@ -2,17 +2,18 @@
 -- Idea: behind d rows there is room for so many more; two pastes, one behind the other, are one.
 use Prim.Native.Nat.{ℕ, zero, suc, _+_, _*_, _-_, _<_, _≤_, _/_, min}
 use native.Mathlib.Omega.{arith}
-use native.Mathlib.Nat.{add-mul, add-zero, one-mul, zero-mul, mul-zero, suc-mul, le-div-iff-mul-le, div-lt-iff-lt-mul}
+use native.Mathlib.Nat.{add-mul, add-zero, one-mul, zero-mul, mul-zero, suc-mul, mul-div-cancel, le-div-iff-mul-le, div-lt-iff-lt-mul}
 use mathlib.Core.Path.{_≡_, refl, sym, subst, ap, _∙_}
 use mathlib.Core.Bool.{Bool, true, false}
-use mathlib.Core.List.{List, [], _∷_, _++_, append-assoc}
-use lib.ListN.{length, take, drop, length-append, length-take, length-drop, take-append-drop}
+use mathlib.Core.List.{List, [], _∷_, _++_, append-assoc, append-nil}
+use lib.ListN.{length, take, drop, length-append, length-take, length-drop, take-append-drop, drop-of-length-le}
 use lib.Seq.{paste, take-at, drop-drop, drop-append-add}
 use lib.Dec.{leb, ltb, leb·suc-suc}
 use borrow.Author.Tests.{leb-true, leb-false, le-leb, lt-leb, lt-ltb, ltb-true}
 use Rattle.relation.specs.Order.{Row, pick}
 use Rattle.relation.specs.Lists.{hd, tl}
 use Rattle.relation.specs.Rows.{Width, flat}
+use Rattle.relation.specs.Exactly.{Exactly}
 use Rattle.query.specs.Window.{Progress, fit, windowed, pasted, begin, emit, emits}
 
 -- ---- one row
@@ -218,3 +219,21 @@ full-exactly w (suc n) rows = (
 pub full-count : (w : List ℕ) (n : ℕ) (rows : List Row) → windowed w (suc n) rows .full ≡ true → windowed w (suc n) rows .count ≡ length w / suc n
 unfolding windowed fit
 full-count w n rows e = omega (arith, ltb-true (min (length w / suc n) (length rows)) (length rows) e)
+
+-- ---- a window of whole rows: room for m of them, of n words, and nothing left over
+
+-- m rows fit, or all
+pub fit-whole : (n m c : ℕ) → 0 < n → fit n (m * n) c ≡ min m c
+unfolding fit
+fit-whole zero m c p = absurd (omega arith)
+fit-whole (suc n) m c p = ap (λ (x : ℕ). min x c) (mul-div-cancel m p)
+
+-- more exist than fit exactly when more than m exist
+pub more-whole : (n m c : ℕ) → 0 < n → Exactly (m * n < c * n) (m < c)
+more-whole n m c p =
+    let e : m * n / n ≡ m = mul-div-cancel m p in
+    (λ h. subst (λ (x : ℕ). x < c) e (div-lt-iff-lt-mul p .1 h), λ h. div-lt-iff-lt-mul p .0 (subst (λ (x : ℕ). x < c) (sym e) h))
+
+-- behind m rows nothing is left of what the window held
+pub filled-whole : (w : List ℕ) (n m : ℕ) (xs : List ℕ) → length w ≡ m * n → xs ++ drop (m * n) w ≡ xs
+filled-whole w n m xs e = ap (λ (l : List ℕ). xs ++ l) (drop-of-length-le w (let h : length w ≤ m * n = omega arith in h)) ∙ append-nil xs

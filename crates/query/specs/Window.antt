@@ -13,7 +13,8 @@ pub record Progress : Type 0 where
   pub count : ℕ
   pub full : Bool
 
--- how many of c rows of n words fit in l words: at most l divided by n, rounded down; the empty row takes no words and always fits
+-- how many of c rows of n words fit in l words: at most l divided by n, rounded down; the empty row takes no words and always fits. A join's window is whole rows,
+-- and takes as many of them as it is rows long (proofs/Window.antt, `fit-whole`)
 unfoldable pub fit : ℕ → ℕ → ℕ → ℕ
 fit zero l c = c
 fit (suc n) l c = min (l / suc n) c

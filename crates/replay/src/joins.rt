@@ -1,6 +1,7 @@
 // Recorded joins: tables, a query over them, and all its rows, the same under every strategy.
 //
-// Windows are the program's own: every size from one word over full down to one row short. What each must hold follows from the rows.
+// Windows are the program's own: every size from one word over full down to one row short. What each must hold follows from the rows; one that is not whole
+// rows is refused with 16.
 use crate::tables::table_of;
 use cases::reader::NOWHERE;
 use cases::reader::cut;
@@ -172,8 +173,8 @@ struct Told {
     words: usize,
 }
 
-// What is told where the window is at most a row short of all.
-fn expected(all: Told, n: usize, size: usize) -> Told {
+// What is told where the window is whole rows, and at most a row short of all.
+fn fitting(all: Told, n: usize, size: usize) -> Told {
     if all.words <= size {
         return all;
     }
@@ -188,6 +189,18 @@ fn expected(all: Told, n: usize, size: usize) -> Told {
         rows: all.rows - 1,
         words: all.words - n,
     }
+}
+
+// What is told where the window is at most a row short of all.
+fn expected(all: Told, n: usize, size: usize) -> Told {
+    if n != 0 && size % n != 0 {
+        return Told {
+            number: 16,
+            rows: 0,
+            words: 0,
+        };
+    }
+    fitting(all, n, size)
 }
 
 // One word more than full.

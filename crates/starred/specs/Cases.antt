@@ -1,4 +1,4 @@
--- Of theorems: what document 01 stars under "Worked on the bench", and what document 02 says of kinds: a table of what is asked and what must come. `comes` asks the definitions that the public calls' contracts cite.
+-- Of theorems: what document 01 stars under "Worked on the bench", and what document 02 says of kinds and windows: a table of what is asked and what must come. `comes` asks the definitions that the public calls' contracts cite.
 use Prim.Native.Nat.{ℕ}
 use mathlib.Core.Bool.{Bool, false, true}
 use mathlib.Core.List.{List, [], _∷_, _++_}
@@ -167,7 +167,10 @@ starred =
     line (Seek Galloping evens 17) (Sought 8 6) ∷
     line (Seek Galloping evens 2) (Sought 0 1) ∷
     line (Join triangle three triangleQuery (9 ∷ 9 ∷ 9 ∷ 9 ∷ 9 ∷ 9 ∷ 9 ∷ 9 ∷ 9 ∷ [])) (Rows 0 3 (1 ∷ 2 ∷ 3 ∷ 1 ∷ 3 ∷ 1 ∷ 2 ∷ 3 ∷ 1 ∷ []) 4) ∷
-    line (Join triangle three triangleQuery (9 ∷ 9 ∷ 9 ∷ 9 ∷ 9 ∷ 9 ∷ 9 ∷ [])) (Rows 12 2 (1 ∷ 2 ∷ 3 ∷ 1 ∷ 3 ∷ 1 ∷ 9 ∷ []) 4) ∷
+    line (Join triangle three triangleQuery (9 ∷ 9 ∷ 9 ∷ 9 ∷ 9 ∷ 9 ∷ 9 ∷ [])) (Rows 16 0 (9 ∷ 9 ∷ 9 ∷ 9 ∷ 9 ∷ 9 ∷ 9 ∷ []) 0) ∷
+    line (Join triangle three triangleQuery (9 ∷ 9 ∷ 9 ∷ 9 ∷ 9 ∷ 9 ∷ [])) (Rows 12 2 (1 ∷ 2 ∷ 3 ∷ 1 ∷ 3 ∷ 1 ∷ []) 4) ∷
+    line (Join triangle three triangleQuery (9 ∷ 9 ∷ [])) (Rows 16 0 (9 ∷ 9 ∷ []) 0) ∷
+    line (Join triangle three triangleQuery []) (Rows 12 0 [] 1) ∷
     line (Join pairs single (query 2 (1 ∷ 0 ∷ []) 1 (atom 0 1 0 ∷ [])) (0 ∷ 0 ∷ 0 ∷ 0 ∷ [])) (Rows 0 2 (9 ∷ 5 ∷ 2 ∷ 7 ∷ []) 0) ∷
     line (Join chained single (query 3 (0 ∷ 1 ∷ 2 ∷ []) 2 (atom 0 0 1 ∷ atom 0 1 2 ∷ [])) (0 ∷ 0 ∷ 0 ∷ [])) (Rows 0 1 (1 ∷ 2 ∷ 3 ∷ []) 2) ∷
     line (Join chained (onlyTable (tableWith (gradeOnly 1) 0 2 2)) (query 3 (0 ∷ 1 ∷ 2 ∷ []) 2 (atom 0 0 1 ∷ atom 0 1 2 ∷ [])) (0 ∷ 0 ∷ 0 ∷ [])) (Rows 15 0 (0 ∷ 0 ∷ 0 ∷ []) 0) ∷

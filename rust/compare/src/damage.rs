@@ -126,11 +126,14 @@ impl Case for Damaged {
             (query.order[v], query.atoms[0].variables[v]) = (v as u64, v as u64);
         }
         // The leapfrog of one atom makes no seek, which is what `model::join` says.
-        for strategy in SeekStrategy::ALL {
-            let (mut window, mut expected) = (vec![77; 9], vec![77; 9]);
+        for (strategy, size) in
+            SeekStrategy::ALL.into_iter().flat_map(|strategy| [0, 1].map(|more| (strategy, 4 * self.arity + more)))
+        {
+            let (mut window, mut expected) = (vec![77; size], vec![77; size]);
             let answer = join(strategy, &pool, tables, query, &mut window);
-            tally.same(answer, model::join(&pool, &tables, &query, &mut expected), || format!("{strategy:?} join"))?;
-            tally.same(window, expected, || format!("{strategy:?} join, window"))?;
+            let joined = model::join(&pool, &tables, &query, &mut expected);
+            tally.same(answer, joined, || format!("{strategy:?} join, window of {size}, answer"))?;
+            tally.same(window, expected, || format!("{strategy:?} join, window of {size}, words"))?;
         }
         self.cursor_calls(tally, &pool, t)
     }

@@ -1,5 +1,5 @@
 //! Joins: rows and seeks under all strategies and in windows of every size around full against kermit, and refusals against document 01's table. kermit
-//! knows no kinds: where a query passes the checks they change nothing.
+//! knows no kinds and no window: where a query passes the checks kinds change nothing, and a window that is not whole rows gets nothing.
 use crate::case::{shorter, show_rows, smaller_rows, Case, Tally};
 use crate::kermit;
 use crate::model::{self, Row};
@@ -111,11 +111,20 @@ fn windows(n: usize, rows: usize) -> Vec<usize> {
     sizes
 }
 
+/// What a window gets of a join that passes the checks: kermit's rows and seeks if it is whole rows.
+fn written(n: usize, found: &kermit::Found, window: &mut [u64]) -> Joined {
+    if window.len() % n != 0 {
+        return Joined { number: 16, rows: 0, seeks: 0 };
+    }
+    let joined = model::windowed(n, &found.rows, window);
+    Joined { seeks: found.seeks(joined.rows as usize), ..joined }
+}
+
 impl Joins {
-    /// Runs a call of this join, which passes the checks.
+    /// Runs a call of this join, which passes the checks where the window is whole rows.
     fn run_call(&self, call: &Call, tally: &mut Tally) -> Result<(), String> {
         let n = self.order.len();
-        tally.same(model::join_number(&call.pool, &call.tables, &call.query), 0, || "the query passes the checks".into())?;
+        tally.same(model::join_number(&call.pool, &call.tables, &call.query, 0), 0, || "the query passes the checks".into())?;
         // The definition tries every row.
         let few = self.tables.iter().all(|(_, rows)| rows.len() <= 100);
         let by_definition = few.then(|| model::answers(&call.pool, &call.tables, &call.query));
@@ -129,9 +138,7 @@ impl Joins {
                 let mut window = marked(size);
                 let mut expected = window.clone();
                 let answer = join(strategy, &call.pool, call.tables, call.query, &mut window);
-                let joined = model::windowed(n, rows, &mut expected);
-                let joined = Joined { seeks: found.seeks(joined.rows as usize), ..joined };
-                tally.same(answer, joined, || format!("{strategy:?}, window of {size}, answer"))?;
+                tally.same(answer, written(n, &found, &mut expected), || format!("{strategy:?}, window of {size}, answer"))?;
                 tally.same(window, expected, || format!("{strategy:?}, window of {size}, words"))?;
             }
         }
@@ -348,21 +355,34 @@ impl Case for Changed {
     }
 }
 
-/// A triangle with every choice of kinds for its six columns and one past the arity, over words as they are and over damaged ones.
-pub fn every_kind() -> impl Iterator<Item = Changed> {
-    let columns: Vec<(usize, usize)> = vec![(0, 0), (0, 1), (1, 0), (1, 1), (2, 0), (2, 1), (2, 2)];
-    let rows = || vec![vec![0, 1], vec![1, 2], vec![1, 1]];
+/// A triangle over small tables.
+fn triangle() -> Graded {
+    let table = || (2, vec![vec![0, 1], vec![1, 2], vec![1, 1]]);
     let base = Joins {
         order: vec![0, 1, 2],
-        tables: vec![(2, rows()), (2, rows()), (2, rows())],
+        tables: vec![table(), table(), table()],
         atoms: vec![(0, vec![0, 1]), (1, vec![1, 2]), (2, vec![0, 2])],
     };
+    Graded { base, grades: vec![] }
+}
+
+/// A triangle with every choice of kinds for its six columns and one past the arity, over words as they are and over damaged ones, into a window of whole
+/// rows and into one that is not.
+pub fn every_kind() -> impl Iterator<Item = Changed> {
+    let columns: Vec<(usize, usize)> = vec![(0, 0), (0, 1), (1, 0), (1, 1), (2, 0), (2, 1), (2, 2)];
+    // The count of the first table's tuples.
+    let damage = [vec![], vec![(QUERY + 3, 9)]];
     (0..1 << columns.len()).flat_map(move |chosen: usize| {
         let kinds: Vec<_> = columns.iter().enumerate().filter(|(i, _)| chosen >> i & 1 == 1).map(|(_, &column)| column).collect();
-        let base = Graded { base: base.clone(), grades: vec![] };
-        // The count of the first table's tuples.
-        [vec![], vec![(QUERY + 3, 9)]].map(|changes| Changed { base: base.clone(), changes, kinds: kinds.clone(), window: 9 })
+        let made =
+            |changes: &Vec<_>, window| Changed { base: triangle(), changes: changes.clone(), kinds: kinds.clone(), window };
+        damage.iter().flat_map(|changes| [made(changes, 9), made(changes, 10)]).collect::<Vec<_>>()
     })
+}
+
+/// No variables and no atoms, into windows of up to three words.
+pub fn no_variables() -> impl Iterator<Item = Changed> {
+    (0..4).map(|window| Changed { base: triangle(), changes: vec![(0, 0), (1, 0)], kinds: vec![], window })
 }
 
 /// How many words a query and the tables' count have.
@@ -380,5 +400,8 @@ pub fn changed(rng: &mut Rng) -> Changed {
         })
         .collect();
     let kinds = (0..rng.below(6) / 3).map(|_| (rng.below(base.base.tables.len()), rng.below(4))).collect();
-    Changed { base, changes, kinds, window: rng.below(30) }
+    // Whole rows more often than not.
+    let (n, words) = (base.base.order.len(), rng.below(30));
+    let window = if rng.below(4) == 0 { words } else { words / n * n };
+    Changed { base, changes, kinds, window }
 }

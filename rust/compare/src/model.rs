@@ -391,8 +391,8 @@ pub fn up(pool: &[u64], t: ColumnTrie, i: ColumnTrieIter) -> UpAnswer {
 
 // ---- the join
 
-/// The number of the first check that refuses, or 0.
-pub fn join_number(pool: &[u64], tables: &Tables, query: &Query) -> u64 {
+/// The number of the first check that refuses, or 0; the window is so many words long.
+pub fn join_number(pool: &[u64], tables: &Tables, query: &Query, window: usize) -> u64 {
     let n = query.n;
     if n > MAX as u64 {
         return 8;
@@ -430,6 +430,9 @@ pub fn join_number(pool: &[u64], tables: &Tables, query: &Query) -> u64 {
     if (0..n).any(|v| binds(v, true) && binds(v, false)) {
         return 15;
     }
+    if n > 0 && window as u64 % n != 0 {
+        return 16;
+    }
     if atoms.iter().any(|atom| !undamaged(pool, tables.tables[atom.table as usize])) {
         return 6;
     }
@@ -461,7 +464,7 @@ pub fn answers(pool: &[u64], tables: &Tables, query: &Query) -> Vec<Row> {
     rows
 }
 
-/// What a window gets of these rows. The seeks are left to kermit, which says them (`joins::Joins::found`).
+/// What a window of whole rows gets of these. The seeks are left to kermit, which says them (`joins::Joins::found`).
 pub fn windowed(n: usize, rows: &[Row], window: &mut [u64]) -> Joined {
     let fit = window.len().checked_div(n).map_or(rows.len(), |fit| fit.min(rows.len()));
     for (place, row) in window.chunks_mut(n.max(1)).zip(&rows[..fit]) {
@@ -471,7 +474,7 @@ pub fn windowed(n: usize, rows: &[Row], window: &mut [u64]) -> Joined {
 }
 
 pub fn join(pool: &[u64], tables: &Tables, query: &Query, window: &mut [u64]) -> Joined {
-    match join_number(pool, tables, query) {
+    match join_number(pool, tables, query, window.len()) {
         0 => windowed(query.n as usize, &answers(pool, tables, query), window),
         number => Joined { number, rows: 0, seeks: 0 },
     }

@@ -42,6 +42,7 @@ pub fn run(name: &str, seed: u64, rounds: usize) -> Result<Tally, String> {
         "joins" => {
             all(t, joins::exhaustive())?;
             all(t, joins::every_kind())?;
+            all(t, joins::no_variables())?;
             all(t, large.then(|| joins::large(rng)).into_iter().flatten())?;
             some(t, rng, rounds, joins::graded)?;
             some(t, rng, 4 * rounds, joins::changed)?;

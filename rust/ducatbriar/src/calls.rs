@@ -181,7 +181,7 @@ pub fn list(pool: &[u64], table: ColumnTrie, text: &mut [u8]) -> Listed {
     unsafe { c::ducatbriar_list(pool.as_ptr(), pool.len() as u64, table, text.as_mut_ptr(), text.len() as u64) }
 }
 
-/// The rows of the query, written into the window by variable number. Refusals 8, 9, 10, 11, 15, 6, 12.
+/// The rows of the query, written into the window by variable number. Refusals 8, 9, 10, 11, 15, 16, 6, 12.
 pub fn join(strategy: SeekStrategy, pool: &[u64], tables: Tables, query: Query, window: &mut [u64]) -> Joined {
     unsafe {
         c::ducatbriar_join(

@@ -316,7 +316,8 @@ impl Pool {
         kinds
     }
 
-    /// Writes the first rows of the query that fit into the window, each by variable number. Words behind them stay.
+    /// Writes the first rows of the query that fit into the window, each by variable number. Words behind them stay. The window's length is a multiple of the
+    /// number of variables, or is refused with 16.
     pub fn join_into(
         &self,
         strategy: SeekStrategy,
@@ -335,6 +336,7 @@ impl Pool {
     /// All rows of the query, each by variable number, ascending as read in the query's order.
     pub fn join(&self, strategy: SeekStrategy, tables: &[&Table], query: &Query) -> Result<Rows, Refusal> {
         let width = query.variables();
+        // Whole rows, and so are four times as many.
         let mut words = vec![0; 256 * width.min(MAX_VARIABLES)];
         loop {
             let filled = self.join_into(strategy, tables, query, &mut words)?;

@@ -62,6 +62,8 @@ refusals!(
     LongText = 14,
     /// By a join: a grade is joined to what is none.
     MixedKinds = 15,
+    /// By a join whose window is not whole rows; never by [`Pool::join`](crate::Pool::join), whose own window is.
+    PartRows = 16,
 );
 
 impl Refusal {
@@ -107,6 +109,7 @@ impl Refusal {
             Refusal::Full => "more rows exist than fit the window",
             Refusal::LongText => "the text is longer than its destination",
             Refusal::MixedKinds => "some variable binds columns of both kinds, plain and grade",
+            Refusal::PartRows => "the window's length is no whole number of rows",
             Refusal::BadArity | Refusal::BadCapacity | Refusal::BadOrder | Refusal::BadAtoms => "",
         }
     }

@@ -38,3 +38,14 @@ fn no_17_a_grade_is_joined_to_grades_alone() {
     assert_eq!(pool.join(SeekStrategy::Linear, &[&grade, &plain], &query), Err(Refusal::MixedKinds));
     assert_eq!(pool.join(SeekStrategy::Linear, &[&grade, &grade], &query).unwrap().len(), 1);
 }
+
+#[test]
+fn no_18_a_window_is_whole_rows() {
+    let mut pool = Pool::new();
+    let table = pool.build(2, 1, &[[1, 2]]).unwrap();
+    let into = |window: &mut [u64]| {
+        pool.join_into(SeekStrategy::Linear, &[&table], &Query::new(&[0, 1]).atom(0, &[0, 1]), window).map(|filled| filled.full)
+    };
+    assert_eq!(into(&mut [7]), Err(Refusal::PartRows));
+    assert_eq!((into(&mut []), into(&mut [7; 2])), (Ok(true), Ok(false)));
+}

@@ -22,7 +22,7 @@ fn names_numbers_and_texts_are_the_header_s() {
     }
     // One more is for what is done.
     assert_eq!(HEADER.matches("    case DUCATBRIAR_").count(), Refusal::ALL.len() + 1);
-    assert_eq!([0, 13, 16].map(Refusal::of), [None; 3]);
+    assert_eq!([0, 13, 17].map(Refusal::of), [None; 3]);
 }
 
 const NO_ROWS: &[[u64; 2]] = &[];
@@ -137,9 +137,33 @@ fn rows() {
 fn small_windows() {
     let (pool, table) = pairs();
     let query = Query::new(&[0, 1]).atom(0, &[0, 1]);
-    let mut window = [7; 3];
+    let mut window = [7; 2];
     let filled = pool.join_into(SeekStrategy::Linear, &[&table], &query, &mut window).unwrap();
-    assert_eq!((filled.rows, filled.full, window), (1, true, [1, 2, 7]));
+    assert_eq!((filled.rows, filled.full, window), (1, true, [1, 2]));
     let mut text = [7; 5];
     assert_eq!((calls::list(pool.words(), table.header(), &mut text).number, text), (14, [7; 5]));
+}
+
+#[test]
+fn windows_of_whole_rows() {
+    let (pool, table) = pairs();
+    let into = |table: &Table, order: &[usize], window: &mut [u64]| {
+        pool.join_into(SeekStrategy::Linear, &[table], &Query::new(order).atom(0, &[0, 1]), window).map(|filled| filled.rows)
+    };
+    let mut window = [7; 61];
+    assert_eq!(into(&table, &[0, 1], &mut window), Err(Refusal::PartRows));
+    assert_eq!(window, [7; 61]);
+    assert_eq!(into(&table, &[0, 1], &mut window[..60]), Ok(2));
+    assert_eq!(window[..5], [1, 2, 2, 3, 7]);
+    assert_eq!(into(&table, &[0, 1], &mut []), Ok(0));
+    // After 11, and before 6.
+    assert_eq!(into(&table, &[0, 1, 2], &mut window), Err(Refusal::FreeVariable));
+    let words = Pool::new();
+    let foreign = |window: &mut [u64]| {
+        number(words.join_into(SeekStrategy::Linear, &[&table], &Query::new(&[0, 1]).atom(0, &[0, 1]), window))
+    };
+    assert_eq!((foreign(&mut window), foreign(&mut window[..60])), (16, 6));
+    // Without variables every window is whole rows.
+    let empty_row = pool.join_into(SeekStrategy::Linear, &[], &Query::new(&[]), &mut window).unwrap();
+    assert_eq!((empty_row.rows, empty_row.full), (1, false));
 }

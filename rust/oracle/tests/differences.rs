@@ -159,4 +159,9 @@ mod differences {
     fn no_17_columns_have_no_kinds() {
         assert_eq!(join(&[0], &[(0, &[0]), (1, &[0])], &[trie(1, &[&[0]]), trie(1, &[&[0]])]), [[0]]);
     }
+
+    #[test]
+    fn no_18_rows_go_to_the_caller_and_into_no_window() {
+        assert_eq!(join(&[0, 1], &[(0, &[0, 1])], &[trie(2, &[&[1, 2]])]), [[1, 2]]);
+    }
 }
