@@ -120,6 +120,26 @@ pub fn layer_at(t: ColumnTrie, d: usize) -> usize
     t.start + 2 * t.capacity * d
 }
 
+// The keys of layer d.
+pub fn layer_keys<'a>(pool: &'a [u64], t: ColumnTrie, d: usize) -> &'a [u64]
+    requires { ⌜ (headerSound (length (now pool)) t ≡ true) × (d < t .arity) ⌝ }
+    ensures { λ r. ⌜ now r ≡ layerIn (now (pool .entry)) t d .keys ⌝ }
+{
+    let from = layer_at(t, d);
+    let to = from + t.data_len[d];
+    &pool[from..to]
+}
+
+// The intervals of layer d.
+pub fn layer_intervals<'a>(pool: &'a [u64], t: ColumnTrie, d: usize) -> &'a [u64]
+    requires { ⌜ (headerSound (length (now pool)) t ≡ true) × (d < t .arity) ⌝ }
+    ensures { λ r. ⌜ now r ≡ layerIn (now (pool .entry)) t d .intervals ⌝ }
+{
+    let from = layer_at(t, d) + t.capacity;
+    let to = from + t.interval_len[d];
+    &pool[from..to]
+}
+
 // Whether layer d has `above` intervals, one for each key above it, and is sound.
 fn layer_linked(pool: &[u64], t: ColumnTrie, d: usize, above: usize) -> bool
     requires { ⌜ (headerSound (length (now pool)) t ≡ true) × (d < t .arity) ⌝ }
@@ -128,11 +148,7 @@ fn layer_linked(pool: &[u64], t: ColumnTrie, d: usize, above: usize) -> bool
     if t.interval_len[d] != above {
         return false;
     }
-    let data_from = layer_at(t, d);
-    let data_to = data_from + t.data_len[d];
-    let interval_from = data_from + t.capacity;
-    let interval_to = interval_from + t.interval_len[d];
-    layer_sound(&pool[interval_from..interval_to], &pool[data_from..data_to])
+    layer_sound(layer_intervals(pool, t, d), layer_keys(pool, t, d))
 }
 
 // Layer 0 has one interval, or none in a table without keys; each lower layer has one for each key above.

@@ -9,9 +9,7 @@ use lib.Seq.{take-suc, take-all, length-take-le}
 use lib.Dec.{ltb}
 use borrow.Author.Tests.{lt-ltb, le-ltb, ltb-true, ltb-false}
 use Rattle.relation.specs.Layers.{Layer, layer, noLayer}
-use Rattle.column_trie.specs.Pool.{lay, spot}
-use Rattle.column_trie.specs.Table.{dataLen, intervalLen, layerIn}
-use Rattle.column_trie.specs.declared.ColumnTrie.{ColumnTrie}
+use Rattle.column_trie.specs.Pool.{lay}
 use Rattle.column_trie.proofs.Pool.{lay-length}
 use Rattle.column_trie_listing.specs.Piece.{PieceWritten}
 use Rattle.column_trie_listing.specs.Text.{decimalIn, decimal, closing, comma, layerWord, dataWord, intervalWord, others, numbers, lists, layerText, textFrom, text}
@@ -169,10 +167,3 @@ text-more ls d h =
     ∙ text-append 0 (take d ls) (layer ls d ∷ [])
     ∙ ap (λ (n : ℕ). text (take d ls) ++ textFrom n (layer ls d ∷ [])) (let e : 0 + length (take d ls) ≡ d = omega (arith, length-take-le d ls (omega arith)) in e)
     ∙ ap (λ (l : List ℕ). text (take d ls) ++ l) (text-one d (layer ls d))
-
--- the parts of the pool that are handed on are the layer's lists
-pub parts : (pool : List ℕ) (t : ColumnTrie) (d : ℕ) {at : ℕ} → at ≡ spot (t .start) (t .capacity) d → lists (take (at + dataLen t d - at) (drop at pool)) (take (at + t .capacity + intervalLen t d - (at + t .capacity)) (drop (at + t .capacity) pool)) ≡ layerIn pool t d
-parts pool t d {at} e =
-    let k : at + dataLen t d - at ≡ dataLen t d = omega arith in
-    let i : at + t .capacity + intervalLen t d - (at + t .capacity) ≡ intervalLen t d = omega arith in
-    cc

@@ -15,7 +15,8 @@ ghost use Rattle.column_trie_listing.specs.Text.{decimal, others, number
 ghost use Rattle.column_trie_listing.specs.List.{Lists};
 ghost use Rattle.column_trie_listing.specs.Piece.{PieceWritten};
 use column_trie::ColumnTrie;
-use column_trie::layer_at;
+use column_trie::layer_intervals;
+use column_trie::layer_keys;
 use column_trie::undamaged;
 
 // How many digits a number has.
@@ -127,17 +128,9 @@ fn put_depth(text: &mut [u8], at: usize, pool: &[u64], t: ColumnTrie, d: usize) 
     requires { ⌜ (headerSound (length (now pool)) t ≡ true) × (d < t .arity) × (at + 2 ^ 32 ≤ 2 ^ 63) ⌝ }
     ensures { λ r. ⌜ PieceWritten (now (text .entry)) (now (text .exit)) at (layerText d (layerIn (now (pool .entry)) t d)) r × (r ≤ at + 2 ^ 32) ⌝ }
 {
-    let data_from = layer_at(t, d);
-    let data_to = data_from + t.data_len[d];
-    let interval_from = data_from + t.capacity;
-    let interval_to = interval_from + t.interval_len[d];
-    put_layer(
-        text,
-        at,
-        d,
-        &pool[data_from..data_to],
-        &pool[interval_from..interval_to],
-    )
+    let data = layer_keys(pool, t, d);
+    let interval = layer_intervals(pool, t, d);
+    put_layer(text, at, d, data, interval)
 }
 
 // The whole text, at the front of the buffer.

@@ -143,10 +143,8 @@ pub fn owner_of(pool: &[u64], table: ColumnTrie, d: usize, i: usize) -> Owner
     requires { ⌜ (headerSound (length (now pool)) table ≡ true) × (d < table .arity) × (i < table .capacity) ⌝ }
     ensures { λ r. ⌜ r ≡ ownerOf (layerIn (now (pool .entry)) table d) i ⌝ }
 {
-    let intervals = table.interval_len[d];
-    let a = column_trie::layer_at(table, d) + table.capacity;
-    let e = a + intervals;
-    let counted = seek::halve(&pool[a..e], i as u64 + 1, 0, intervals, 0).offset;
+    let intervals = column_trie::layer_intervals(pool, table, d);
+    let counted = seek::halve(intervals, i as u64 + 1, 0, intervals.len(), 0).offset;
     if counted == 0 {
         return unowned();
     }

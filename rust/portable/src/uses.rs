@@ -115,11 +115,14 @@ impl Uses {
         loop {
             let before: usize = into.iter().map(BTreeSet::len).sum();
             for act in found {
-                if let Act::Assign(to, value) = act {
-                    let more = pointers(value, &into);
-                    if let (false, Some(known)) = (is_number(to.local), into.get_mut(to.local)) {
-                        known.extend(more);
-                    }
+                let (to, more) = match act {
+                    Act::Assign(to, value) => (to, pointers(value, &into)),
+                    // A call's answer may hold a pointer into whatever its arguments lead to.
+                    Act::Call(_, given, to) => (to, given.iter().flat_map(|one| held(one, &into)).collect()),
+                    Act::Test(_) => continue,
+                };
+                if let (false, Some(known)) = (is_number(to.local), into.get_mut(to.local)) {
+                    known.extend(more);
                 }
             }
             if into.iter().map(BTreeSet::len).sum::<usize>() == before {

@@ -62,6 +62,20 @@ fn what_another_argument_leads_to_is_copied_before_it_is_lent() {
     assert!(text.contains("result = k_g(&v2, v3);"), "{text}");
 }
 
+#[test]
+fn a_pointer_that_a_call_gives_leads_where_its_arguments_do() {
+    let passes = function("k::h", 1, &["tyPtr", "tyPtr"], &seq(&[&assign(0, &format!("(rvOpd {})", copy(1))), "return"]));
+    let takes = function("k::g", 2, &[U64, WIDE, "tyPtr"], &reads());
+    let with = |pointed: usize| {
+        let address = assign(3, &format!("(addrOf {})", at(pointed)));
+        let body = seq(&[&address, &call("k::h", &[copy(3)], 4), &call("k::g", &[copy(2), copy(4)], 0), "return"]);
+        let f = function("k::f", 1, &[U64, U64, WIDE, "tyPtr", "tyPtr", WIDE], &body);
+        c("uint64_t f(uint64_t n);", &[passes.clone(), takes.clone(), f]).unwrap()
+    };
+    assert!(with(2).contains("const k_Wide given1 = v2;\n        result = k_g(&given1, v4);"), "{}", with(2));
+    assert!(with(5).contains("result = k_g(&v2, v4);"), "{}", with(5));
+}
+
 /// The C of `f`, which copies its local 2, a Wide, to local 3 and hands that on, with a statement between.
 fn with_copy(between: &str) -> String {
     let copied = assign(3, &format!("(rvOpd {})", copy(2)));
