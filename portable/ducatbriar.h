@@ -11,8 +11,8 @@
  * Every number is 64 bits wide, whatever size_t is.
  *
  * In every answer `number` is DUCATBRIAR_DONE or that of the refusal, for which ducatbriar_meaning has a text. A refusal other than DUCATBRIAR_FULL changes
- * no lent word; the answer's other numbers are 0, each yes or no is a no, and a header or cursor comes back as it was handed in (that of a refused build is
- * all zeros).
+ * no lent word; the answer's other numbers are 0, each yes or no is a no, and a header or cursor comes back as it was handed in (that of a refused build or
+ * read is all zeros).
  */
 #ifndef DUCATBRIAR_H
 #define DUCATBRIAR_H
@@ -49,6 +49,15 @@ extern "C" {
      DUCATBRIAR_FROM(10000, capacity))
 #define DUCATBRIAR_FROM(power, capacity) ((capacity) > (power) ? (uint64_t)(capacity) - (power) : 0)
 
+/* How many bytes the file of a table takes at most, for an arity and a capacity inside the limits: a table at capacity reaches it that has a grade among its
+ * columns. These are 4 for the arity, 3 and one a column for the kinds, the rows' words, 3 before each field of rows, and 3 at the end. */
+#define DUCATBRIAR_FILE(arity, capacity)                                                                                                                 \
+    ((uint64_t)(arity) + 10 + 8 * (uint64_t)(arity) * (capacity) +                                                                                        \
+     3 * (((uint64_t)(capacity) + DUCATBRIAR_FIELD_ROWS(arity) - 1) / DUCATBRIAR_FIELD_ROWS(arity)))
+
+/* How many rows a field of a file holds at most: as many whole ones as fit in 65,535 bytes. */
+#define DUCATBRIAR_FIELD_ROWS(arity) (65535 / (8 * (uint64_t)(arity)))
+
 /* ---- numbers of refusal */
 
 enum {
@@ -65,6 +74,7 @@ enum {
     DUCATBRIAR_BAD_LIST = 10,
     DUCATBRIAR_FREE_VARIABLE = 11,
     DUCATBRIAR_FULL = 12,
+    DUCATBRIAR_NOT_A_FILE = 13,
     DUCATBRIAR_LONG_TEXT = 14,
     DUCATBRIAR_MIXED_KINDS = 15,
     DUCATBRIAR_PART_ROWS = 16
@@ -100,8 +110,10 @@ static inline const char *ducatbriar_meaning(uint64_t number)
         return "some variable is in no atom";
     case DUCATBRIAR_FULL:
         return "more rows exist than fit the window";
+    case DUCATBRIAR_NOT_A_FILE:
+        return "the bytes are not a table file";
     case DUCATBRIAR_LONG_TEXT:
-        return "the text is longer than its destination";
+        return "the text or file is longer than its destination";
     case DUCATBRIAR_MIXED_KINDS:
         return "some variable binds columns of both kinds, plain and grade";
     case DUCATBRIAR_PART_ROWS:
@@ -190,6 +202,23 @@ ducatbriar_inserted ducatbriar_insert(uint64_t *pool, uint64_t len, ducatbriar_t
 /* Writes the table's layers as text at the front of `text`, without a 0 behind it, and answers its length. Refusals 6, 14, in that sequence; a text of
  * DUCATBRIAR_LISTING(arity, capacity) bytes is never too short. The bytes behind the listing stay, and the pool is only read. */
 ducatbriar_listed ducatbriar_list(const uint64_t *pool, uint64_t len, ducatbriar_table table, uint8_t *text, uint64_t text_len);
+
+/* ---- table files: a table as bytes, the same on every machine (docs/FILES.md). One table has one file. */
+
+typedef struct {
+    uint64_t number;
+    uint64_t len;
+} ducatbriar_file_written;
+
+/* Writes the table's file at the front of `bytes`, and answers its length: arity, kinds and rows, and nothing of start, capacity or the words past the rows.
+ * Refusals 6, 14, in that sequence; a destination of DUCATBRIAR_FILE(arity, capacity) bytes is never too short. The bytes behind the file stay, and the pool
+ * is only read. */
+ducatbriar_file_written ducatbriar_write(const uint64_t *pool, uint64_t len, ducatbriar_table table, uint8_t *bytes, uint64_t bytes_len);
+
+/* Reads a file that is `bytes_len` bytes long into a table at `start` of the pool, with room for `capacity` rows and the file's arity and kinds: the table
+ * that a build of its rows leaves. Refusals 13, 2, 3, 5, looked for in that sequence, and all of them before the first word is written. The bytes are only
+ * read, and pool words that are not in a list of the table's stay. A write of the table that is read gives these very bytes again. */
+ducatbriar_built ducatbriar_read(const uint8_t *bytes, uint64_t bytes_len, uint64_t *pool, uint64_t pool_len, uint64_t start, uint64_t capacity);
 
 /* ---- cursors: a trie iterator over a table. Pool and header are only read. */
 

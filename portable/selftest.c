@@ -5,7 +5,7 @@
  * It replays the recorded answers in FOLDER (crates/replay/data), if there is one, printing the lines of crates/replay/stdout. Then it makes calls on
  * drawn words, sound and damaged ones, and prints how often each number of refusal came and one checksum over every number and word that came back: it is
  * the same for each build and machine. Compiled with -DSELFTEST_SMALL it has no replay, no tables of 65,536 rows and fewer rounds, and so other numbers:
- * it needs 0.1 MB of memory, and the whole one 3.5 MB.
+ * it needs 0.1 MB of memory, and the whole one 4.6 MB.
  *
  * Each draw stands in a statement of its own or behind a sequence point, so that no compiler may exchange two. */
 #include "ducatbriar.h"
@@ -255,6 +255,12 @@ static void add_cursor(ducatbriar_cursor c)
     add(c.depth), add(c.interval_i), add(c.slice_offset);
 }
 
+static void add_bytes(const uint8_t *bytes, uint64_t n)
+{
+    for (uint64_t i = 0; i < n; i++)
+        add(bytes[i]);
+}
+
 static ducatbriar_table damaged(ducatbriar_table t, uint64_t *pool, uint64_t len)
 {
     uint64_t which = draw(8); /* of a list */
@@ -409,6 +415,40 @@ static ducatbriar_table drawn_table(uint64_t *pool, uint64_t len, uint64_t from)
     return t;
 }
 
+/* A file with some of its bytes, which are tags, lengths and kinds for the most part, changed, cut off or put behind it; or as it is. */
+static uint64_t changed_file(uint8_t *bytes, uint64_t len)
+{
+    uint64_t kind = draw(8), at_byte = draw(4) ? draw(16) : draw(len), other = draw(4) ? draw(10) : draw(256);
+    if (kind == 0)
+        return draw(len);
+    if (kind == 1)
+        bytes[len++] = (uint8_t)other;
+    if (kind == 2)
+        bytes[at_byte % len] = (uint8_t)other;
+    if (kind == 3)
+        bytes[at_byte % len] ^= 1;
+    return len;
+}
+
+/* The table's file, and what is read of it. */
+static void file(const uint64_t *pool, uint64_t len, ducatbriar_table t)
+{
+    static uint8_t bytes[DUCATBRIAR_FILE(8, 32) + 1];
+    static uint64_t other[DUCATBRIAR_WORDS(8, 32)];
+    memset(bytes, 7, sizeof bytes);
+    uint64_t room = draw(8) ? sizeof bytes - 1 : draw(64);
+    ducatbriar_file_written w = ducatbriar_write(pool, len, t, room ? bytes : NULL, room);
+    add_number(w.number), add(w.len), add_bytes(bytes, sizeof bytes);
+    uint64_t n = w.len > 0 ? changed_file(bytes, w.len) : draw(16);
+    uint64_t start = draw(30) ? draw(8) : key(), capacity = draw(30) ? draw(40) : key();
+    ducatbriar_built r = ducatbriar_read(n ? bytes : NULL, n, other, COUNT(other), start, capacity);
+    add_number(r.number), add_table(r.table), add_words(other, COUNT(other));
+    if (r.number == 0) {
+        w = ducatbriar_write(other, COUNT(other), r.table, bytes, sizeof bytes);
+        add_number(w.number), add(w.len), add(w.len == n), add_bytes(bytes, sizeof bytes);
+    }
+}
+
 static void round_of_calls(void)
 {
     static uint64_t pool[2048];
@@ -423,9 +463,8 @@ static void round_of_calls(void)
         memset(bytes, 7, sizeof bytes);
         uint64_t room = draw(4) ? sizeof bytes : draw(64);
         ducatbriar_listed l = ducatbriar_list(pool, COUNT(pool), ts.tables[i], bytes, room);
-        add_number(l.number), add(l.len);
-        for (size_t w = 0; w < 512; w++)
-            add(bytes[w]);
+        add_number(l.number), add(l.len), add_bytes(bytes, 512);
+        file(pool, COUNT(pool), ts.tables[i]);
         walk(pool, COUNT(pool), ts.tables[i]);
         rise(pool, COUNT(pool), ts.tables[i]);
     }
@@ -510,6 +549,21 @@ static void heap(uint64_t arity)
 /* ---- tables at the limit of the capacity */
 
 #ifndef SELFTEST_SMALL
+/* Written, and read into the same place, cleared, as it is and with a byte changed. */
+static void file_at_limit(ducatbriar_table t, uint64_t *pool, uint64_t len)
+{
+    static uint8_t bytes[DUCATBRIAR_FILE(2, 65536)];
+    ducatbriar_file_written w = ducatbriar_write(pool, len, t, bytes, sizeof bytes);
+    add_number(w.number), add(w.len), add_bytes(bytes, w.len);
+    memset(pool, 0, (size_t)len * sizeof *pool);
+    bytes[w.len / 2] ^= 255;
+    for (int i = 0; i < 2; i++) {
+        ducatbriar_built r = ducatbriar_read(bytes, w.len, pool, len, 0, 65536);
+        add_number(r.number), add_table(r.table), add_words(pool, len);
+        bytes[w.len / 2] ^= 255;
+    }
+}
+
 static void limits(void)
 {
     static uint64_t rows[2 * 65536], pool[4 * 65536], window[63];
@@ -526,6 +580,7 @@ static void limits(void)
         add_number(in.number), add(in.is_new), add_table(t = in.table);
     }
     add_words(rows, COUNT(rows)), add_words(pool, COUNT(pool));
+    file_at_limit(t, pool, COUNT(pool));
     walk(pool, COUNT(pool), t);
     for (uint64_t strategy = 0; strategy < 3; strategy++) {
         ducatbriar_tables ts = {1, {t}};

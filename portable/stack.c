@@ -15,7 +15,8 @@
 static uint32_t *stack;
 static uintptr_t from;
 static uint64_t pool[4096], rows[2 * 128], window[4096];
-static uint8_t text[8192];
+static uint8_t text[8192], file[DUCATBRIAR_FILE(2, 16)];
+static uint64_t file_len;
 static ducatbriar_tables ts;
 static ducatbriar_query q;
 static const ducatbriar_kinds plain = {{false}};
@@ -36,6 +37,16 @@ static void insert(void)
 {
     uint64_t tuple[2] = {9, 9};
     ducatbriar_insert(pool, 4096, ts.tables[0], tuple, 2);
+}
+
+static void write_file(void)
+{
+    ducatbriar_write(pool, 4096, ts.tables[0], file, sizeof file);
+}
+
+static void read_file(void)
+{
+    ducatbriar_read(file, file_len, pool, 4096, 1024, 16);
 }
 
 static void list(void)
@@ -91,10 +102,13 @@ int main(void)
         uint64_t v = i < 7 ? i : 0;
         q.atoms[i] = (ducatbriar_atom){i, 2, {v, i < 7 ? v + 1 : 7}};
     }
+    file_len = ducatbriar_write(pool, 4096, ts.tables[0], file, sizeof file).len;
     measure("join", join);
     measure("build", build);
     measure("insert", insert);
     measure("list", list);
+    measure("write", write_file);
+    measure("read", read_file);
     measure("cursor", move);
     return 0;
 }

@@ -1,10 +1,11 @@
 /* Uses every call once or more, over keys that need more than 32 bits: a lesson's stretches of road and their grades, walked by a cursor, joined with the
- * friction of their surfaces into a window that is too small, and then into one that isn't.
+ * friction of their surfaces into a window that is too small, and then into one that isn't; the grades go to another unit as a file.
  *
  * Road: (surface, stretch). Grades: (grade, stretch), a grade as its word. Friction: (surface, thousandths). Each check that fails ends the program. */
 #include <inttypes.h>
 #include <stdio.h>
 #include <stdlib.h>
+#include <string.h>
 
 #include "ducatbriar.h"
 
@@ -82,6 +83,25 @@ static void list(ducatbriar_table table)
     listed = ducatbriar_list(pool, COUNT(pool), table, text, COUNT(text));
     done("the listing", listed.number);
     fwrite(text, 1, listed.len, stdout);
+}
+
+/* The grades as a file, which another unit reads into a pool of its own, with room for no row more, and writes again. */
+static void carry(ducatbriar_table table)
+{
+    uint8_t bytes[DUCATBRIAR_FILE(2, CAPACITY)], again[DUCATBRIAR_FILE(2, CAPACITY)];
+    uint64_t unit[DUCATBRIAR_WORDS(2, STRETCHES)];
+    ducatbriar_file_written written = ducatbriar_write(pool, COUNT(pool), table, bytes, 8);
+    printf("a file in 8 bytes: %s\n", ducatbriar_meaning(written.number));
+    written = ducatbriar_write(pool, COUNT(pool), table, bytes, COUNT(bytes));
+    done("the file", written.number);
+    ducatbriar_built read = ducatbriar_read(bytes, written.len, unit, COUNT(unit), 0, STRETCHES);
+    done("the read", read.number);
+    printf("a file of %" PRIu64 " bytes: %" PRIu64 " rows, kinds %d %d\n", written.len, read.table.tuple_count, read.table.grade[0], read.table.grade[1]);
+    ducatbriar_file_written twice = ducatbriar_write(unit, COUNT(unit), read.table, again, COUNT(again));
+    done("the file once more", twice.number);
+    printf("written again: %s\n", twice.len == written.len && memcmp(bytes, again, written.len) == 0 ? "the same bytes" : "other bytes");
+    read = ducatbriar_read(bytes, written.len - 1, unit, COUNT(unit), 0, STRETCHES);
+    printf("without its last byte: %s\n", ducatbriar_meaning(read.number));
 }
 
 /* The stretches below a surface's key, from the one it stands on. */
@@ -162,6 +182,7 @@ int main(void)
 
     ducatbriar_tables tables = {.count = 3, .tables = {road(), grades(), friction()}};
     list(tables.tables[0]);
+    carry(tables.tables[1]);
     walk(tables.tables[0]);
     join(tables);
     join_kinds(tables);

@@ -4,7 +4,7 @@ use mathlib.Core.Path.{_≡_, sym, ap, ap₂, _∙_}
 use mathlib.Core.Bool.{Bool}
 use mathlib.Core.List.{List}
 use Rattle.column_trie_build.specs.Build.{Builds}
-use Rattle.column_trie_build.specs.declared.Built.{Built}
+use Rattle.from_sorted.specs.declared.Built.{Built}
 
 -- an outcome: the answer, the rows' words and the pool's
 pub record Outcome : Type 0 where

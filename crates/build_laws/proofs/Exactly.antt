@@ -1,31 +1,22 @@
 -- The numbers of a build are given exactly when document 01 says, shown both ways: from facts about the arguments to the number, and back.
 use Prim.Native.Nat.{ℕ, zero, suc, _+_, _*_, _/_, _%_, _≤_, _<_}
 use mathlib.Core.Path.{_≡_, sym, ap, subst}
-use mathlib.Core.Bool.{Bool, true, false, _&&_}
+use mathlib.Core.Bool.{Bool, true}
 use mathlib.Core.Logic.{_⊎_, inl, inr}
 use mathlib.Core.List.{List}
 use native.Mathlib.Omega.{arith}
 use native.Mathlib.Decide.{decLt, ℕ-discrete}
 use lib.ListN.{length}
-use lib.Dec.{ltb, leb}
-use borrow.Author.Tests.{lt-ltb, le-ltb, le-leb, lt-leb}
+use borrow.Author.Tests.{le-leb, lt-leb}
 use Rattle.relation.specs.Exactly.{Exactly}
-use Rattle.relation.proofs.Tests.{and-true, and-false-left, and-false-right}
 use Rattle.column_trie.specs.Limits.{maxArity, maxCapacity}
 use Rattle.column_trie.specs.Table.{liesIn}
 use Rattle.from_sorted.specs.Given.{rowsGiven}
 use Rattle.column_trie_build.specs.Build.{buildNumber, Builds}
-use Rattle.column_trie_build.specs.declared.Built.{Built}
+use Rattle.from_sorted.specs.declared.Built.{Built}
 use Rattle.column_trie_build.proofs.Numbers.{number-0, number-1, number-2, number-3, number-4, number-5}
 use Rattle.from_sorted.proofs.Given.{length-given}
-
--- 1 to the greatest
-abbrev pub From1To : ℕ → ℕ → Type 0
-From1To most n = (0 < n) × (n ≤ most)
-
--- 0 or over the greatest
-abbrev pub Off : ℕ → ℕ → Type 0
-Off most n = (n ≡ 0) ⊎ (most < n)
+use Rattle.from_sorted.proofs.Ranges.{From1To, Off, on, off, either}
 
 -- arity and capacity are in their limits
 abbrev pub InLimits : ℕ → ℕ → Type 0
@@ -43,24 +34,6 @@ pub record Numbers (given lent : List ℕ) (start arity capacity n : ℕ) : Type
   pub not-whole-rows : Exactly (n ≡ 4) (InLimitsAndPool (length lent) start arity capacity × (length given % arity ≡ 0 → ⊥))
   pub too-many-rows : Exactly (n ≡ 5) (InLimitsAndPool (length lent) start arity capacity × (length given % arity ≡ 0) × (capacity < length (rowsGiven arity given)))
   pub accepted : Exactly (n ≡ 0) (InLimitsAndPool (length lent) start arity capacity × (length given % arity ≡ 0) × (length (rowsGiven arity given) ≤ capacity))
-
--- ---- the tests of the first two checks
-
-module _ (most n : ℕ) where
-  on : From1To most n → (ltb 0 n && leb n most) ≡ true
-  on h = and-true (ltb 0 n) (leb n most) (lt-ltb 0 n (h .0)) (le-leb n most (h .1))
-
-  off : Off most n → (ltb 0 n && leb n most) ≡ false
-  off (inl e) = and-false-left (ltb 0 n) (leb n most) (le-ltb 0 n (omega arith))
-  off (inr h) = and-false-right (ltb 0 n) (leb n most) (lt-leb n most h)
-
-  either : From1To most n ⊎ Off most n
-  either = go (decLt 0 n) (decLt most n)
-    where
-      go : Dec (0 < n) → Dec (most < n) → From1To most n ⊎ Off most n
-      go (no a) b = inr (inl (omega arith))
-      go (yes a) (yes b) = inr (inr b)
-      go (yes a) (no b) = inl (a, omega arith)
 
 module _ (given lent : List ℕ) (start arity capacity : ℕ) where
   abbrev number : ℕ

@@ -15,8 +15,9 @@ use Rattle.relation.proofs.Tables.{layers-undamaged}
 use Rattle.column_trie.specs.Kept.{Kept}
 use Rattle.column_trie.proofs.Kept.{stored-kept, unchanged-kept}
 use Rattle.from_sorted.specs.Given.{rowsGiven}
-use Rattle.column_trie_build.specs.Build.{keptKinds, Builds}
-use Rattle.column_trie_build.specs.declared.Built.{Built}
+use Rattle.from_sorted.specs.Answer.{keptKinds}
+use Rattle.column_trie_build.specs.Build.{Builds}
+use Rattle.from_sorted.specs.declared.Built.{Built}
 use Rattle.build_laws.proofs.Untouched.{a-refused-build-leaves-everything-untouched}
 use Rattle.build_laws.proofs.Leaves.{set-width, set-few, built-accepted, built-pool, built-table}
 

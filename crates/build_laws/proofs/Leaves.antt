@@ -14,12 +14,13 @@ use Rattle.column_trie.specs.Table.{tableOf, emptyTable, layersIn, rowsIn, Unda
 use Rattle.column_trie.specs.declared.ColumnTrie.{ColumnTrie}
 use Rattle.column_trie.proofs.Tables.{stored}
 use Rattle.from_sorted.specs.Given.{rowsGiven}
-use Rattle.column_trie_build.specs.Build.{buildNumber, keptKinds, Builds}
-use Rattle.column_trie_build.specs.declared.Built.{Built}
+use Rattle.from_sorted.specs.Answer.{keptKinds}
+use Rattle.column_trie_build.specs.Build.{buildNumber, Builds}
+use Rattle.from_sorted.specs.declared.Built.{Built}
 use Rattle.column_trie_build.proofs.Numbers.{Accepted, accepted}
 use Rattle.from_sorted.proofs.Given.{length-given, width-given}
-use Rattle.column_trie_build.proofs.Outcomes.{if-built}
-use Rattle.column_trie_build.proofs.Taken.{kept-plain}
+use Rattle.from_sorted.proofs.Answer.{if-built}
+use Rattle.from_sorted.proofs.Taken.{kept-plain}
 
 -- what an accepted build over `given` leaves in the pool
 pub record LayersOfTheSet (given : List ℕ) (arity : ℕ) (pool : List ℕ) (t : ColumnTrie) : Type 0 where

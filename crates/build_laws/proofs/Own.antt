@@ -18,11 +18,11 @@ use Rattle.column_trie.proofs.Layers.{Whole}
 use Rattle.column_trie.proofs.Tables.{Holds, holds}
 use Rattle.from_sorted.specs.Given.{rowsGiven}
 use Rattle.column_trie_build.specs.Build.{buildNumber, Builds}
-use Rattle.column_trie_build.specs.declared.Built.{Built}
+use Rattle.from_sorted.specs.declared.Built.{Built}
 use Rattle.column_trie_build.proofs.Numbers.{number-0}
 use Rattle.from_sorted.proofs.Given.{length-flat, given-flat}
-use Rattle.column_trie_build.proofs.Outcomes.{if-built}
-use Rattle.column_trie_build.proofs.Taken.{kept-own}
+use Rattle.from_sorted.proofs.Answer.{if-built}
+use Rattle.from_sorted.proofs.Taken.{kept-own}
 use Rattle.build_laws.proofs.Leaves.{built-pool, built-table}
 
 -- accepted; table, pool and rows come back as they were

@@ -11,10 +11,10 @@ use Rattle.relation.specs.Rows.{Sorted, Perm, place, sort, flat}
 use Rattle.relation.proofs.Sorting.{sort-sorted, sort-perm}
 use Rattle.from_sorted.specs.Given.{rowsGiven}
 use Rattle.column_trie_build.specs.Build.{buildNumber, Builds}
-use Rattle.column_trie_build.specs.declared.Built.{Built}
+use Rattle.from_sorted.specs.declared.Built.{Built}
 use Rattle.column_trie_build.proofs.Numbers.{Accepted}
 use Rattle.from_sorted.proofs.Given.{length-given, width-given, width-sort, length-flat, given-sorted}
-use Rattle.column_trie_build.proofs.Outcomes.{if-built}
+use Rattle.from_sorted.proofs.Answer.{if-built}
 use Rattle.build_laws.proofs.Leaves.{zero-number, built-accepted}
 
 -- as many words as before, and the rows that they are: those given, each as often, in order

@@ -9,9 +9,10 @@ use Rattle.relation.specs.Layers.{layersOf}
 use Rattle.column_trie.specs.Pool.{store}
 use Rattle.column_trie.specs.Table.{emptyTable, tableOf}
 use Rattle.from_sorted.specs.Given.{rowsGiven}
-use Rattle.column_trie_build.specs.Build.{buildNumber, keptKinds, Builds}
-use Rattle.column_trie_build.specs.declared.Built.{Built}
-use Rattle.column_trie_build.proofs.Outcomes.{if-refused}
+use Rattle.from_sorted.specs.Answer.{keptKinds}
+use Rattle.column_trie_build.specs.Build.{buildNumber, Builds}
+use Rattle.from_sorted.specs.declared.Built.{Built}
+use Rattle.from_sorted.proofs.Answer.{if-refused}
 
 pub record Untouched (given lent given′ lent′ : List ℕ) (r : Built) : Type 0 where
   pub table : r .table ≡ emptyTable 0 0 0

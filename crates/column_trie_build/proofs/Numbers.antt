@@ -10,21 +10,8 @@ use Rattle.relation.proofs.Tests.{not-both}
 use Rattle.column_trie.specs.Limits.{maxArity, maxCapacity}
 use Rattle.column_trie.specs.Table.{arityOk, capacityOk, liesIn}
 use Rattle.column_trie.proofs.Header.{arity-told, capacity-told}
+use Rattle.from_sorted.proofs.Answer.{refuses, passes, not-refused}
 use Rattle.column_trie_build.specs.Build.{buildNumber}
-
--- a check that refuses, and one that passes
-refuses : (b : Bool) (k x : ℕ) → b ≡ false → k ≡ pick (not b) k x
-refuses true k x e = not-both true refl e
-refuses false k x e = refl
-
-passes : (b : Bool) (k x : ℕ) {r : ℕ} → b ≡ true → r ≡ x → r ≡ pick (not b) k x
-passes true k x e h = h
-passes false k x e h = not-both false e refl
-
--- what is 0 was not refused
-not-refused : (b : Bool) (k x : ℕ) → 0 < k → pick (not b) k x ≡ 0 → (b ≡ true) × (x ≡ 0)
-not-refused true k x h e = (refl, e)
-not-refused false k x h e = absurd (omega arith)
 
 module _ (words len start arity capacity : ℕ) where
   pub number-1 : arityOk arity ≡ false → 1 ≡ buildNumber words len start arity capacity

@@ -5,26 +5,19 @@ use mathlib.Core.Bool.{Bool}
 use mathlib.Core.List.{List}
 use native.Mathlib.Omega.{arith}
 use lib.ListN.{length}
-use borrow.Author.Tests.{eq-eqb, ne-eqb}
-use Rattle.relation.specs.Order.{pick}
 use Rattle.relation.specs.Rows.{Sorted, flat, sort, asSet}
 use Rattle.relation.specs.Layers.{layersOf}
 use Rattle.relation.proofs.Sorting.{sort-sorted, sort-members, asSet-cong}
 use Rattle.column_trie.specs.Pool.{store}
-use Rattle.column_trie.specs.Table.{headerWith, emptyTable, tableOf}
+use Rattle.column_trie.specs.Table.{emptyTable, tableOf}
 use Rattle.column_trie.specs.declared.ColumnTrie.{ColumnTrie}
 use Rattle.from_sorted.specs.Given.{rowsGiven}
-use Rattle.column_trie_build.specs.Build.{buildNumber, unlessRefused, keptKinds, Builds}
+use Rattle.from_sorted.specs.Answer.{unlessRefused, keptKinds}
+use Rattle.column_trie_build.specs.Build.{buildNumber, Builds}
 use Rattle.from_sorted.specs.Push.{Filling}
 use Rattle.column_trie_build.proofs.Numbers.{Accepted}
+use Rattle.from_sorted.proofs.Answer.{if-built, if-refused, regraded}
 use Rattle.from_sorted.proofs.Given.{length-given, given-sorted}
-
-module _ {A : Type 0} (n : ℕ) (built refused : A) where
-  pub if-built : n ≡ 0 → unlessRefused n built refused ≡ built
-  if-built e = ap (λ (b : Bool). pick b built refused) (eq-eqb n 0 e)
-
-  pub if-refused : (n ≡ 0 → ⊥) → unlessRefused n built refused ≡ refused
-  if-refused h = ap (λ (b : Bool). pick b built refused) (ne-eqb n 0 h)
 
 module _ (given lent : List ℕ) (start arity capacity : ℕ) (kinds : List Bool) {n : ℕ} {t : ColumnTrie} (e : n ≡ buildNumber (length given) (length lent) start arity capacity) where
   pub builds-refused : (n ≡ 0 → ⊥) → t ≡ emptyTable 0 0 0 → Builds given lent start arity capacity kinds given lent (record { number = n; table = t })
@@ -48,10 +41,6 @@ module _ (given lent : List ℕ) (start arity capacity : ℕ) (kinds : List Bool
         rows = g ∙ sym (if-built k _ given z);
         pool = p ∙ sym (if-built k _ lent z);
       }
-
--- the same header with columns of other kinds
-abbrev pub regraded : ColumnTrie → List Bool → ColumnTrie
-regraded t kinds = headerWith (t .start) (t .arity) (t .capacity) (t .«data_len») (t .«interval_len») (t .«tuple_count») kinds
 
 -- an accepted build's table, empty, and its rows, once they are sorted
 module _ (given : List ℕ) {given′ : List ℕ} {len start arity capacity : ℕ} (a : Accepted (length given) len start arity capacity) (e : given′ ≡ flat (sort (rowsGiven arity given))) where

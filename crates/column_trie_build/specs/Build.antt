@@ -1,18 +1,18 @@
 -- Public: what a build answers and what it leaves behind, as functions of the arguments at entry.
-use Prim.Native.Nat.{ℕ, _-_, _/_, _%_}
+use Prim.Native.Nat.{ℕ, _/_, _%_}
 use mathlib.Core.Path.{_≡_}
-use mathlib.Core.Bool.{Bool, false, not}
-use mathlib.Core.List.{List, _++_}
-use lib.ListN.{length, take, replicate}
+use mathlib.Core.Bool.{Bool, not}
+use mathlib.Core.List.{List}
+use lib.ListN.{length}
 use lib.Dec.{ltb, eqb}
 use Rattle.relation.specs.Order.{pick}
 use Rattle.relation.specs.Rows.{flat, sort, asSet}
 use Rattle.relation.specs.Layers.{layersOf}
-use Rattle.column_trie.specs.Limits.{maxArity}
 use Rattle.column_trie.specs.Pool.{store}
 use Rattle.column_trie.specs.Table.{arityOk, capacityOk, liesIn, emptyTable, tableOf}
 use Rattle.from_sorted.specs.Given.{rowsGiven}
-use Rattle.column_trie_build.specs.declared.Built.{Built}
+use Rattle.from_sorted.specs.Answer.{unlessRefused, keptKinds}
+use Rattle.from_sorted.specs.declared.Built.{Built}
 
 -- the number of a build over so many words, into a pool of so many: document 01's checks 1 to 5 in sequence, 0 if none refuses
 unfoldable pub buildNumber : ℕ → ℕ → ℕ → ℕ → ℕ → ℕ
@@ -22,14 +22,6 @@ buildNumber words len start arity capacity =
     (pick (not (liesIn len start arity capacity)) 3
     (pick (not (eqb (words % arity) 0)) 4
     (pick (ltb capacity (words / arity)) 5 0))))
-
--- by the number: what a build leaves, and what is left if it is refused
-abbrev pub unlessRefused : {A : Type 0} → ℕ → A → A → A
-unlessRefused number built refused = pick (eqb number 0) built refused
-
--- the kinds that are stored: those past the arity as plain
-abbrev pub keptKinds : ℕ → List Bool → List Bool
-keptKinds arity kinds = take arity kinds ++ replicate (maxArity - arity) false
 
 -- the answer: the number, and the header of the table of the set of the rows; a refused build's header is all zeros, and so all plain
 abbrev pub builtAnswer : List ℕ → List ℕ → ℕ → ℕ → ℕ → List Bool → Built

@@ -7,6 +7,7 @@ use column_trie::ColumnTrie;
 use column_trie::arity_ok;
 use column_trie::capacity_ok;
 use column_trie::lies_in;
+use from_sorted::Built;
 use from_sorted::from_sorted;
 use sort::sort_rows;
 ghost use mathlib.Core.Path.{_≡_};
@@ -14,13 +15,8 @@ ghost use mathlib.Core.Bool.{false};
 ghost use Prim.Native.Nat.{_≤_};
 ghost use lib.ListN.{replicate};
 ghost use Rattle.column_trie.specs.Limits.{maxArity};
-ghost use Rattle.column_trie_build.specs.Build.{buildNumber, keptKinds, Builds};
-
-#[repr(C)]
-pub struct Built {
-    pub number: u64,
-    pub table: ColumnTrie,
-}
+ghost use Rattle.from_sorted.specs.Answer.{keptKinds};
+ghost use Rattle.column_trie_build.specs.Build.{buildNumber, Builds};
 
 // The number of the first check that refuses, or 0.
 fn build_number(words: usize, len: usize, start: usize, arity: usize, capacity: usize) -> u64

@@ -7,8 +7,10 @@ use Prim.Native.Nat.{ℕ}
 use contract.Lifetimes.{Lfts}
 use denote.Ref.{now}
 use Rattle.build_laws.proofs.Determined as builds
+use Rattle.file_laws.proofs.Determined as files
 use Rattle.insert_laws.proofs.Laws as inserts
 use Rattle.column_trie_listing.proofs.Lists as lists
+use Rattle.file_write.proofs.Files as writes
 use Rattle.leapfrog_triejoin.proofs.Determined as joins
 use Rattle.ducatbriar.proofs.ducatbriar_partition_point.Reads as partition-point-reads
 use Rattle.ducatbriar.proofs.ducatbriar_word_of.Reads as word-of-reads
@@ -16,6 +18,8 @@ use Rattle.ducatbriar.proofs.ducatbriar_grade_of.Reads as grade-of-read
 use Rattle.ducatbriar.proofs.ducatbriar_empty.Reads as empty-reads
 use Rattle.ducatbriar.proofs.ducatbriar_undamaged.Reads as undamaged-reads
 use Rattle.ducatbriar.proofs.ducatbriar_build.Reads as build-reads
+use Rattle.ducatbriar.proofs.ducatbriar_read.Reads as read-reads
+use Rattle.ducatbriar.proofs.ducatbriar_write.Reads as write-reads
 use Rattle.ducatbriar.proofs.ducatbriar_insert.Reads as insert-reads
 use Rattle.ducatbriar.proofs.ducatbriar_list.Reads as list-reads
 use Rattle.ducatbriar.proofs.ducatbriar_key.Reads as key-reads
@@ -74,6 +78,16 @@ pub build : (κs : Lfts 2) → OneOutcome {W = List ℕ × List ℕ} (build-read
 build κs args r₁ r₂ e₁ e₂ p q =
     let d = builds.determined (now (args .0)) (now (args .1 .0)) (args .1 .1 .0) (args .1 .1 .1 .0) (args .1 .1 .1 .1 .0) (args .1 .1 .1 .1 .1 .0 .grade) (record { answer = r₁; rows = now (e₁ .0); pool = now (e₁ .1 .0) }) (record { answer = r₂; rows = now (e₂ .0); pool = now (e₂ .1 .0) }) p q in
     (ap (λ (o : builds.Outcome). o .answer) d, ap (λ (o : builds.Outcome). (o .rows, o .pool)) d)
+
+-- the pool
+pub read : (κs : Lfts 2) → OneOutcome {W = List ℕ} (read-reads.Post κs) (λ e. now (e .1 .0))
+read κs args r₁ r₂ e₁ e₂ p q =
+    let d = files.determined (now (args .0)) (now (args .1 .0)) (args .1 .1 .0) (args .1 .1 .1 .0) (record { answer = r₁; pool = now (e₁ .1 .0) }) (record { answer = r₂; pool = now (e₂ .1 .0) }) p q in
+    (ap (λ (o : files.Outcome). o .answer) d, ap (λ (o : files.Outcome). o .pool) d)
+
+-- the bytes
+pub write : (κs : Lfts 2) → OneOutcome (write-reads.Post κs) (λ e. now (e .1 .1 .0))
+write κs args r₁ r₂ e₁ e₂ p q = writes.determined p q
 
 -- the pool
 pub insert : (κs : Lfts 2) → OneOutcome (insert-reads.Post κs) (λ e. now (e .0))

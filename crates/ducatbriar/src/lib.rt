@@ -9,12 +9,13 @@ ghost use Rattle.grade.specs.Word.{wordOf, gradeOf};
 ghost use Rattle.column_trie.specs.Table.{emptyTable, undamaged};
 ghost use Rattle.column_trie_build.specs.Build.{Builds};
 ghost use Rattle.column_trie_insert.specs.Insert.{Inserts};
+ghost use Rattle.file_read.specs.Read.{Reads};
+ghost use Rattle.file_write.specs.Write.{Writes};
 ghost use Rattle.column_trie_listing.specs.List.{Lists};
 ghost use Rattle.column_trie_iter.specs.Cursor.{keyOf, nextOf, soughtOf, endOf, openOf, upOf};
 ghost use Rattle.leapfrog_triejoin.specs.Outcome.{Joins};
 ghost use Rattle.ducatbriar.specs.Strategy.{strategyOf};
 use column_trie::ColumnTrie;
-use column_trie_build::Built;
 use column_trie_insert::Inserted;
 use column_trie_iter::EndAnswer;
 use column_trie_iter::KeyAnswer;
@@ -24,6 +25,8 @@ use column_trie_iter::SeekAnswer;
 use column_trie_iter::UpAnswer;
 use column_trie_listing::Listed;
 use column_trie_place::ColumnTrieIter;
+use file_write::FileWritten;
+use from_sorted::Built;
 use join_query::Query;
 use join_query::Tables;
 use leapfrog_triejoin::Joined;
@@ -100,6 +103,25 @@ pub extern "C" fn ducatbriar_build(
 {
     let grade = kinds.grade;
     column_trie_build::build(rows, pool, start, arity, capacity, grade)
+}
+
+#[no_mangle]
+pub extern "C" fn ducatbriar_read(
+    bytes: &[u8],
+    pool: &mut [u64],
+    start: usize,
+    capacity: usize,
+) -> Built
+    ensures { λ r. ⌜ Reads (now (bytes .entry)) (now (pool .entry)) start capacity (now (pool .exit)) r ⌝ }
+{
+    file_read::read(bytes, pool, start, capacity)
+}
+
+#[no_mangle]
+pub extern "C" fn ducatbriar_write(pool: &[u64], table: ColumnTrie, bytes: &mut [u8]) -> FileWritten
+    ensures { λ r. ⌜ Writes (now (pool .entry)) table (now (bytes .entry)) (now (bytes .exit)) r ⌝ }
+{
+    file_write::write(pool, table, bytes)
 }
 
 #[no_mangle]

@@ -1,14 +1,15 @@
 -- A table filled row by row with sorted rows: what holds before each row, and that all rows leave the layers of their set.
 use Prim.Native.Nat.{ℕ, zero, suc, _+_, _-_, _≤_, _<_}
-use mathlib.Core.Path.{_≡_, refl, sym, ap, ap₂, _∙_}
+use mathlib.Core.Path.{_≡_, refl, sym, ap, ap₂, _∙_, subst}
 use mathlib.Core.List.{List, [], _∷_, _++_, map}
 use native.Mathlib.Omega.{arith}
 use native.Mathlib.Numerals.{add-one}
 use lib.ListN.{length, take, getD, replicate, length-replicate, replicate-append-replicate}
-use lib.Seq.{take-all}
+use lib.Seq.{take-all, take-suc, length-take-le}
 use Rattle.relation.specs.Order.{Row}
 use Rattle.relation.specs.Rows.{asSet, Width}
 use Rattle.relation.specs.Layers.{Layer, noLayer, prefixes, groupsAt, joined, starts, layerAt, layersFrom, layersOf}
+use Rattle.relation.proofs.Lists.{getD-in}
 use Rattle.relation.proofs.Order.{shared}
 use Rattle.relation.proofs.Sorting.{asSet-members, asSet-asc}
 use Rattle.relation.proofs.Tables.{layers-count, layers-members, layers-undamaged}
@@ -17,8 +18,8 @@ use Rattle.column_trie.specs.Pool.{lay, store}
 use Rattle.column_trie.specs.Table.{relengthed, padded, keyCounts, intervalCounts, refilled}
 use Rattle.column_trie.specs.declared.ColumnTrie.{ColumnTrie}
 use Rattle.column_trie.proofs.Lengths.{keys-at}
-use Rattle.from_sorted.specs.Push.{Pushing, Pushes, Filling, Fills}
-use Rattle.from_sorted.proofs.Turns.{turn-one, turn-next, turn-equal}
+use Rattle.from_sorted.specs.Push.{Turn, Pushing, Pushes, CanPush, Pushed, Filling, Fills}
+use Rattle.from_sorted.proofs.Turns.{width-take, turn-one, turn-next, turn-equal}
 
 -- ---- no rows
 
@@ -85,51 +86,62 @@ pub record Filled (t : ColumnTrie) (rows : List Row) (pool₀ pool ks is : List 
   pub intervals : is ≡ intervalCounts (layersOf (t .arity) (take i rows))
   pub words : (p : List ℕ) → pool₀ ≡ store (t .start) (t .capacity) (layersOf (t .arity) (take 1 rows)) p → pool ≡ store (t .start) (t .capacity) (layersOf (t .arity) (take i rows)) p
 
+-- row i is the next one
+next-row : (rows : List Row) (i : ℕ) → i < length rows → take (suc i) rows ≡ take i rows ++ (getD rows i [] ∷ [])
+next-row rows i h = take-suc rows i [] h
+
 module _ {len : ℕ} {t : ColumnTrie} {rows : List Row} (f : Filling len t rows) (w : Width (t .arity) rows) where
-  pub pushing-first : 0 < length rows → Pushing len t (t .«data_len») (t .«interval_len») rows 0 0 0
-  pushing-first h = record {
-    few = f .few;
-    small = f .small;
-    fits = f .fits;
-    width = w;
-    room = f .room;
-    next = h;
-    keys = ap (λ (u : ColumnTrie). u .«data_len») (f .empty) ∙ sym (keys-none (t .arity) (f .few));
-    intervals = ap (λ (u : ColumnTrie). u .«interval_len») (f .empty) ∙ sym (intervals-none (t .arity) (f .few));
-    turn = turn-one (f .positive) w h;
-  }
-
-  pub filled-first : {pool pool′ ks is : List ℕ} → 0 < length rows → Pushes pool t rows 0 pool′ ks is → Filled t rows pool′ pool′ ks is 1
-  filled-first h p = record { low = omega arith; high = h; long = refl; keys = p .keys; intervals = p .intervals; words = λ q e. e }
-
-  -- a row that is not equal to the one before it
-  pub pushing-next : {pool₀ pool ks is : List ℕ} {i : ℕ} (d : ℕ) → Filled t rows pool₀ pool ks is i → i < length rows → d ≡ shared (getD rows (i - 1) []) (getD rows i []) → d < t .arity → Pushing len t ks is rows i d (d + 1)
-  pushing-next {i = zero} d g h e b = absurd (omega (arith, g .low))
-  pushing-next {i = suc i} d g h e b =
-      let q : suc i - 1 ≡ i = omega arith in
-      let k : d ≡ shared (getD rows i []) (getD rows (suc i) []) = e ∙ ap (λ (n : ℕ). shared (getD rows n []) (getD rows (suc i) [])) q in
+  pushing : {ks is : List ℕ} {i from opens : ℕ} → i < length rows → ks ≡ keyCounts (layersOf (t .arity) (take i rows)) → is ≡ intervalCounts (layersOf (t .arity) (take i rows)) →
+      Turn (t .arity) (layersOf (t .arity) (take i rows)) (layersOf (t .arity) (take (suc i) rows)) (getD rows i []) from opens → Pushing len t ks is (take i rows) (getD rows i []) from opens
+  pushing {i = i} {from} {opens} h k n r =
       record {
         few = f .few;
         small = f .small;
         fits = f .fits;
-        width = w;
-        room = f .room;
-        next = h;
-        keys = g .keys;
-        intervals = g .intervals;
-        turn = rw k (turn-next w (f .sorted) i h (rw (← k) b));
+        width = width-take i w;
+        wide = w (getD rows i []) (getD-in rows i [] h);
+        room = omega (arith, length-take-le i rows (omega arith), f .room);
+        keys = k;
+        intervals = n;
+        turn = subst (λ (rs : List Row). Turn (t .arity) (layersOf (t .arity) (take i rows)) (layersOf (t .arity) rs) (getD rows i []) from opens) (next-row rows i h) r;
       }
 
-  pub filled-next : {pool₀ pool ks is : List ℕ} {i : ℕ} {pool′ ks′ is′ : List ℕ} → Filled t rows pool₀ pool ks is i → i < length rows → length pool′ ≡ length pool → Pushes pool t rows i pool′ ks′ is′ → Filled t rows pool₀ pool′ ks′ is′ (i + 1)
-  filled-next g h l p =
+  pub pushing-first : 0 < length rows → Pushing len t (t .«data_len») (t .«interval_len») (take 0 rows) (getD rows 0 []) 0 0
+  pushing-first h =
+      pushing {i = 0} h (ap (λ (u : ColumnTrie). u .«data_len») (f .empty) ∙ sym (keys-none (t .arity) (f .few))) (ap (λ (u : ColumnTrie). u .«interval_len») (f .empty) ∙ sym (intervals-none (t .arity) (f .few)))
+      (turn-one (f .positive) w h)
+
+  pub filled-first : {pool pool′ ks is : List ℕ} → 0 < length rows → Pushes pool t (take 0 rows) (getD rows 0 []) pool′ ks is → Filled t rows pool′ pool′ ks is 1
+  filled-first h p =
+      let e = next-row rows 0 h in
+      record {
+        low = omega arith;
+        high = h;
+        long = refl;
+        keys = p .keys ∙ ap (λ (rs : List Row). keyCounts (layersOf (t .arity) rs)) (sym e);
+        intervals = p .intervals ∙ ap (λ (rs : List Row). intervalCounts (layersOf (t .arity) rs)) (sym e);
+        words = λ q e. e;
+      }
+
+  -- a row that is not equal to the one before it
+  pub pushing-next : {pool₀ pool ks is : List ℕ} {i : ℕ} (d : ℕ) → Filled t rows pool₀ pool ks is i → i < length rows → d ≡ shared (getD rows (i - 1) []) (getD rows i []) → d < t .arity → Pushing len t ks is (take i rows) (getD rows i []) d (d + 1)
+  pushing-next {i = zero} d g h e b = absurd (omega (arith, g .low))
+  pushing-next {i = suc i} d g h e b =
+      let q : suc i - 1 ≡ i = omega arith in
+      let k : d ≡ shared (getD rows i []) (getD rows (suc i) []) = e ∙ ap (λ (n : ℕ). shared (getD rows n []) (getD rows (suc i) [])) q in
+      pushing h (g .keys) (g .intervals) (rw k (turn-next w (f .sorted) i h (rw (← k) b)))
+
+  pub filled-next : {pool₀ pool ks is : List ℕ} {i : ℕ} {pool′ ks′ is′ : List ℕ} → Filled t rows pool₀ pool ks is i → i < length rows → length pool′ ≡ length pool → Pushes pool t (take i rows) (getD rows i []) pool′ ks′ is′ → Filled t rows pool₀ pool′ ks′ is′ (i + 1)
+  filled-next {i = i} g h l p =
+      let e = next-row rows i h in
       rw add-one
       (record {
         low = omega arith;
         high = omega arith;
         long = l ∙ g .long;
-        keys = p .keys;
-        intervals = p .intervals;
-        words = λ o e. p .words o (g .words o e);
+        keys = p .keys ∙ ap (λ (rs : List Row). keyCounts (layersOf (t .arity) rs)) (sym e);
+        intervals = p .intervals ∙ ap (λ (rs : List Row). intervalCounts (layersOf (t .arity) rs)) (sym e);
+        words = λ o x. p .words o (g .words o x) ∙ ap (λ (rs : List Row). store (t .start) (t .capacity) (layersOf (t .arity) rs) o) (sym e);
       })
 
   -- one that is equal to it
@@ -160,13 +172,22 @@ module _ {len : ℕ} {t : ColumnTrie} {rows : List Row} (f : Filling len t rows)
       none [] h = refl
       none (x ∷ xs) h = absurd (omega arith)
 
-  pub fills-all : {pool pool₀ pool′ ks₀ is₀ ks is : List ℕ} {i : ℕ} → Pushes pool t rows 0 pool₀ ks₀ is₀ → Filled t rows pool₀ pool′ ks is i → length rows ≤ i → Fills pool t rows pool′ (relengthed t ks is (getD ks (t .arity - 1) 0))
-  fills-all {pool} {i = i} p g h =
+  pub fills-all : {pool pool₀ pool′ ks₀ is₀ ks is : List ℕ} {i : ℕ} → 0 < length rows → Pushes pool t (take 0 rows) (getD rows 0 []) pool₀ ks₀ is₀ → Filled t rows pool₀ pool′ ks is i → length rows ≤ i → Fills pool t rows pool′ (relengthed t ks is (getD ks (t .arity - 1) 0))
+  fills-all {pool} {i = i} s p g h =
       let e : take i rows ≡ rows = take-all i rows h in
       record {
         header = lengths-all t w (f .positive) (g .keys ∙ ap (λ (rs : List Row). keyCounts (layersOf (t .arity) rs)) e) (g .intervals ∙ ap (λ (rs : List Row). intervalCounts (layersOf (t .arity) rs)) e);
         words =
-            g .words pool (p .words pool (stored-none (t .start) (t .arity) (t .capacity) pool))
+            g .words pool (p .words pool (stored-none (t .start) (t .arity) (t .capacity) pool) ∙ ap (λ (rs : List Row). store (t .start) (t .capacity) (layersOf (t .arity) rs) pool) (sym (next-row rows 0 s)))
             ∙ ap (λ (rs : List Row). store (t .start) (t .capacity) (layersOf (t .arity) rs) pool) e
             ∙ store-all w (t .start) (t .capacity) pool;
       }
+
+-- ---- the row as it is lent
+
+module _ {t : ColumnTrie} {ks is : List ℕ} {old : List Row} {row lent : Row} {from opens : ℕ} (e : lent ≡ row) where
+  pub can-push : {len : ℕ} → Pushing len t ks is old row from opens → CanPush len t ks is lent from opens
+  can-push {len} p = (old, subst (λ (r : Row). Pushing len t ks is old r from opens) (sym e) p)
+
+  pub pushed : {pool pool′ ks′ is′ : List ℕ} → Pushing (length pool) t ks is old row from opens → Pushed pool t ks is lent from opens pool′ ks′ is′ → Pushes pool t old row pool′ ks′ is′
+  pushed {pool} {pool′} {ks′} {is′} p d = subst (λ (r : Row). Pushes pool t old r pool′ ks′ is′) e (d old (subst (λ (r : Row). Pushing (length pool) t ks is old r from opens) (sym e) p))

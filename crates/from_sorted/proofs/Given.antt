@@ -1,16 +1,16 @@
--- The rows that words are: where row i lies, how long it is, its words, and the rows sorted.
-use Prim.Native.Nat.{ℕ, _+_, _*_, _/_, _≤_, _<_}
+-- The rows that words are: where row i lies, and the rows sorted.
+use Prim.Native.Nat.{ℕ, zero, suc, _+_, _*_, _-_, _/_, _≤_, _<_}
 use mathlib.Core.Path.{_≡_, refl, sym, ap, _∙_}
 use mathlib.Core.List.{List, [], _∷_, append-nil}
 use native.Mathlib.Omega.{arith}
 use native.Mathlib.Nat.{zero-mul, suc-mul, mul-le-mul-right, mul-div-cancel, div-mul-le-self}
-use lib.ListN.{length, drop, getD, length-drop, length-append}
-use lib.Seq.{length-take-le}
+use lib.ListN.{length, take, drop, getD, length-drop, length-append}
+use lib.Seq.{take-all}
 use Rattle.relation.specs.Order.{Row}
 use Rattle.relation.specs.Lists.{hd, tl}
 use Rattle.relation.specs.Rows.{Width, cut, flat, sort}
 use Rattle.relation.proofs.Sorting.{sort-members}
-use Rattle.relation.proofs.Words.{length-cut, cut-width, cut-at, cut-flat, word-at}
+use Rattle.relation.proofs.Words.{length-cut, cut-width, cut-at, cut-flat}
 use Rattle.from_sorted.specs.Given.{rowsGiven}
 
 module _ (a : ℕ) (ws : List ℕ) where
@@ -24,11 +24,26 @@ module _ (a : ℕ) (ws : List ℕ) where
     pub row-inside : i * a + a ≤ length ws
     row-inside = omega (arith, mul-le-mul-right a h, suc-mul i a, div-mul-le-self (length ws) a)
 
-    pub row-long : length (getD (rowsGiven a ws) i []) ≡ a
-    row-long = ap length (cut-at (length ws / a) a ws i h) ∙ length-take-le a (drop (i * a) ws) (simp length-drop (omega (arith, row-inside)))
+    pub row-there : take a (drop (i * a) ws) ≡ getD (rowsGiven a ws) i []
+    row-there = sym (cut-at (length ws / a) a ws i h)
 
-    pub row-word : (k : ℕ) → k < a → getD (getD (rowsGiven a ws) i []) k 0 ≡ getD ws (i * a + k) 0
-    row-word k b = word-at (length ws / a) a ws i k h b
+    -- of the words from x on, where it lies
+    module _ {x : ℕ} (e : x ≡ i * a) where
+      all-left : take (length ws - x) (drop x ws) ≡ drop x ws
+      all-left = take-all (length ws - x) (drop x ws) (omega (arith, length-drop x ws))
+
+      pub row-lent : take a (take (length ws - x) (drop x ws)) ≡ getD (rowsGiven a ws) i []
+      row-lent = ap (take a) all-left ∙ ap (λ (n : ℕ). take a (drop n ws)) e ∙ row-there
+
+      pub row-long : a ≤ length (take (length ws - x) (drop x ws))
+      row-long = omega (arith, ap length all-left, length-drop x ws, row-inside)
+
+-- the row before a later one
+pub row-back : (a i : ℕ) → 0 < i → (i * a - a ≡ (i - 1) * a) × (a ≤ i * a)
+row-back a zero h = absurd (omega arith)
+row-back a (suc i) h =
+    let e : suc i * a ≡ i * a + a = omega (arith, suc-mul i a) in
+    (omega (arith, ap (λ (n : ℕ). n * a) (let z : suc i - 1 ≡ i = omega arith in z)), omega arith)
 
 -- ---- sorted, and laid flat again
 

@@ -1,6 +1,9 @@
+pub mod Answer
 pub mod Given
+pub mod Taken
+pub mod Fill
+pub mod Ranges
 mod Columns
-mod Fill
 mod Lengths
 mod Shared
 mod Turns

@@ -1,10 +1,10 @@
 -- What one more row of a sorted list does to the layers: the first row, a later one, and one that is equal to the row before it.
 use Prim.Native.Nat.{ℕ, zero, suc, _+_, _≤_, _<_}
 use mathlib.Core.Path.{_≡_, sym, ap, _∙_}
-use mathlib.Core.List.{List, [], _∷_}
+use mathlib.Core.List.{List, [], _∷_, _++_}
 use native.Mathlib.Omega.{arith}
 use lib.ListN.{length, take, getD}
-use lib.Seq.{take-suc, length-take-le, ext-getD}
+use lib.Seq.{take-suc, ext-getD}
 use Rattle.relation.specs.Order.{Row}
 use Rattle.relation.specs.Lists.{_∈_, hd, tl, not-in-nil}
 use Rattle.relation.specs.Rows.{Sorted, Width}
@@ -25,7 +25,7 @@ in-rows (suc n) [] m = absurd (not-in-nil m)
 in-rows (suc n) (r ∷ rs) (hd e) = hd e
 in-rows (suc n) (r ∷ rs) (tl m) = tl (in-rows n rs m)
 
-width-take : {a : ℕ} {rows : List Row} (n : ℕ) → Width a rows → Width a (take n rows)
+pub width-take : {a : ℕ} {rows : List Row} (n : ℕ) → Width a rows → Width a (take n rows)
 width-take {rows = rows} n w q m = w q (in-rows n rows m)
 
 -- no list of a layer is longer than the rows. Layers are by ranks here, which is the form that the steps of a build are proved in
@@ -35,17 +35,15 @@ layers-room {rows = rows} w d h = (
   omega (arith, ap (λ (l : Layer). length (l .intervals)) (layer-ranked w d h), length-intervals d rows, length-prefixes d rows),
 )
 
-pub setting : {len : ℕ} {t : ColumnTrie} {ks is : List ℕ} {rows : List Row} {i from opens : ℕ} → Pushing len t ks is rows i from opens → Setting len t (layersOf (t .arity) (take i rows)) (layersOf (t .arity) (take (suc i) rows)) (getD rows i []) from opens
-setting {t = t} {rows = rows} {i = i} p =
-    let w = width-take i (p .width) in
-    let n : length (take i rows) ≡ i = length-take-le i rows (omega (arith, p .next)) in
+pub setting : {len : ℕ} {t : ColumnTrie} {ks is : List ℕ} {old : List Row} {row : Row} {from opens : ℕ} → Pushing len t ks is old row from opens → Setting len t (layersOf (t .arity) old) (layersOf (t .arity) (old ++ (row ∷ []))) row from opens
+setting {t = t} {old = old} {row = row} p =
     record {
       few = p .few;
       small = p .small;
       fits = p .fits;
-      size = layers-count (t .arity) 0 (take i rows);
-      size′ = layers-count (t .arity) 0 (take (suc i) rows);
-      room = λ d h. (omega (arith, layers-room w d h, p .next, p .room), omega (arith, layers-room w d h, p .next, p .room));
+      size = layers-count (t .arity) 0 old;
+      size′ = layers-count (t .arity) 0 (old ++ (row ∷ []));
+      room = λ d h. (omega (arith, layers-room (p .width) d h, p .room), omega (arith, layers-room (p .width) d h, p .room));
       turn = p .turn;
     }
 

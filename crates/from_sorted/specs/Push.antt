@@ -1,8 +1,8 @@
 -- Internal: what the steps of a build do to a table: a key or an interval more, a row more, all rows.
-use Prim.Native.Nat.{ℕ, suc, _+_, _*_, _≤_, _<_}
+use Prim.Native.Nat.{ℕ, _+_, _*_, _≤_, _<_}
 use mathlib.Core.Path.{_≡_}
 use mathlib.Core.List.{List, [], _∷_, _++_}
-use lib.ListN.{length, take, getD, set, replicate}
+use lib.ListN.{length, getD, set, replicate}
 use Rattle.relation.specs.Order.{Row}
 use Rattle.relation.specs.Rows.{Sorted, Width, asSet}
 use Rattle.relation.specs.Layers.{Layer, layer, layersOf}
@@ -30,25 +30,31 @@ pub record Turn (a : ℕ) (old new : List Layer) (row : Row) (from opens : ℕ) 
   pub only : (d : ℕ) → from ≤ d → d < opens → d < a → layer new d ≡ keyed (getD row d 0) (layer old d)
   pub under : (d : ℕ) → opens ≤ d → d < a → layer new d ≡ keyed (getD row d 0) (opened (layer old d))
 
--- in the place of t, a table with these lengths that holds the first i rows, with room for all of them, and whose layers row i turns into those of
--- one row more
-pub record Pushing (len : ℕ) (t : ColumnTrie) (ks is : List ℕ) (rows : List Row) (i from opens : ℕ) : Type 0 where
+-- in the place of t, a table with these lengths that holds the rows `old`, with room for one more, and whose layers the row turns into those with it
+pub record Pushing (len : ℕ) (t : ColumnTrie) (ks is : List ℕ) (old : List Row) (row : Row) (from opens : ℕ) : Type 0 where
   pub few : t .arity ≤ maxArity
   pub small : t .capacity ≤ maxCapacity
   pub fits : t .start + 2 * t .arity * t .capacity ≤ len
-  pub width : Width (t .arity) rows
-  pub room : length rows ≤ t .capacity
-  pub next : i < length rows
-  pub keys : ks ≡ keyCounts (layersOf (t .arity) (take i rows))
-  pub intervals : is ≡ intervalCounts (layersOf (t .arity) (take i rows))
-  pub turn : Turn (t .arity) (layersOf (t .arity) (take i rows)) (layersOf (t .arity) (take (suc i) rows)) (getD rows i []) from opens
+  pub width : Width (t .arity) old
+  pub wide : length row ≡ t .arity
+  pub room : length old < t .capacity
+  pub keys : ks ≡ keyCounts (layersOf (t .arity) old)
+  pub intervals : is ≡ intervalCounts (layersOf (t .arity) old)
+  pub turn : Turn (t .arity) (layersOf (t .arity) old) (layersOf (t .arity) (old ++ (row ∷ []))) row from opens
 
--- the table holds one row more, over whatever pool the rows before it were laid
-pub record Pushes (pool : List ℕ) (t : ColumnTrie) (rows : List Row) (i : ℕ) (pool′ ks is : List ℕ) : Type 0 where
-  pub keys : ks ≡ keyCounts (layersOf (t .arity) (take (suc i) rows))
-  pub intervals : is ≡ intervalCounts (layersOf (t .arity) (take (suc i) rows))
+-- the table holds that row too, over whatever pool the rows before it were laid
+pub record Pushes (pool : List ℕ) (t : ColumnTrie) (old : List Row) (row : Row) (pool′ ks is : List ℕ) : Type 0 where
+  pub keys : ks ≡ keyCounts (layersOf (t .arity) (old ++ (row ∷ [])))
+  pub intervals : is ≡ intervalCounts (layersOf (t .arity) (old ++ (row ∷ [])))
   pub words :
-      (p : List ℕ) → pool ≡ store (t .start) (t .capacity) (layersOf (t .arity) (take i rows)) p → pool′ ≡ store (t .start) (t .capacity) (layersOf (t .arity) (take (suc i) rows)) p
+      (p : List ℕ) → pool ≡ store (t .start) (t .capacity) (layersOf (t .arity) old) p → pool′ ≡ store (t .start) (t .capacity) (layersOf (t .arity) (old ++ (row ∷ []))) p
+
+-- for some rows that are there; and for any that are
+abbrev pub CanPush : ℕ → ColumnTrie → List ℕ → List ℕ → Row → ℕ → ℕ → Type 0
+CanPush len t ks is row from opens = (old : List Row) × Pushing len t ks is old row from opens
+
+abbrev pub Pushed : List ℕ → ColumnTrie → List ℕ → List ℕ → Row → ℕ → ℕ → List ℕ → List ℕ → List ℕ → Type 0
+Pushed pool t ks is row from opens pool′ ks′ is′ = (old : List Row) → Pushing (length pool) t ks is old row from opens → Pushes pool t old row pool′ ks′ is′
 
 -- an empty table with room for the rows, which are sorted
 pub record Filling (len : ℕ) (t : ColumnTrie) (rows : List Row) : Type 0 where

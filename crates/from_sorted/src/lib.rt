@@ -1,25 +1,30 @@
-// Fills an empty table in the pool with rows that are sorted, for build: the bulk build of kermit-ds/src/ds/column_trie/implementation.rs of the Rust.
+// Appends rows in their order to a table in the pool, for build, which fills an empty one with sorted rows, and for the reader of files: the bulk build of kermit-ds/src/ds/column_trie/implementation.rs of the Rust.
 use column_trie::ColumnTrie;
 use column_trie::layer_at;
 ghost use mathlib.Core.Path.{_≡_};
-ghost use Prim.Native.Nat.{_+_, _/_, _<_};
-ghost use lib.ListN.{length, getD};
-ghost use mathlib.Core.List.{[]};
+ghost use Prim.Native.Nat.{_+_, _-_, _≤_, _<_};
+ghost use lib.ListN.{length, take, getD};
 ghost use Rattle.relation.proofs.Order.{shared};
 ghost use Rattle.column_trie.specs.Limits.{maxArity};
+ghost use Rattle.column_trie.specs.Table.{relengthed};
 ghost use Rattle.from_sorted.specs.Given.{rowsGiven};
-ghost use Rattle.from_sorted.specs.Push.{Appends, Pushing, Pushes, Filling, Fills};
+ghost use Rattle.from_sorted.specs.Push.{Appends, CanPush, Pushed, Filling, Fills};
 
-// How many leading keys rows i and j share.
-fn common_prefix_len(rows: &[u64], arity: usize, i: usize, j: usize) -> usize
-    requires { ⌜ (i < length (now rows) / arity) × (j < length (now rows) / arity) ⌝ }
-    ensures { λ r. ⌜ r ≡ shared (getD (rowsGiven arity (now (rows .entry))) i []) (getD (rowsGiven arity (now (rows .entry))) j []) ⌝ }
+// What a call that fills a table answers: a number, and the table's header.
+#[repr(C)]
+pub struct Built {
+    pub number: u64,
+    pub table: ColumnTrie,
+}
+
+// How many leading keys two rows share, each the first `arity` words of what is lent.
+pub fn common_prefix_len(x: &[u64], y: &[u64], arity: usize) -> usize
+    requires { ⌜ (arity ≤ length (now x)) × (arity ≤ length (now y)) ⌝ }
+    ensures { λ r. ⌜ r ≡ shared (take arity (now (x .entry))) (take arity (now (y .entry))) ⌝ }
 {
-    let x = i * arity;
-    let y = j * arity;
     let mut k = 0;
     while k < arity {
-        if rows[x + k] != rows[y + k] {
+        if x[k] != y[k] {
             return k;
         }
         k += 1;
@@ -43,23 +48,21 @@ fn append(
     len[d] = n + 1;
 }
 
-// Appends the keys of row i from column `from` on, those from column `opens` on under a new interval, which begins at the end of its layer's keys.
-// The table lies where t says, and its lengths are those lent.
-fn push_row(
+// Appends the row, the first words of `row`, to a table that holds rows before it: its keys from column `from` on, those from column `opens` on under
+// a new interval, which begins at the end of its layer's keys. The table lies where t says, and its lengths are those lent.
+pub fn append_row(
     pool: &mut [u64],
     t: ColumnTrie,
     data_len: &mut [usize; ColumnTrie::MAX_ARITY],
     interval_len: &mut [usize; ColumnTrie::MAX_ARITY],
-    rows: &[u64],
-    i: usize,
+    row: &[u64],
     from: usize,
     opens: usize,
 )
-    requires { ⌜ Pushing (length (now pool)) t (now «data_len») (now «interval_len») (rowsGiven (t .arity) (now rows)) i from opens ⌝ }
-    ensures { λ r. ⌜ Pushes (now (pool .entry)) t (rowsGiven (t .arity) (now (rows .entry))) i (now (pool .exit)) (now («data_len» .exit)) (now («interval_len» .exit)) ⌝ }
+    requires { ⌜ CanPush (length (now pool)) t (now «data_len») (now «interval_len») (take (t .arity) (now row)) from opens ⌝ }
+    ensures { λ r. ⌜ Pushed (now (pool .entry)) t (now («data_len» .entry)) (now («interval_len» .entry)) (take (t .arity) (now (row .entry))) from opens (now (pool .exit)) (now («data_len» .exit)) (now («interval_len» .exit)) ⌝ }
 {
     let arity = t.arity;
-    let x = i * arity;
     let mut d = from;
     while d < arity {
         let at = layer_at(t, d);
@@ -67,8 +70,31 @@ fn push_row(
             let begin = data_len[d] as u64;
             append(pool, at + t.capacity, interval_len, d, begin);
         }
-        append(pool, at, data_len, d, rows[x + d]);
+        append(pool, at, data_len, d, row[d]);
         d += 1;
+    }
+}
+
+// The header of the table whose lengths these are: a stored row has a key of its own in the last layer.
+pub fn filled(
+    t: ColumnTrie,
+    data_len: [usize; ColumnTrie::MAX_ARITY],
+    interval_len: [usize; ColumnTrie::MAX_ARITY],
+) -> ColumnTrie
+    requires { ⌜ (0 < t .arity) × (t .arity ≤ maxArity) ⌝ }
+    ensures { λ r. ⌜ r ≡ relengthed t «data_len» «interval_len» (getD «data_len» (t .arity - 1) 0) ⌝ }
+{
+    let arity = t.arity;
+    let tuple_count = data_len[arity - 1];
+    let grade = t.grade;
+    ColumnTrie {
+        start: t.start,
+        arity,
+        capacity: t.capacity,
+        data_len,
+        interval_len,
+        tuple_count,
+        grade,
     }
 }
 
@@ -86,26 +112,24 @@ pub fn from_sorted(pool: &mut [u64], t: ColumnTrie, rows: &[u64]) -> ColumnTrie
     }
     let mut data_len = t.data_len;
     let mut interval_len = t.interval_len;
-    push_row(pool, t, &mut data_len, &mut interval_len, rows, 0, 0, 0);
+    append_row(pool, t, &mut data_len, &mut interval_len, rows, 0, 0);
     let mut i = 1;
     while i < n {
-        let before = i - 1;
-        let d = common_prefix_len(rows, arity, before, i);
+        let y = i * arity;
+        let x = y - arity;
+        let d = common_prefix_len(&rows[x..], &rows[y..], arity);
         if d < arity {
-            push_row(pool, t, &mut data_len, &mut interval_len, rows, i, d, d + 1);
+            append_row(
+                pool,
+                t,
+                &mut data_len,
+                &mut interval_len,
+                &rows[y..],
+                d,
+                d + 1,
+            );
         }
         i += 1;
     }
-    // a stored row has a key of its own in the last layer
-    let tuple_count = data_len[arity - 1];
-    let grade = t.grade;
-    ColumnTrie {
-        start: t.start,
-        arity,
-        capacity: t.capacity,
-        data_len,
-        interval_len,
-        tuple_count,
-        grade,
-    }
+    filled(t, data_len, interval_len)
 }

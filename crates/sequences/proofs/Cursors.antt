@@ -9,7 +9,7 @@ use Rattle.column_trie.specs.declared.ColumnTrie.{ColumnTrie}
 use Rattle.column_trie_place.specs.Checks.{atRoot}
 use Rattle.from_sorted.specs.Given.{rowsGiven}
 use Rattle.column_trie_build.specs.Build.{Builds}
-use Rattle.column_trie_build.specs.declared.Built.{Built}
+use Rattle.from_sorted.specs.declared.Built.{Built}
 use Rattle.insert_laws.proofs.Laws.{Inserted-all}
 use Rattle.trie_iterator.specs.TrieIterator.{root, Call}
 use Rattle.trie_iterator.specs.Cursor.{Follows}

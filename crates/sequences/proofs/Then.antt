@@ -12,8 +12,9 @@ use Rattle.column_trie.specs.declared.ColumnTrie.{ColumnTrie}
 use Rattle.column_trie.proofs.Layers.{Whole}
 use Rattle.column_trie.proofs.Stored.{header-whole}
 use Rattle.from_sorted.specs.Given.{rowsGiven}
-use Rattle.column_trie_build.specs.Build.{keptKinds, Builds}
-use Rattle.column_trie_build.specs.declared.Built.{Built}
+use Rattle.from_sorted.specs.Answer.{keptKinds}
+use Rattle.column_trie_build.specs.Build.{Builds}
+use Rattle.from_sorted.specs.declared.Built.{Built}
 use Rattle.build_laws.proofs.Leaves.{built-accepted, built-table, build-leaves-the-layers-of-the-set-of-rows}
 use Rattle.insert_laws.proofs.Laws.{Table, table-of, Inserted-all, inserts-leave-the-set-of-all-rows-given}
 

@@ -10,9 +10,13 @@ mod cycles;
 #[cfg(kermit)]
 mod data;
 #[cfg(kermit)]
+mod files;
+#[cfg(kermit)]
 mod inserts;
 #[cfg(kermit)]
 mod merge;
+#[cfg(kermit)]
+mod plain_files;
 #[cfg(kermit)]
 mod seeks;
 #[cfg(kermit)]
@@ -22,12 +26,13 @@ mod times;
 
 /// What a group is called, and what prints its table, given how often each side is timed.
 #[cfg(kermit)]
-const GROUPS: [(&str, fn(usize)); 8] = [
+const GROUPS: [(&str, fn(usize)); 9] = [
     ("build", inserts::build),
     ("insert", inserts::insert),
     ("wait", inserts::wait),
     ("place", seeks::place),
     ("check", check::check),
+    ("files", files::files),
     ("seeks", seeks::seeks),
     ("triangle", cycles::triangles),
     ("square", cycles::squares),

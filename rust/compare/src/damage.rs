@@ -2,9 +2,11 @@
 use crate::case::{shorter, show_rows, Case, Tally};
 use crate::cursors::table;
 use crate::model::{self, Row};
+use crate::model_files;
 use crate::rng::Rng;
 use crate::tables::{distinct, MOST};
 use ducatbriar::calls::*;
+use ducatbriar::limits;
 use std::fmt;
 
 /// The words of a header.
@@ -103,11 +105,21 @@ impl Case for Damaged {
         let (pool, t) = self.spoiled();
         tally.same(undamaged(&pool, t), model::undamaged(&pool, t), || "undamaged".into())?;
 
-        let mut text = vec![b'~'; 400];
-        let mut expected = text.clone();
-        let answer = list(&pool, t, &mut text);
-        tally.same(answer, model::list(&pool, t, &mut expected), || "answer of the listing".into())?;
-        tally.same(text, expected, || "listing".into())?;
+        // 6 comes before 14: damaged tables are also listed and written into a few bytes.
+        for room in [400, 5] {
+            let mut text = vec![b'~'; room];
+            let mut expected = text.clone();
+            let answer = list(&pool, t, &mut text);
+            tally.same(answer, model::list(&pool, t, &mut expected), || format!("answer of the listing into {room} bytes"))?;
+            tally.same(text, expected, || format!("listing into {room} bytes"))?;
+
+            let mut bytes = vec![b'~'; room];
+            let mut expected = bytes.clone();
+            let answer = write(&pool, t, &mut bytes);
+            tally
+                .same(answer, model_files::write(&pool, t, &mut expected), || format!("answer of the write into {room} bytes"))?;
+            tally.same(bytes, expected, || format!("file in {room} bytes"))?;
+        }
 
         for tuple in
             [vec![1; self.arity], vec![0; self.arity], self.rows.first().cloned().unwrap_or_default(), vec![9; self.arity + 1]]
@@ -143,7 +155,7 @@ impl Case for Damaged {
     }
 }
 
-/// A larger table with some words changed: whether it is damaged, and what an insert says of it.
+/// A larger table with some words changed: whether it is damaged, its file, and what an insert says of it.
 #[derive(Clone)]
 pub struct Spoiled(Damaged);
 
@@ -158,6 +170,11 @@ impl Case for Spoiled {
         let (mut pool, t) = self.0.spoiled();
         let mut expected = pool.clone();
         tally.same(undamaged(&pool, t), model::undamaged(&pool, t), || "undamaged".into())?;
+        let mut bytes = vec![b'~'; limits::file(self.0.arity, self.0.rows.len())];
+        let mut expected_bytes = bytes.clone();
+        let answer = write(&pool, t, &mut bytes);
+        tally.same(answer, model_files::write(&pool, t, &mut expected_bytes), || "answer of the write".into())?;
+        tally.same(bytes, expected_bytes, || "file".into())?;
         let tuple = self.0.rows.last().cloned().unwrap_or_default();
         let answer = insert(&mut pool, t, &tuple);
         tally.same(answer, model::insert(&mut expected, t, &tuple), || format!("answer to insert {tuple:?}"))?;

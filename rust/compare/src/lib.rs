@@ -1,6 +1,7 @@
 //! Runs Ducatbriar against kermit. `main.rs` says how to run them, each file what it compares.
 //!
-//! What kermit does not have (refusals, damaged words, probes under document 01's halving rule) is held to `model.rs`, which is written from that document.
+//! What kermit does not have (refusals, damaged words, probes under document 01's halving rule) is held to `model.rs`, which is written from that document,
+//! and table files to `model_files.rs`, which is written from document 02.
 //! Intended differences stand in docs/DIFFERENCES.md. Any other difference fails.
 #[cfg(kermit)]
 pub mod case;
@@ -9,11 +10,15 @@ pub mod cursors;
 #[cfg(kermit)]
 pub mod damage;
 #[cfg(kermit)]
+pub mod files;
+#[cfg(kermit)]
 pub mod joins;
 #[cfg(kermit)]
 pub mod kermit;
 #[cfg(kermit)]
 pub mod model;
+#[cfg(kermit)]
+pub mod model_files;
 #[cfg(kermit)]
 pub mod rng;
 #[cfg(kermit)]

@@ -70,12 +70,12 @@ fn probed(strategy: SeekStrategy, run: &[u64], target: u64) -> (usize, u64) {
 
 // ---- tables
 
-fn limits(arity: u64, capacity: u64) -> bool {
+pub fn limits(arity: u64, capacity: u64) -> bool {
     (1..=MAX as u64).contains(&arity) && (1..=MAX_CAPACITY).contains(&capacity)
 }
 
 /// The 2ac words lie in a pool of this length.
-fn lies_in(len: usize, start: u64, arity: u64, capacity: u64) -> bool {
+pub fn lies_in(len: usize, start: u64, arity: u64, capacity: u64) -> bool {
     start as u128 + 2 * arity as u128 * capacity as u128 <= len as u128
 }
 
@@ -171,7 +171,7 @@ pub fn layers_of(arity: usize, rows: &[Row]) -> Vec<Layer> {
 }
 
 /// The layers of the rows laid over the pool for this table, whatever it held, and the header.
-fn store(pool: &mut [u64], table: ColumnTrie, rows: &[Row]) -> ColumnTrie {
+pub fn store(pool: &mut [u64], table: ColumnTrie, rows: &[Row]) -> ColumnTrie {
     let mut t = ColumnTrie { tuple_count: rows.len() as u64, ..table };
     for (d, layer) in layers_of(t.arity as usize, rows).iter().enumerate() {
         let at = (t.start + 2 * t.capacity * d as u64) as usize;
@@ -201,7 +201,7 @@ fn build_number(rows: &[u64], pool: &[u64], start: u64, arity: u64, capacity: u6
 }
 
 /// A table without rows: of these kinds those inside the arity.
-fn unfilled(start: u64, arity: u64, capacity: u64, kinds: Kinds) -> ColumnTrie {
+pub fn unfilled(start: u64, arity: u64, capacity: u64, kinds: Kinds) -> ColumnTrie {
     let mut t = ColumnTrie { start, arity, capacity, ..Default::default() };
     t.grade[..arity as usize].copy_from_slice(&kinds.grade[..arity as usize]);
     t

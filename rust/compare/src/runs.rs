@@ -1,9 +1,9 @@
 //! The runs by name: what is exhaustive, then so many random cases.
 use crate::case::{check, Case, Tally};
 use crate::rng::Rng;
-use crate::{cursors, damage, joins, seeks, tables};
+use crate::{cursors, damage, files, joins, seeks, tables};
 
-pub const NAMES: [&str; 5] = ["seeks", "tables", "cursors", "joins", "damage"];
+pub const NAMES: [&str; 6] = ["seeks", "tables", "files", "cursors", "joins", "damage"];
 
 fn all<C: Case>(tally: &mut Tally, cases: impl IntoIterator<Item = C>) -> Result<(), String> {
     cases.into_iter().try_for_each(|case| check(case, tally))
@@ -33,6 +33,17 @@ pub fn run(name: &str, seed: u64, rounds: usize) -> Result<Tally, String> {
             all(t, large.then(|| tables::large(rng)).into_iter().flatten())?;
             some(t, rng, 2 * rounds, tables::random)?;
             some(t, rng, 10 * rounds, tables::refused)?;
+        }
+        "files" => {
+            all(t, files::every_table())?;
+            all(t, files::every_byte())?;
+            all(t, files::every_field())?;
+            all(t, files::full_fields(rng))?;
+            all(t, files::some_fields(rng))?;
+            all(t, large.then(|| files::large_tables(rng)).into_iter().flatten())?;
+            all(t, large.then(|| files::large_files(rng)).into_iter().flatten())?;
+            some(t, rng, 2 * rounds, files::random_table)?;
+            some(t, rng, 20 * rounds, files::random)?;
         }
         "cursors" => {
             all(t, cursors::exhaustive())?;

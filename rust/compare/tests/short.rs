@@ -17,6 +17,11 @@ mod short {
     }
 
     #[test]
+    fn files() {
+        run("files");
+    }
+
+    #[test]
     fn cursors() {
         run("cursors");
     }

@@ -52,6 +52,7 @@ c_struct!(
 c_struct!(Built { number: u64, table: ColumnTrie });
 c_struct!(Inserted { number: u64, is_new: bool, table: ColumnTrie });
 c_struct!(Listed { number: u64, len: u64 });
+c_struct!(FileWritten { number: u64, len: u64 });
 c_struct!(
     /// A cursor: its depth, whose children it looks at, and how many of them it has passed.
     ColumnTrieIter { depth: u64, interval_i: u64, slice_offset: u64 }
@@ -99,6 +100,15 @@ mod c {
         ) -> Built;
         pub fn ducatbriar_insert(pool: *mut u64, len: u64, table: ColumnTrie, tuple: *const u64, tuple_len: u64) -> Inserted;
         pub fn ducatbriar_list(pool: *const u64, len: u64, table: ColumnTrie, text: *mut u8, text_len: u64) -> Listed;
+        pub fn ducatbriar_write(pool: *const u64, len: u64, table: ColumnTrie, bytes: *mut u8, bytes_len: u64) -> FileWritten;
+        pub fn ducatbriar_read(
+            bytes: *const u8,
+            bytes_len: u64,
+            pool: *mut u64,
+            pool_len: u64,
+            start: u64,
+            capacity: u64,
+        ) -> Built;
         pub fn ducatbriar_key(pool: *const u64, len: u64, table: ColumnTrie, iter: ColumnTrieIter) -> KeyAnswer;
         pub fn ducatbriar_next(pool: *const u64, len: u64, table: ColumnTrie, iter: ColumnTrieIter) -> NextAnswer;
         pub fn ducatbriar_seek(
@@ -179,6 +189,17 @@ pub fn insert(pool: &mut [u64], table: ColumnTrie, tuple: &[u64]) -> Inserted {
 /// Writes the table's listing at the front of the text. Refusals 6, 14.
 pub fn list(pool: &[u64], table: ColumnTrie, text: &mut [u8]) -> Listed {
     unsafe { c::ducatbriar_list(pool.as_ptr(), pool.len() as u64, table, text.as_mut_ptr(), text.len() as u64) }
+}
+
+/// Writes the table's file (docs/FILES.md) at the front of the bytes; those behind it stay. Refusals 6, 14.
+pub fn write(pool: &[u64], table: ColumnTrie, bytes: &mut [u8]) -> FileWritten {
+    unsafe { c::ducatbriar_write(pool.as_ptr(), pool.len() as u64, table, bytes.as_mut_ptr(), bytes.len() as u64) }
+}
+
+/// Reads a file into a table at `start` of the pool, with the file's arity and kinds. Refusals 13, 2, 3, 5.
+pub fn read(bytes: &[u8], pool: &mut [u64], start: u64, capacity: u64) -> Built {
+    let (bytes_len, pool_len) = (bytes.len() as u64, pool.len() as u64);
+    unsafe { c::ducatbriar_read(bytes.as_ptr(), bytes_len, pool.as_mut_ptr(), pool_len, start, capacity) }
 }
 
 /// The rows of the query, written into the window by variable number. Refusals 8, 9, 10, 11, 15, 16, 6, 12.

@@ -1,8 +1,8 @@
 //! A column trie and the leapfrog triejoin over it, with 64-bit keys on every machine.
 //!
 //! The work is done by Ducatbriar's proved calls, which this crate links as a static library. [`Pool`] and [`Table`] are what most callers want: a pool
-//! owns the words of its tables and lends them to cursors and joins. [`calls`] has the calls themselves, one function each, for callers who keep their own
-//! words.
+//! owns the words of its tables and lends them to cursors and joins, and a table goes to another machine as a file ([`Table::to_bytes`], [`Pool::read`]).
+//! [`calls`] has the calls themselves, one function each, for callers who keep their own words.
 //!
 //! ```
 //! use ducatbriar::{Pool, Query, SeekStrategy};

@@ -78,6 +78,28 @@ pub const fn listing(arity: usize, capacity: usize) -> usize {
     arity * (28 + 22 * capacity) + 1 + (arity - 1) * (digits(capacity) + 2 * capacity - 2)
 }
 
+/// How many bytes the file of a table takes at most, for an arity and a capacity inside the limits: a table at capacity reaches it that has a grade among its
+/// columns.
+///
+/// ```
+/// # fn main() -> Result<(), ducatbriar::Refusal> {
+/// use ducatbriar::{limits, Cell, Kind, Pool};
+/// let mut pool = Pool::new();
+/// let table = pool.build_with_kinds(&[Kind::Grade], 1, &[[Cell::Grade(-60)]])?;
+/// assert_eq!(table.to_bytes(&pool)?.len(), limits::file(1, 1));
+/// # Ok(())
+/// # }
+/// ```
+pub const fn file(arity: usize, capacity: usize) -> usize {
+    // 4 for the arity, 3 and one a column for the kinds, the rows' words, 3 before each field of rows, and 3 at the end.
+    arity + 10 + 8 * arity * capacity + 3 * capacity.div_ceil(field_rows(arity))
+}
+
+/// How many rows a field of a file holds at most: as many whole ones as fit in 65,535 bytes.
+pub const fn field_rows(arity: usize) -> usize {
+    65_535 / (8 * arity)
+}
+
 /// How many digits the numbers from 0 to capacity - 1 have together: each has one, and one more from each power of ten up.
 const fn digits(capacity: usize) -> usize {
     capacity

@@ -1,17 +1,17 @@
 //! A pool that owns its tables' words, with cursors and joins over them.
 use crate::calls::{self, ColumnTrie, ColumnTrieIter, SeekAnswer, SeekStrategy, Tables};
 use crate::kind::{kinds_of, leading, words_of, Cell, Kind};
-use crate::limits::{listing, words, MAX_ARITY, MAX_CAPACITY, MAX_VARIABLES};
+use crate::limits::{file, listing, words, MAX_ARITY, MAX_CAPACITY, MAX_VARIABLES};
 use crate::{Query, Refusal};
 use std::ops::Range;
 
-/// The words of tables. It grows with every table that is built.
+/// The words of tables. It grows with every table that is built or read.
 #[derive(Clone, Debug, Default)]
 pub struct Pool {
     words: Vec<u64>,
 }
 
-/// A table: the header of words in the pool that built it. With another pool it is refused with 6, or reads as whatever that pool's words say.
+/// A table: the header of words in the pool that built or read it. With another pool it is refused with 6, or reads as whatever that pool's words say.
 #[derive(Debug, PartialEq, Eq)]
 pub struct Table {
     header: ColumnTrie,
@@ -43,6 +43,25 @@ impl Table {
 
     pub fn header(&self) -> ColumnTrie {
         self.header
+    }
+
+    /// The table's file: its arity, kinds and rows as bytes, the same on every machine. One table has one file, whatever its capacity and wherever it lies.
+    ///
+    /// ```
+    /// # fn main() -> Result<(), ducatbriar::Refusal> {
+    /// let mut pool = ducatbriar::Pool::new();
+    /// let table = pool.build(1, 4, &[[258]])?;
+    /// assert_eq!(table.to_bytes(&pool)?, [1, 0, 1, 1, 2, 0, 8, 0, 0, 0, 0, 0, 0, 1, 2, 3, 0, 0]);
+    /// # Ok(())
+    /// # }
+    /// ```
+    pub fn to_bytes(&self, pool: &Pool) -> Result<Vec<u8>, Refusal> {
+        // As if it were at capacity, and had a grade.
+        let mut bytes = vec![0; file(self.arity(), self.len())];
+        let written = calls::write(&pool.words, self.header, &mut bytes);
+        Refusal::check(written.number)?;
+        bytes.truncate(written.len as usize);
+        Ok(bytes)
     }
 }
 
@@ -221,6 +240,39 @@ impl Pool {
             self.words.truncate(start);
         }
         Refusal::check(number).map(|()| Table { header: built.table })
+    }
+
+    /// Reads a file into a table with room for `capacity` rows. A refused read leaves the pool as it was.
+    ///
+    /// ```
+    /// # fn main() -> Result<(), ducatbriar::Refusal> {
+    /// use ducatbriar::{Cell, Kind, Pool, Refusal};
+    /// let mut maker = Pool::new();
+    /// let slope = [[Cell::Grade(-60), Cell::Plain(11)], [Cell::Grade(45), Cell::Plain(12)]];
+    /// let slope = maker.build_with_kinds(&[Kind::Grade, Kind::Plain], 4, &slope)?;
+    /// let bytes = slope.to_bytes(&maker)?;
+    ///
+    /// let mut school = Pool::new();
+    /// let table = school.read(&bytes, 10)?;
+    /// assert_eq!((table.len(), table.capacity(), table.kinds()), (2, 10, slope.kinds()));
+    /// assert_eq!(school.rows(&table)?, maker.rows(&slope)?);
+    /// assert_eq!(table.to_bytes(&school)?, bytes);
+    /// assert_eq!(school.read(&bytes[1..], 10), Err(Refusal::NotAFile));
+    /// # Ok(())
+    /// # }
+    /// ```
+    pub fn read(&mut self, bytes: &[u8], capacity: usize) -> Result<Table, Refusal> {
+        let start = self.words.len();
+        // The arity is the fourth byte of every file. The library refuses any other arity or capacity before it looks at the pool.
+        let arity = bytes.get(3).map_or(0, |&arity| usize::from(arity));
+        if (1..=MAX_ARITY).contains(&arity) && (1..=MAX_CAPACITY).contains(&capacity) {
+            self.words.resize(start + words(arity, capacity), 0);
+        }
+        let read = calls::read(bytes, &mut self.words, start as u64, capacity as u64);
+        if read.number != 0 {
+            self.words.truncate(start);
+        }
+        Refusal::check(read.number).map(|()| Table { header: read.table })
     }
 
     /// Inserts a row, and says whether it was new.

@@ -36,15 +36,15 @@ macro_rules! refusals {
 refusals!(
     /// By a build.
     BadArity = 1,
-    /// By a build.
+    /// By a build or a read.
     BadCapacity = 2,
-    /// By a build; never by that of a [`Pool`](crate::Pool), which makes room.
+    /// By a build or a read; never by those of a [`Pool`](crate::Pool), which makes room.
     OutsidePool = 3,
     /// By a build or an insert.
     BadLength = 4,
-    /// By a build or an insert.
+    /// By a build, an insert or a read.
     NoRoom = 5,
-    /// By an insert, a listing, a cursor or a join.
+    /// By an insert, a listing, a write, a cursor or a join.
     Damaged = 6,
     /// By a cursor.
     BadCursor = 7,
@@ -58,7 +58,9 @@ refusals!(
     FreeVariable = 11,
     /// By a join, whose window holds the rows that fit. [`Pool::join_into`](crate::Pool::join_into) says it as [`Filled::full`](crate::Filled::full).
     Full = 12,
-    /// By a listing; never by that of a [`Pool`](crate::Pool), which makes room.
+    /// By a read.
+    NotAFile = 13,
+    /// By a listing or a write; never by those of a [`Pool`](crate::Pool) or a [`Table`](crate::Table), which make room.
     LongText = 14,
     /// By a join: a grade is joined to what is none.
     MixedKinds = 15,
@@ -107,7 +109,8 @@ impl Refusal {
             }
             Refusal::FreeVariable => "some variable is in no atom",
             Refusal::Full => "more rows exist than fit the window",
-            Refusal::LongText => "the text is longer than its destination",
+            Refusal::NotAFile => "the bytes are not a table file",
+            Refusal::LongText => "the text or file is longer than its destination",
             Refusal::MixedKinds => "some variable binds columns of both kinds, plain and grade",
             Refusal::PartRows => "the window's length is no whole number of rows",
             Refusal::BadArity | Refusal::BadCapacity | Refusal::BadOrder | Refusal::BadAtoms => "",

@@ -1,5 +1,5 @@
 //! A function's body: places, operands and values as C text, and one C statement for one of MIR's.
-use crate::function::{Callee, Callees};
+use crate::function::{gives_array, Callee, Callees};
 use crate::mir::{Body, Op1, Op2, Operand, Place, Sign, Step, Ty, Value};
 use crate::types::Types;
 use crate::uses::{lies_within, Passing};
@@ -416,7 +416,14 @@ impl<'w, 'a> Writer<'w, 'a> {
         }
         let (text, ty) = self.target(to)?;
         self.fits(&callee.function.locals[0].ty, &ty)?;
-        let result = if ty == Ty::Unit { String::new() } else { format!("{text} = ") };
+        let result = match ty {
+            Ty::Unit => String::new(),
+            Ty::Array(..) => {
+                texts.insert(0, text);
+                String::new()
+            }
+            _ => format!("{text} = "),
+        };
         self.with(&before, &format!("{result}{}({});", callee.name, texts.join(", ")));
         Ok(())
     }
@@ -489,6 +496,11 @@ impl<'w, 'a> Writer<'w, 'a> {
         }
         self.mentioned[0] = true;
         self.read[0] = true;
+        if gives_array(self.callee.function) {
+            // At the end, since it may lead to what an argument leads to.
+            self.put("memmove(result_to, result, sizeof result);");
+            return self.put("return;");
+        }
         let signed = self.callee.exported.is_some_and(|call| call.result == "int64_t");
         self.put(if signed { "return signed_of(result);" } else { "return result;" });
     }

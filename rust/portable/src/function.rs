@@ -29,7 +29,7 @@ pub fn callee<'a>(function: &'a Function, exported: Option<&'a Prototype>, types
     let uses = Uses::of(function);
     let last = function.symbol.rsplit("::").next().unwrap_or_default();
     let name = if exported.is_some() { last.to_string() } else { function.symbol.replace("::", "_") };
-    if function.params >= function.locals.len() || matches!(function.locals[0].ty, Ty::Array(..)) {
+    if function.params >= function.locals.len() || (exported.is_some() && gives_array(function)) {
         return Err(Refused::new("parameters or result", &function.symbol));
     }
     let mut held = vec![Passing::Value; function.locals.len()];
@@ -39,6 +39,11 @@ pub fn callee<'a>(function: &'a Function, exported: Option<&'a Prototype>, types
         held[local] = passing(ty, local, &uses, is_large);
     }
     Ok(Callee { function, name, exported, uses, passing: held })
+}
+
+/// C returns no array: one goes to where a first parameter leads, when all else is done.
+pub fn gives_array(function: &Function) -> bool {
+    matches!(function.locals[0].ty, Ty::Array(..))
 }
 
 /// The names of all locals. Behind the parameters stand copies of those whose address is taken, then the source's lets in its sequence.
@@ -95,7 +100,11 @@ pub fn head(callee: &Callee, names: &[String], types: &mut Types) -> Made<String
         let params: Vec<String> = call.params.iter().map(declared).collect();
         return Ok(format!("{} {}({})", call.result, callee.name, params.join(", ")));
     }
+    let result = &callee.function.locals[0].ty;
     let mut params = Vec::new();
+    if gives_array(callee.function) {
+        params.push(format!("{} *result_to", types.c(result)?));
+    }
     for (i, name) in names.iter().enumerate().take(callee.function.params + 1).skip(1) {
         let ty = &callee.function.locals[i].ty;
         params.push(match callee.passing[i] {
@@ -105,7 +114,8 @@ pub fn head(callee: &Callee, names: &[String], types: &mut Types) -> Made<String
         });
     }
     let params = if params.is_empty() { "void".to_string() } else { params.join(", ") };
-    Ok(format!("static inline {}({params})", types.declare(&callee.function.locals[0].ty, &callee.name)?))
+    let result = if gives_array(callee.function) { &Ty::Unit } else { result };
+    Ok(format!("static inline {}({params})", types.declare(result, &callee.name)?))
 }
 
 fn declared(param: &Param) -> String {

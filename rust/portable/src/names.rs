@@ -4,7 +4,7 @@ use std::collections::BTreeMap;
 
 /// What C means by these, or this translator.
 const TAKEN: &str = "auto break case char const continue default do double else enum extern float for goto if inline int long register restrict return \
-    short signed sizeof static struct switch typedef union unsigned void volatile while bool true false result offset signed_of memmove each made given";
+    short signed sizeof static struct switch typedef union unsigned void volatile while bool true false result result_to offset signed_of memmove each made given";
 
 #[derive(Clone, Debug, Default, PartialEq)]
 pub struct Code {

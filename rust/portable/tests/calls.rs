@@ -192,3 +192,28 @@ fn a_call_without_a_result() {
     assert!(text.contains("static inline void k_g(uint64_t a1)"), "{text}");
     assert!(text.contains("    k_g(n);"), "{text}");
 }
+
+/// The C of `f`, which hands its n to `g`, whose eight words go to the place given.
+fn with_array(place: &str) -> String {
+    let g = seq(&[&assign(0, "(repeat (int 64 3) 8)"), "return"]);
+    let call = call("k::g", &[copy(1)], 2).replace(&at(2), place);
+    let functions =
+        [function("k::g", 1, &[LIST, U64], &g), function("k::f", 1, &[U64, U64, LIST, WIDE], &seq(&[&call, "return"]))];
+    c("uint64_t f(uint64_t n);", &functions).unwrap()
+}
+
+#[test]
+fn an_array_is_given_back_through_a_pointer_and_last_of_all() {
+    let text = with_array(&at(2));
+    assert!(text.contains("static inline void k_g(uint64_t *result_to, uint64_t a1)\n{\n    uint64_t result[8];\n"), "{text}");
+    assert!(text.contains("result[each] = 3;\n    memmove(result_to, result, sizeof result);\n    return;\n"), "{text}");
+    assert!(text.contains("    k_g(v2, n);\n"), "{text}");
+    let text = with_array("(place 3 (lcons (field 1) lnil))");
+    assert!(text.contains("    k_g(v3.f2, n);\n"), "{text}");
+}
+
+#[test]
+fn an_exported_function_gives_back_no_array() {
+    let why = c("uint64_t f(uint64_t n);", &[function("k::f", 1, &[LIST, U64], "return")]).unwrap_err();
+    assert!(why.contains("parameters or result"), "{why}");
+}

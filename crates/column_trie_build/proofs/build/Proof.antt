@@ -10,9 +10,10 @@ use Rattle.column_trie.specs.Table.{emptyTable, refilled}
 use Rattle.column_trie.specs.declared.ColumnTrie.{ColumnTrie}
 use Rattle.from_sorted.specs.Given.{rowsGiven}
 use Rattle.from_sorted.specs.Push.{Filling, Fills}
-use Rattle.column_trie_build.specs.Build.{keptKinds}
+use Rattle.from_sorted.specs.Answer.{keptKinds}
 use Rattle.column_trie_build.proofs.Numbers.{Accepted, accepted}
-use Rattle.column_trie_build.proofs.Outcomes.{builds-refused, builds-built, regraded, set-of-rows, filling}
+use Rattle.from_sorted.proofs.Answer.{regraded}
+use Rattle.column_trie_build.proofs.Outcomes.{builds-refused, builds-built, set-of-rows, filling}
 use borrow.Author.Needs.{needs}
 use Rattle.column_trie_build.proofs.build.Statement.{statement}
 use Rattle.column_trie_build.proofs.build.Tie as tie

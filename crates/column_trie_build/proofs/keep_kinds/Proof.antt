@@ -6,8 +6,8 @@ use mathlib.Core.List.{List}
 use native.Mathlib.Omega.{arith}
 use lib.ListN.{length, getD, set}
 use Rattle.column_trie.specs.Limits.{maxArity}
-use Rattle.column_trie_build.specs.Build.{keptKinds}
-use Rattle.column_trie_build.proofs.Taken.{kept-next}
+use Rattle.from_sorted.specs.Answer.{keptKinds}
+use Rattle.from_sorted.proofs.Taken.{kept-next}
 use borrow.Author.Needs.{needs}
 use Rattle.column_trie_build.proofs.keep_kinds.Statement.{statement}
 use Rattle.column_trie_build.proofs.keep_kinds.Tie as tie

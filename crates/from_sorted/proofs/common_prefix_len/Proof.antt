@@ -1,37 +1,24 @@
 -- `from_sorted::common_prefix_len` meets its contract. The loop's invariant: the rows agree on their first k words. The measure is the words left.
 use Prim.Native.Nat.{_-_}
 use native.Mathlib.Omega.{arith}
-use Rattle.from_sorted.proofs.Given.{row-inside}
 use Rattle.from_sorted.proofs.Shared.{Sharing, sharing-start, sharing-apart, sharing-on, sharing-end}
 use Rattle.from_sorted.proofs.common_prefix_len.Statement.{statement}
 use Rattle.from_sorted.proofs.common_prefix_len.Tie as tie
 
 abbrev Inv-loop : tie.InvT-loop
-Inv-loop rows arity i j x y k₀ k = Sharing arity rows i j k
+Inv-loop x y arity k₀ k = Sharing arity x y k
 
 abbrev μ-loop : tie.MeasureT-loop
-μ-loop rows arity i j x y k₀ k = arity - k
-
-mul-x : tie.Need-mul-x Inv-loop μ-loop
-mul-x c = omega (arith, row-inside (c .args .arity) (c .args .rows .now) (c .args .i) (c .pre .0))
-
-mul-y : tie.Need-mul-y Inv-loop μ-loop
-mul-y c = omega (arith, row-inside (c .args .arity) (c .args .rows .now) (c .args .j) (c .pre .1))
+μ-loop x y arity k₀ k = arity - k
 
 loop-holds : tie.Need-loop-holds Inv-loop μ-loop
-loop-holds c = sharing-start _ _ _ _ (c .pre)
-
-add-if1 : tie.Need-add-if1 Inv-loop μ-loop
-add-if1 c = omega arith
+loop-holds c = sharing-start _ _ _
 
 mul-if1 : tie.Need-mul-if1 Inv-loop μ-loop
 mul-if1 c = omega arith
 
 shared-slice-read-if1 : tie.Need-shared-slice-read-if1 Inv-loop μ-loop
 shared-slice-read-if1 c = omega arith
-
-add-if1-2 : tie.Need-add-if1-2 Inv-loop μ-loop
-add-if1-2 c = omega arith
 
 mul-if1-2 : tie.Need-mul-if1-2 Inv-loop μ-loop
 mul-if1-2 c = omega arith
@@ -40,7 +27,7 @@ shared-slice-read-if1-2 : tie.Need-shared-slice-read-if1-2 Inv-loop μ-loop
 shared-slice-read-if1-2 c = omega arith
 
 returns : tie.Need-returns Inv-loop μ-loop
-returns c = let b = c .before .before .before in sharing-apart _ _ _ _ (b .before .before .pre) (b .before .loop .inv) (b .loop-test .taken) (c .if1 .taken)
+returns c = let b = c .before .before .before in sharing-apart (b .before .before .pre) (b .before .loop .inv) (b .loop-test .taken) (c .if1 .taken)
 
 add-k : tie.Need-add-k Inv-loop μ-loop
 add-k c = omega arith
@@ -49,10 +36,10 @@ loop-less : tie.Need-loop-less Inv-loop μ-loop
 loop-less c = omega arith
 
 loop-again : tie.Need-loop-again Inv-loop μ-loop
-loop-again c = let b = c .before .before .before in sharing-on _ _ _ _ (b .before .before .pre) (b .before .loop .inv) (b .loop-test .taken) (c .if1 .left)
+loop-again c = let b = c .before .before .before in sharing-on (b .before .before .pre) (b .before .loop .inv) (b .loop-test .taken) (c .if1 .left)
 
 returns-2 : tie.Need-returns-2 Inv-loop μ-loop
-returns-2 c = sharing-end _ _ _ _ (c .before .before .pre) (c .before .loop .inv) (c .loop-test .left)
+returns-2 c = sharing-end (c .before .before .pre) (c .before .loop .inv) (c .loop-test .left)
 
 pub common-prefix-len-spec : {M : Type 1} → statement M
 common-prefix-len-spec =
@@ -60,13 +47,9 @@ common-prefix-len-spec =
     (tie.spec
     Inv-loop
     μ-loop
-    mul-x
-    mul-y
     loop-holds
-    add-if1
     mul-if1
     shared-slice-read-if1
-    add-if1-2
     mul-if1-2
     shared-slice-read-if1-2
     returns

@@ -1,4 +1,4 @@
--- The kinds that a build stores: column by column as its loop takes them, and that no column past the arity is a grade.
+-- The kinds that are stored: column by column as a loop takes them, and that no column past the arity is a grade.
 use Prim.Native.Nat.{ℕ, suc, _+_, _-_, _≤_, _<_}
 use mathlib.Core.Path.{_≡_, sym, ap, _∙_}
 use mathlib.Core.Bool.{Bool, false}
@@ -10,7 +10,7 @@ use lib.ListN.{length, take, getD, set, replicate, length-append, length-take, l
 use lib.Seq.{take-suc, ext-getD, getD-take, length-take-le, getD-append-add, set-append-seam}
 use Rattle.column_trie.specs.Limits.{maxArity}
 use Rattle.column_trie.proofs.Stored.{Plain}
-use Rattle.column_trie_build.specs.Build.{keptKinds}
+use Rattle.from_sorted.specs.Answer.{keptKinds}
 
 plain-at : (n i : ℕ) → getD (replicate n false) i false ≡ false
 plain-at n i = go (decLt i n)

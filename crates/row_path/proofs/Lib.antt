@@ -1,0 +1,4 @@
+pub mod Owners
+pub mod Paths
+pub mod Moves
+pub mod Keys
