@@ -178,6 +178,12 @@ typedef struct {
 
 typedef struct {
     uint64_t number;
+    bool was_there;
+    ducatbriar_table table;
+} ducatbriar_removed;
+
+typedef struct {
+    uint64_t number;
     uint64_t len;
 } ducatbriar_listed;
 
@@ -198,6 +204,11 @@ ducatbriar_built ducatbriar_build(uint64_t *rows, uint64_t rows_len, uint64_t *p
 /* Inserts a tuple of `tuple_len` words and says whether it was new; the header that comes back replaces the one handed in, with the same kinds. A tuple that
  * is there changes nothing, also in a table at capacity. Refusals 6, 4, 5, in that sequence. Pool words that are not in a list of the table's stay. */
 ducatbriar_inserted ducatbriar_insert(uint64_t *pool, uint64_t len, ducatbriar_table table, const uint64_t *tuple, uint64_t tuple_len);
+
+/* Takes a tuple of `tuple_len` words out and says whether it was there; the header that comes back replaces the one handed in, with the same kinds. The
+ * layers are then those of a build over the remaining rows, and their room is used again: a table at capacity takes a new tuple after a removal. A tuple that
+ * is not there changes nothing. Refusals 6, 4, in that sequence. Pool words that are not in a list of the table's stay, those past the new lengths too. */
+ducatbriar_removed ducatbriar_remove(uint64_t *pool, uint64_t len, ducatbriar_table table, const uint64_t *tuple, uint64_t tuple_len);
 
 /* Writes the table's layers as text at the front of `text`, without a 0 behind it, and answers its length. Refusals 6, 14, in that sequence; a text of
  * DUCATBRIAR_LISTING(arity, capacity) bytes is never too short. The bytes behind the listing stay, and the pool is only read. */

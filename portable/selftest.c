@@ -391,6 +391,32 @@ static ducatbriar_kinds drawn_kinds(void)
     return kinds;
 }
 
+static ducatbriar_table without(uint64_t *pool, uint64_t len, ducatbriar_table t, const uint64_t *tuple, uint64_t size)
+{
+    ducatbriar_removed out = ducatbriar_remove(pool, len, t, size ? tuple : NULL, size);
+    add_number(out.number), add(out.was_there), add_table(out.table);
+    return out.table;
+}
+
+/* A tuple that may be there, or have another length. */
+static ducatbriar_table without_drawn(uint64_t *pool, uint64_t len, ducatbriar_table t)
+{
+    uint64_t tuple[8], size = draw(30) ? t.arity % 9 : draw(9);
+    for (uint64_t w = 0; w < size; w++)
+        tuple[w] = key();
+    return without(pool, len, t, tuple, size);
+}
+
+/* One in four of the rows that a build was given, or all of them, after which none is left. */
+static ducatbriar_table without_some(uint64_t *pool, uint64_t len, ducatbriar_table t, const uint64_t *rows, uint64_t n, uint64_t arity)
+{
+    bool all = draw(8) == 0;
+    for (uint64_t from = 0; arity > 0 && from + arity <= n; from += arity)
+        if (all || draw(4) == 0)
+            t = without(pool, len, t, rows + from, arity);
+    return t;
+}
+
 static ducatbriar_table drawn_table(uint64_t *pool, uint64_t len, uint64_t from)
 {
     uint64_t rows[128], arity = draw(20) ? 1 + draw(3) : draw(10), start = draw(40) ? from : key();
@@ -405,12 +431,16 @@ static ducatbriar_table drawn_table(uint64_t *pool, uint64_t len, uint64_t from)
     ducatbriar_built b = ducatbriar_build(n ? rows : NULL, n, pool, len, start, arity, capacity, drawn_kinds());
     add_number(b.number), add_table(b.table), add_words(rows, n);
     ducatbriar_table t = b.number == 0 ? b.table : ducatbriar_empty(start, arity, capacity);
+    if (draw(2))
+        t = without_some(pool, len, t, rows, n, arity);
     for (uint64_t left = draw(8); left > 0; left--) {
         uint64_t tuple[8], size = draw(30) ? arity % 9 : draw(9);
         for (uint64_t w = 0; w < size; w++)
             tuple[w] = key();
         ducatbriar_inserted in = ducatbriar_insert(pool, len, t, size ? tuple : NULL, size);
         add_number(in.number), add(in.is_new), add_table(t = in.table);
+        if (draw(4) == 0) /* the tuple just put in, if it was, or another */
+            t = draw(2) ? without(pool, len, t, tuple, size) : without_drawn(pool, len, t);
     }
     return t;
 }
@@ -458,7 +488,7 @@ static void round_of_calls(void)
     for (uint64_t i = 0; i < ts.count; i++) {
         ts.tables[i] = drawn_table(pool, COUNT(pool), i * 256);
         if (draw(4) == 0)
-            ts.tables[i] = damaged(ts.tables[i], pool, COUNT(pool));
+            ts.tables[i] = without_drawn(pool, COUNT(pool), damaged(ts.tables[i], pool, COUNT(pool)));
         add(ducatbriar_undamaged(pool, COUNT(pool), ts.tables[i]));
         memset(bytes, 7, sizeof bytes);
         uint64_t room = draw(4) ? sizeof bytes : draw(64);
@@ -578,6 +608,10 @@ static void limits(void)
         uint64_t first = draw(400), second = i % 4 ? draw(UINT64_C(1) << 40) : rows[1], tuple[2] = {first, second};
         ducatbriar_inserted in = ducatbriar_insert(pool, COUNT(pool), t, tuple, 2);
         add_number(in.number), add(in.is_new), add_table(t = in.table);
+    }
+    for (int i = 0; i < 40; i++) {
+        uint64_t row = draw(COUNT(rows) / 2), tuple[2] = {rows[2 * row], i % 4 ? rows[2 * row + 1] : draw(UINT64_C(1) << 40)};
+        t = without(pool, COUNT(pool), t, tuple, 2);
     }
     add_words(rows, COUNT(rows)), add_words(pool, COUNT(pool));
     file_at_limit(t, pool, COUNT(pool));

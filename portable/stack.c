@@ -49,6 +49,12 @@ static void read_file(void)
     ducatbriar_read(file, file_len, pool, 4096, 1024, 16);
 }
 
+static void take_out(void)
+{
+    uint64_t tuple[2] = {1, 1};
+    ducatbriar_remove(pool, 4096, ts.tables[0], tuple, 2);
+}
+
 static void list(void)
 {
     ducatbriar_list(pool, 4096, ts.tables[0], text, sizeof text);
@@ -106,6 +112,7 @@ int main(void)
     measure("join", join);
     measure("build", build);
     measure("insert", insert);
+    measure("remove", take_out);
     measure("list", list);
     measure("write", write_file);
     measure("read", read_file);

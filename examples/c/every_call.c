@@ -1,5 +1,5 @@
 /* Uses every call once or more, over keys that need more than 32 bits: a lesson's stretches of road and their grades, walked by a cursor, joined with the
- * friction of their surfaces into a window that is too small, and then into one that isn't; the grades go to another unit as a file.
+ * friction of their surfaces into a window that is too small, and then into one that isn't; the grades go to another unit as a file, and at the end a stretch is taken out.
  *
  * Road: (surface, stretch). Grades: (grade, stretch), a grade as its word. Friction: (surface, thousandths). Each check that fails ends the program. */
 #include <inttypes.h>
@@ -160,6 +160,19 @@ static void join(ducatbriar_tables tables)
     printf("seeks: %" PRIu64 "\n", answer.seeks);
 }
 
+/* Takes the road's last stretch out, and once more, when it is there no longer. Its surface has no other stretch, so that key goes too. */
+static ducatbriar_table close_stretch(ducatbriar_table table)
+{
+    const uint64_t row[] = {ICY_COBBLES, 12};
+    for (int times = 0; times < 2; times++) {
+        ducatbriar_removed answer = ducatbriar_remove(pool, COUNT(pool), table, row, COUNT(row));
+        done("the removal", answer.number);
+        table = answer.table;
+        printf("stretch 12 taken out: %s, surfaces left %" PRIu64 "\n", answer.was_there ? "was there" : "was not there", table.data_len[0]);
+    }
+    return table;
+}
+
 /* Variable 0 would be a surface of the road and a grade at once: a word that is both says nothing. */
 static void join_kinds(ducatbriar_tables tables)
 {
@@ -187,7 +200,8 @@ int main(void)
     join(tables);
     join_kinds(tables);
 
-    pool[ROAD] = WET_COBBLES + ICY_COBBLES;
+    tables.tables[0] = close_stretch(tables.tables[0]);
+    pool[ROAD + CAPACITY] = 1; /* the first interval, which is 0 in every table */
     printf("with a word of the road changed: %s\n", ducatbriar_undamaged(pool, COUNT(pool), tables.tables[0]) ? "undamaged" : "damaged");
     return 0;
 }

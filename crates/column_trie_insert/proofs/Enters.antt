@@ -1,7 +1,7 @@
 -- Into the loop that adds a row: what is required says that the table has room and lacks the row, and that the loop starts where the row leaves the
 -- stored ones, or at the top of a table without rows.
-use Prim.Native.Nat.{ℕ, suc, _<_}
-use mathlib.Core.Path.{_≡_, refl, sym, ap, ap₂, subst, _∙_}
+use Prim.Native.Nat.{ℕ, _<_}
+use mathlib.Core.Path.{_≡_, refl, sym, ap, subst, _∙_}
 use mathlib.Core.Bool.{Bool, true, false}
 use mathlib.Core.List.{List, [], _∷_}
 use native.Mathlib.Omega.{arith}
@@ -11,47 +11,42 @@ use lib.Dec.{eqb}
 use borrow.Author.Tests.{eqb-true, eqb-false}
 use Rattle.relation.specs.Order.{Row}
 use Rattle.relation.specs.Lists.{_∈_, not-in-nil}
-use Rattle.relation.specs.Layers.{Layer, prefixes}
+use Rattle.relation.specs.Layers.{prefixes}
 use Rattle.relation.proofs.Tests.{not-both}
 use Rattle.relation.proofs.Rank.{rank-le}
 use Rattle.relation.proofs.Relations.{length-prefixes}
-use Rattle.relation.proofs.Insert.{PrefixStored, stored-below, stored-whole, no-root}
-use Rattle.column_trie.specs.Pool.{store}
+use Rattle.relation.proofs.Insert.{PrefixStored, no-root}
 use Rattle.column_trie.specs.Table.{rowsIn}
 use Rattle.column_trie.specs.declared.ColumnTrie.{ColumnTrie}
 use Rattle.column_trie.proofs.Layers.{Whole}
 use Rattle.column_trie.proofs.Stored.{in-pool}
 use Rattle.column_trie.proofs.Damage.{undamaged-told}
 use Rattle.column_trie.proofs.Tables.{Holds, holds}
-use Rattle.column_trie_insert.specs.Grow.{PathOf, Addable}
-use Rattle.column_trie_insert.specs.declared.Path.{Path}
-use Rattle.column_trie_insert.proofs.Mixed.{mixed, mixed-first}
-use Rattle.column_trie_insert.proofs.Rows.{Ready, Growing, relayered}
+use Rattle.column_trie_path.proofs.Paths.{path-absent}
+use Rattle.column_trie_path.specs.Place.{PathOf}
+use Rattle.column_trie_insert.specs.Grow.{Addable}
+use Rattle.layer_by_layer.proofs.Changing.{changing-start}
+use Rattle.layer_by_layer.proofs.Leaves.{kept-above}
+use Rattle.column_trie_path.specs.declared.Path.{Path}
+use Rattle.column_trie_insert.proofs.Rows.{Ready, Growing, change}
 
 module _ {pool₀ : List ℕ} {t : ColumnTrie} {rows : List Row} {r : Row} (y : Ready pool₀ t rows r) where
-  -- no word has changed yet
-  starts : (d : ℕ) → ((k : ℕ) → k < d → PrefixStored rows r (suc k)) → (pool₀ ≡ store (t .start) (t .capacity) (mixed (t .arity) rows r d) pool₀) × (t ≡ relayered t (mixed (t .arity) rows r d) (t .«tuple_count»))
-  starts d s =
-      let e = mixed-first (t .arity) rows r (y .held .width) (y .long) d s in (
-        sym (ap (λ (ls : List Layer). store (t .start) (t .capacity) ls pool₀) e ∙ y .held .words),
-        y .held .table ∙ ap₂ (relayered t) (sym e) (sym (y .held .counted)),
-      )
-
   growing-start : {p : Path} → PathOf (t .arity) rows r p → p .depth < t .arity → Growing pool₀ t rows r pool₀ t (p .depth) (p .interval) (p .at) false
   growing-start {p} q h =
-      let s = starts (p .depth) (λ k b. stored-below (t .arity) rows r (y .held .width) (y .long) (suc k) (p .depth) b (q .stored)) in
-      record { inside = omega arith; words = s .0; header = s .1; place = q .interval; old = λ f. (h, q .stored, q .leaves h, q .place h); new = λ f. not-both false f refl }
+      record {
+        layers = changing-start (change y) (p .depth) (q .depth) (λ k b. kept-above (t .arity) rows r (y .held .width) (y .long) k (p .depth) b (q .stored));
+        leaves = record { place = q .interval; old = λ f. (h, q .stored, q .leaves h, q .place h); new = λ f. not-both false f refl };
+      }
 
   growing-empty : (at : ℕ) → rows ≡ [] → Growing pool₀ t rows r pool₀ t 0 0 at true
   growing-empty at e =
-      let s = starts 0 (λ k b. absurd (omega arith)) in
       record {
-        inside = omega arith;
-        words = s .0;
-        header = s .1;
-        place = omega (arith, rank-le (take 0 r) (prefixes 0 rows), length-prefixes 0 rows, ap length e);
-        old = λ f. not-both true refl f;
-        new = λ f m. no-root r 0 (subst (λ (qs : List Row). PrefixStored qs r 0) e m);
+        layers = changing-start (change y) 0 (omega arith) (λ k b. absurd (omega arith));
+        leaves = record {
+          place = omega (arith, rank-le (take 0 r) (prefixes 0 rows), length-prefixes 0 rows, ap length e);
+          old = λ f. not-both true refl f;
+          new = λ f m. no-root r 0 (subst (λ (qs : List Row). PrefixStored qs r 0) e m);
+        };
       }
 
 no-rows : (rows : List Row) → length rows ≡ 0 → rows ≡ []
@@ -65,9 +60,7 @@ absent-row {pool} {t} {r} {p} h l q m = go (ℕ-discrete (t .«tuple_count») 0)
   where
     go : Dec (t .«tuple_count» ≡ 0) → ⊥
     go (yes e) = not-in-nil (subst (λ (qs : List Row). r ∈ qs) (no-rows (rowsIn pool t) (omega (arith, h .counted))) m)
-    go (no n) =
-        let z = q n in
-        z .0 .leaves (z .1) (stored-below (t .arity) (rowsIn pool t) r (h .width) l (suc (p .depth)) (t .arity) (z .1) (stored-whole (t .arity) (rowsIn pool t) r (h .width) l (h .asc) .0 m))
+    go (no n) = let z = q n in path-absent (h .asc) (h .width) l (z .0) (z .1) m
 
 -- what the function requires says all that
 module _ {pool : List ℕ} {t : ColumnTrie} {r : Row} {p : Path} (o : Whole t) (c : Addable pool t r p) where
@@ -77,6 +70,7 @@ module _ {pool : List ℕ} {t : ColumnTrie} {r : Row} {p : Path} (o : Whole t) (
   pub ready : Ready pool t (rowsIn pool t) r
   ready =
       record {
+        whole = o;
         inside = in-pool (undamaged-told pool t (c .undamaged));
         held = held;
         long = c .long;

@@ -1,22 +1,19 @@
 -- The ways out of an insert, and what each leaves: the number is the first refusal's in the contract's sequence, and only the way out that is none
 -- of them takes the tuple in.
 use Prim.Native.Nat.{ℕ, _<_}
-use mathlib.Core.Path.{_≡_, refl, sym, ap, subst, _∙_}
-use mathlib.Core.Bool.{Bool, true, false, not, _&&_, _||_}
-use mathlib.Core.List.{List, [], _∷_}
+use mathlib.Core.Path.{_≡_, refl, sym, ap, _∙_}
+use mathlib.Core.Bool.{Bool, true, false, not, _&&_}
+use mathlib.Core.List.{List}
 use native.Mathlib.Omega.{arith}
 use native.Mathlib.Decide.{ℕ-discrete}
 use lib.Arith.{lt-of-le-ne}
-use lib.ListN.{length, take}
+use lib.ListN.{length}
 use lib.Dec.{eqb}
 use borrow.Author.Tests.{eq-eqb, ne-eqb}
 use Rattle.relation.specs.Order.{Row, pick}
-use Rattle.relation.specs.Lists.{_∈_, hd, tl}
-use Rattle.relation.specs.Rows.{same, put}
-use Rattle.relation.specs.Layers.{prefixes, layersOf}
-use Rattle.relation.proofs.Tests.{T-true, true-T}
-use Rattle.relation.proofs.Sorting.{same→eq, same-refl}
-use Rattle.relation.proofs.Insert.{stored-whole}
+use Rattle.relation.specs.Lists.{_∈_}
+use Rattle.relation.specs.Rows.{put}
+use Rattle.relation.specs.Layers.{layersOf}
 use Rattle.column_trie.specs.Pool.{store}
 use Rattle.column_trie.specs.Table.{rowsIn, refilled, undamaged}
 use Rattle.column_trie.specs.declared.ColumnTrie.{ColumnTrie}
@@ -24,36 +21,13 @@ use Rattle.column_trie.proofs.Layers.{Whole}
 use Rattle.column_trie.proofs.Damage.{undamaged-told}
 use Rattle.column_trie.proofs.Tables.{Holds, holds}
 use Rattle.column_trie_insert.specs.declared.Inserted.{Inserted}
-use Rattle.column_trie_insert.specs.declared.Path.{Path}
-use Rattle.column_trie_insert.specs.Grow.{PathOf, Addable, RowAdded}
+use Rattle.column_trie_path.specs.declared.Path.{Path}
+use Rattle.column_trie_path.specs.Place.{PathOf}
+use Rattle.column_trie_path.proofs.Paths.{path-there}
+use Rattle.column_trie_path.proofs.Known.{in-known, not-known}
+use Rattle.column_trie_insert.specs.Grow.{Addable, RowAdded}
 use Rattle.column_trie_insert.specs.Insert.{known, insertNumber, takesIn, Inserts}
 use Rattle.column_trie_insert.proofs.Enters.{absent-row}
-
--- the test decides membership
-pub in-known : {r : Row} {rows : List Row} → r ∈ rows → known rows r ≡ true
-unfolding known
-in-known {r} (hd {x = q} {xs = qs} e) = ap (λ (b : Bool). b || known qs r) (subst (λ (z : Row). same r z ≡ true) e (T-true (same r r) (same-refl r)))
-in-known {r} (tl {x = q} {xs = qs} m) = go (same r q) (in-known m)
-  where
-    go : (b : Bool) → known qs r ≡ true → (b || known qs r) ≡ true
-    go true e = refl
-    go false e = e
-
-pub known-in : (rows : List Row) (r : Row) → known rows r ≡ true → r ∈ rows
-unfolding known
-known-in [] r e = let z : _≡_ {A = ℕ} 0 1 = cc in absurd (omega arith)
-known-in (q ∷ qs) r e = go (known-in qs r) (same r q) refl e
-  where
-    go : (known qs r ≡ true → r ∈ qs) → (b : Bool) → same r q ≡ b → (b || known qs r) ≡ true → r ∈ (q ∷ qs)
-    go ih true f e = hd (same→eq r q (true-T (same r q) f))
-    go ih false f e = tl (ih e)
-
-pub not-known : {r : Row} {rows : List Row} → (r ∈ rows → ⊥) → known rows r ≡ false
-not-known {r} {rows} n = go (known rows r) refl
-  where
-    go : (b : Bool) → known rows r ≡ b → known rows r ≡ false
-    go true e = absurd (n (known-in rows r e))
-    go false e = e
 
 -- what an insert knows when it has looked for the tuple
 pub record Located (pool : List ℕ) (t : ColumnTrie) (tuple : Row) (p : Path) : Type 0 where
@@ -107,9 +81,7 @@ module _ {pool : List ℕ} {t : ColumnTrie} {tuple : Row} {p : Path} (l : Locate
     where
       go : Dec (t .«tuple_count» ≡ 0) → tuple ∈ rowsIn pool t
       go (yes z) = absurd (omega (arith, l .empty z .0, undamaged-told pool t (l .sound) .arity .0))
-      go (no z) =
-          let q = l .path z in
-          stored-whole (t .arity) (rowsIn pool t) tuple (held .width) (l .long) (held .asc) .1 (subst (λ (n : ℕ). take n tuple ∈ prefixes n (rowsIn pool t)) e (q .stored))
+      go (no z) = path-there (held .asc) (held .width) (l .long) (l .path z) e
 
   stays : tuple ∈ rowsIn pool t → takesIn pool t tuple ≡ false
   unfolding takesIn

@@ -1,23 +1,18 @@
 -- Public: what an insert leaves, for every pool, header and tuple.
 use Prim.Native.Nat.{ℕ}
 use mathlib.Core.Path.{_≡_}
-use mathlib.Core.Bool.{Bool, false, not, _&&_, _||_}
-use mathlib.Core.List.{List, [], _∷_}
+use mathlib.Core.Bool.{Bool, not, _&&_}
+use mathlib.Core.List.{List}
 use lib.ListN.{length}
 use lib.Dec.{eqb}
 use Rattle.relation.specs.Order.{Row, pick}
-use Rattle.relation.specs.Rows.{same, put}
+use Rattle.relation.specs.Rows.{put}
 use Rattle.relation.specs.Layers.{layersOf}
 use Rattle.column_trie.specs.Pool.{store}
 use Rattle.column_trie.specs.Table.{refilled, rowsIn, undamaged}
 use Rattle.column_trie.specs.declared.ColumnTrie.{ColumnTrie}
+unfoldable pub use Rattle.column_trie_path.specs.Known.{known}
 use Rattle.column_trie_insert.specs.declared.Inserted.{Inserted}
-
--- r is one of the rows
-unfoldable pub known : List Row → Row → Bool
-unfolding same
-known [] r = false
-known (q ∷ qs) r = same r q || known qs r
 
 -- the refusals in document 01's sequence: 6 for a damaged table, 4 for a tuple whose length isn't the arity, 5 for a new tuple when the count is the
 -- capacity; else 0

@@ -7,15 +7,18 @@ ghost use mathlib.Core.Path.{_≡_};
 ghost use mathlib.Core.Bool.{true, false};
 ghost use Prim.Native.Nat.{_<_};
 ghost use lib.ListN.{length};
-ghost use Rattle.column_trie.specs.Table.{layerIn, rowsIn, headerSound, undamaged};
-ghost use Rattle.column_trie_insert.specs.Grow.{grown, Roomy, Added, Grouped, KeyPlaceOf, PathOf, Addable, RowAdded};
+ghost use Rattle.column_trie.specs.Table.{layerIn, undamaged};
+ghost use Rattle.layer_by_layer.specs.Grow.{grown};
+ghost use Rattle.layer_by_layer.specs.Relay.{Relaid};
+ghost use Rattle.column_trie_insert.specs.Grow.{Roomy, Addable, RowAdded};
 ghost use Rattle.column_trie_insert.specs.Insert.{Inserts};
 use column_trie::ColumnTrie;
 use column_trie::begins;
 use column_trie::layer_at;
 use column_trie::undamaged;
-use seek::SeekStrategy;
-use seek::partition_point;
+use column_trie_path::Path;
+use column_trie_path::find_path;
+use column_trie_path::top;
 use wedge::raise;
 use wedge::wedge;
 use wedge::wedge_raised;
@@ -31,7 +34,7 @@ fn add_layer(
     fresh: bool,
 ) -> ColumnTrie
     requires { ⌜ Roomy (now pool) t d i at fresh ⌝ }
-    ensures { λ r. ⌜ Added (now (pool .entry)) (now (pool .exit)) t d (grown fresh i at key (layerIn (now (pool .entry)) t d)) r ⌝ }
+    ensures { λ r. ⌜ Relaid (now (pool .entry)) (now (pool .exit)) t d (grown fresh i at key (layerIn (now (pool .entry)) t d)) r ⌝ }
 {
     let data_from = layer_at(t, d);
     let interval_from = data_from + t.capacity;
@@ -47,67 +50,6 @@ fn add_layer(
         raise(pool, interval_from, i + 1, intervals);
     }
     out
-}
-
-// Where a key stands in its group, or where it goes, and how many keys the search looked at. Nobody asks for that number: it is there so that the
-// contract can bound it.
-struct KeyPlace {
-    at: usize,
-    there: bool,
-    probes: usize,
-}
-
-// How many leading keys of a tuple are stored, the place of the last of them in its layer, and the place where the next one goes.
-struct Path {
-    depth: usize,
-    interval: usize,
-    at: usize,
-}
-
-// Where `key` stands in the group of interval i of layer d, or where it goes. A group can be as long as the table, so it is searched by halving: no
-// more keys are looked at than the group's length has binary digits.
-fn find_place(pool: &[u64], t: ColumnTrie, d: usize, i: usize, key: u64) -> KeyPlace
-    requires { ⌜ (headerSound (length (now pool)) t ≡ true) × (d < t .arity) × Grouped (layerIn (now pool) t d) i ⌝ }
-    ensures { λ r. ⌜ KeyPlaceOf (layerIn (now (pool .entry)) t d) i key r ⌝ }
-{
-    let from = begins(pool, t, d, i);
-    let to = begins(pool, t, d, i + 1);
-    let data_from = layer_at(t, d);
-    let run_from = data_from + from;
-    let run_to = data_from + to;
-    let run = &pool[run_from..run_to];
-    let sought = partition_point(SeekStrategy::Binary, run, key);
-    KeyPlace {
-        at: from + sought.offset,
-        there: sought.hit,
-        probes: sought.probes,
-    }
-}
-
-// Down the layers while the tuple's keys are stored. The table has rows.
-fn find_path(pool: &[u64], t: ColumnTrie, tuple: &[u64]) -> Path
-    requires { ⌜ (undamaged (now pool) t ≡ true) × (length (now tuple) ≡ t .arity) × (0 < t .«tuple_count») ⌝ }
-    ensures { λ r. ⌜ PathOf (t .arity) (rowsIn (now (pool .entry)) t) (now (tuple .entry)) r ⌝ }
-{
-    let mut d = 0;
-    let mut i = 0;
-    while d < t.arity {
-        let p = find_place(pool, t, d, i, tuple[d]);
-        if !p.there {
-            return Path {
-                depth: d,
-                interval: i,
-                at: p.at,
-            };
-        }
-        i = p.at;
-        d += 1;
-    }
-    Path {
-        depth: d,
-        interval: i,
-        at: i,
-    }
 }
 
 // Adds the tuple's keys, layer by layer from the first that isn't stored; below it each has a new parent, and so its own interval.
@@ -162,11 +104,7 @@ pub fn insert(pool: &mut [u64], table: ColumnTrie, tuple: &[u64]) -> Inserted
     if tuple.len() != table.arity {
         return unchanged(4, table);
     }
-    let mut path = Path {
-        depth: 0,
-        interval: 0,
-        at: 0,
-    };
+    let mut path = top();
     if table.tuple_count != 0 {
         path = find_path(pool, table, tuple);
     }

@@ -9,6 +9,7 @@ use denote.Ref.{now}
 use Rattle.build_laws.proofs.Determined as builds
 use Rattle.file_laws.proofs.Determined as files
 use Rattle.insert_laws.proofs.Laws as inserts
+use Rattle.removal_laws.proofs.Laws as removals
 use Rattle.column_trie_listing.proofs.Lists as lists
 use Rattle.file_write.proofs.Files as writes
 use Rattle.leapfrog_triejoin.proofs.Determined as joins
@@ -21,6 +22,7 @@ use Rattle.ducatbriar.proofs.ducatbriar_build.Reads as build-reads
 use Rattle.ducatbriar.proofs.ducatbriar_read.Reads as read-reads
 use Rattle.ducatbriar.proofs.ducatbriar_write.Reads as write-reads
 use Rattle.ducatbriar.proofs.ducatbriar_insert.Reads as insert-reads
+use Rattle.ducatbriar.proofs.ducatbriar_remove.Reads as remove-reads
 use Rattle.ducatbriar.proofs.ducatbriar_list.Reads as list-reads
 use Rattle.ducatbriar.proofs.ducatbriar_key.Reads as key-reads
 use Rattle.ducatbriar.proofs.ducatbriar_next.Reads as next-reads
@@ -92,6 +94,9 @@ write κs args r₁ r₂ e₁ e₂ p q = writes.determined p q
 -- the pool
 pub insert : (κs : Lfts 2) → OneOutcome (insert-reads.Post κs) (λ e. now (e .0))
 insert κs args r₁ r₂ e₁ e₂ p q = inserts.determined p q
+
+pub remove : (κs : Lfts 2) → OneOutcome (remove-reads.Post κs) (λ e. now (e .0))
+remove κs args r₁ r₂ e₁ e₂ p q = removals.determined p q
 
 -- the bytes
 pub list : (κs : Lfts 2) → OneOutcome (list-reads.Post κs) (λ e. now (e .1 .1 .0))

@@ -9,6 +9,7 @@ ghost use Rattle.grade.specs.Word.{wordOf, gradeOf};
 ghost use Rattle.column_trie.specs.Table.{emptyTable, undamaged};
 ghost use Rattle.column_trie_build.specs.Build.{Builds};
 ghost use Rattle.column_trie_insert.specs.Insert.{Inserts};
+ghost use Rattle.column_trie_remove.specs.Remove.{Removes};
 ghost use Rattle.file_read.specs.Read.{Reads};
 ghost use Rattle.file_write.specs.Write.{Writes};
 ghost use Rattle.column_trie_listing.specs.List.{Lists};
@@ -25,6 +26,7 @@ use column_trie_iter::SeekAnswer;
 use column_trie_iter::UpAnswer;
 use column_trie_listing::Listed;
 use column_trie_place::ColumnTrieIter;
+use column_trie_remove::Removed;
 use file_write::FileWritten;
 use from_sorted::Built;
 use join_query::Query;
@@ -129,6 +131,13 @@ pub extern "C" fn ducatbriar_insert(pool: &mut [u64], table: ColumnTrie, tuple: 
     ensures { λ r. ⌜ Inserts (now (pool .entry)) (now (pool .exit)) table (now (tuple .entry)) r ⌝ }
 {
     column_trie_insert::insert(pool, table, tuple)
+}
+
+#[no_mangle]
+pub extern "C" fn ducatbriar_remove(pool: &mut [u64], table: ColumnTrie, tuple: &[u64]) -> Removed
+    ensures { λ r. ⌜ Removes (now (pool .entry)) (now (pool .exit)) table (now (tuple .entry)) r ⌝ }
+{
+    column_trie_remove::remove(pool, table, tuple)
 }
 
 #[no_mangle]

@@ -20,7 +20,8 @@ use Rattle.column_trie.specs.declared.ColumnTrie.{ColumnTrie}
 use Rattle.column_trie.proofs.Damage.{undamaged-told, told-undamaged}
 use Rattle.column_trie_insert.specs.declared.Inserted.{Inserted}
 use Rattle.column_trie_insert.specs.Insert.{known, insertNumber, takesIn, Inserts}
-use Rattle.column_trie_insert.proofs.Inserts.{in-known, known-in, not-known, number-6, number-4}
+use Rattle.column_trie_path.proofs.Known.{in-known, known-in, not-known}
+use Rattle.column_trie_insert.proofs.Inserts.{number-6, number-4}
 
 -- the table is undamaged, and the tuple as long as its rows
 abbrev pub SizedFor : List ℕ → ColumnTrie → Row → Type 0

@@ -1,21 +1,19 @@
--- What an insert means: the contract determines everything, an accepted tuple leaves the layers of the set of the old rows and the new one, and any
--- sequence of accepted tuples those of the set of all rows.
+-- What an insert means: the contract determines everything, an accepted tuple leaves the layers of the set of the old rows and the new one, and the kinds
+-- stay.
 use Prim.Native.Nat.{ℕ, _-_, _≤_}
-use mathlib.Core.Path.{_≡_, refl, sym, ap, ap₂, subst, subst₂, _∙_}
+use mathlib.Core.Path.{_≡_, refl, sym, ap, ap₂, subst₂, _∙_}
 use mathlib.Core.Bool.{Bool, true, false, not, _&&_}
-use mathlib.Core.Logic.{⊎-elim}
-use mathlib.Core.List.{List, [], _∷_, _++_, Memᴰ·append-left, Memᴰ·append-right, List·Memᴰ·append-cases}
+use mathlib.Core.List.{List}
 use native.Mathlib.Omega.{arith}
 use lib.Arith.{lt-of-le-ne}
 use lib.ListN.{length}
 use lib.Dec.{eqb}
 use borrow.Author.Tests.{eqb-true, eq-eqb}
 use Rattle.relation.specs.Order.{Row, pick}
-use Rattle.relation.specs.Lists.{_∈_, hd, tl, in-cons}
-use Rattle.relation.specs.Rows.{Asc, Width, Members, put, asSet}
+use Rattle.relation.specs.Rows.{Asc, Width, put}
 use Rattle.relation.specs.Layers.{layersOf}
 use Rattle.relation.proofs.Tests.{not-both}
-use Rattle.relation.proofs.Sorting.{put-asc, put-known, asSet-cong}
+use Rattle.relation.proofs.Sorting.{put-asc, put-known}
 use Rattle.relation.proofs.Insert.{insert-count, put-width}
 use Rattle.relation.proofs.Tables.{layers-count, every-undamaged-table-is-what-a-build-of-its-own-rows-leaves}
 use Rattle.column_trie.specs.Pool.{store}
@@ -27,7 +25,7 @@ use Rattle.column_trie.proofs.Stored.{header-whole}
 use Rattle.column_trie.proofs.Tables.{holds, stored}
 use Rattle.column_trie_insert.specs.declared.Inserted.{Inserted}
 use Rattle.column_trie_insert.specs.Insert.{known, insertNumber, takesIn, Inserts}
-use Rattle.column_trie_insert.proofs.Inserts.{known-in, in-known}
+use Rattle.column_trie_path.proofs.Known.{known-in, in-known}
 
 -- any two outcomes that the contract allows are equal
 pub determined : {pool p q : List ℕ} {t : ColumnTrie} {tuple : Row} {r s : Inserted} → Inserts pool p t tuple r → Inserts pool q t tuple s → (r ≡ s) × (p ≡ q)
@@ -148,30 +146,6 @@ module _ {pool pool′ : List ℕ} {t : ColumnTrie} {tuple : Row} {r : Inserted}
           let w = header-whole (t .start) (t .arity) (t .capacity) (t .grade) (layersOf (t .arity) rows) (length rows) (layers-count (t .arity) 0 rows) (u .arity .1) in
           subst₂ Left (sym (left-pool false e)) (sym (left-table false e)) (table-of w (k .undamaged) (k .rows-back))
 
--- tuples inserted one after another, each accepted, nothing else between
-pub data Inserted-all : List ℕ → ColumnTrie → List Row → List ℕ → ColumnTrie → Type 0 where
-  no-more : {pool : List ℕ} {t : ColumnTrie} → Inserted-all pool t [] pool t
-  one-more : {pool pool₁ pool₂ : List ℕ} {t t₂ : ColumnTrie} {tuple : Row} {tuples : List Row} {r : Inserted} → Inserts pool pool₁ t tuple r → r .number ≡ 0 → Inserted-all pool₁ (r .table) tuples pool₂ t₂ → Inserted-all pool t (tuple ∷ tuples) pool₂ t₂
-
--- the same members, whether a row stands before or behind others
-moved : (x : Row) (xs ys : List Row) → Members (xs ++ (x ∷ ys)) ((x ∷ xs) ++ ys)
-moved x xs ys q = (
-  λ m. ⊎-elim (λ (a : q ∈ xs). tl (Memᴰ·append-left ys a)) (λ (a : q ∈ (x ∷ ys)). ⊎-elim (λ (e : q ≡ x). hd e) (λ (b : q ∈ ys). tl (Memᴰ·append-right xs b)) (in-cons a)) (List·Memᴰ·append-cases xs m),
-  λ m. ⊎-elim (λ (e : q ≡ x). Memᴰ·append-right xs (hd e)) (λ (a : q ∈ (xs ++ ys)). ⊎-elim (λ (b : q ∈ xs). Memᴰ·append-left (x ∷ ys) b) (λ (b : q ∈ ys). Memᴰ·append-right xs (tl b)) (List·Memᴰ·append-cases xs a)) (in-cons m),
-)
-
--- they leave the layers of the set of all rows given: those that the table held, which a build put there, and those inserted
-pub inserts-leave-the-set-of-all-rows-given :
-    {start arity capacity : ℕ} {kinds : List Bool} {pool pool₂ : List ℕ} {t t₂ : ColumnTrie} {tuples : List Row} (given : List Row) → Table start arity capacity kinds (asSet given) pool t → Inserted-all pool t tuples pool₂ t₂ →
-    Table start arity capacity kinds (asSet (tuples ++ given)) pool₂ t₂
-unfolding asSet
-inserts-leave-the-set-of-all-rows-given given h no-more = h
-inserts-leave-the-set-of-all-rows-given {start} {arity} {capacity} {kinds} {pool} {pool₂} {t} {t₂} given h (one-more {pool₁ = pool₁} {tuple = tuple} {tuples = tuples} {r = r} s z rest) =
-    let k = insert-leaves-the-layers-of-the-set-of-the-old-rows-and-the-new-one (h .whole) s z in
-    let m = subst₂ (λ (x : ColumnTrie) (rows : List Row). Table (x .start) (x .arity) (x .capacity) (x .grade) (put tuple rows) pool₁ (r .table)) (h .header-is) (h .rows-are) k in
-    subst (λ (rows : List Row). Table start arity capacity kinds rows pool₂ t₂) (asSet-cong (tuples ++ (tuple ∷ given)) ((tuple ∷ tuples) ++ given) (moved tuple tuples given))
-    (inserts-leave-the-set-of-all-rows-given (tuple ∷ given) m rest)
-
 -- ---- the kinds
 
 -- "insert keeps them": accepted or refused
@@ -182,7 +156,3 @@ an-insert-keeps-the-kinds {pool} {t = t} {tuple} s =
     go : (b : Bool) → pick b (refilled t (put tuple (rowsIn pool t))) t .grade ≡ t .grade
     go true = refl
     go false = refl
-
-pub any-sequence-of-inserts-keeps-the-kinds : {pool pool₂ : List ℕ} {t t₂ : ColumnTrie} {tuples : List Row} → Inserted-all pool t tuples pool₂ t₂ → t₂ .grade ≡ t .grade
-any-sequence-of-inserts-keeps-the-kinds no-more = refl
-any-sequence-of-inserts-keeps-the-kinds (one-more s z rest) = any-sequence-of-inserts-keeps-the-kinds rest ∙ an-insert-keeps-the-kinds s

@@ -39,6 +39,7 @@ enum OfOne {
 enum OfTwo {
     Builds,
     Inserts,
+    Removals,
     Joins(SeekStrategy),
 }
 
@@ -68,6 +69,7 @@ fn asked(kind: OfTwo, text: &[u8], tally: Tally, pool: &mut [u64], words: &mut [
     match kind {
         OfTwo::Builds => tables::build(text, tally, pool, words),
         OfTwo::Inserts => tables::insert(text, tally, pool, words),
+        OfTwo::Removals => tables::remove(text, tally, pool, words),
         OfTwo::Joins(strategy) => joins::case(text, tally, strategy, pool, words),
     }
 }
@@ -175,6 +177,7 @@ fn main() {
     work(Kind::Empties, b"empties");
     work(Kind::OfTwo(OfTwo::Builds), b"builds");
     work(Kind::OfTwo(OfTwo::Inserts), b"inserts");
+    work(Kind::OfTwo(OfTwo::Removals), b"removals");
     work(Kind::OfOne(OfOne::Listings), b"listings");
     work(Kind::OfOne(OfOne::Cursors), b"cursors");
     work(Kind::Joins, b"joins");

@@ -1,4 +1,4 @@
-// Tables that are made: the header of an empty one, a build, an insert.
+// Tables that are made and changed: the header of an empty one, a build, an insert, a removal.
 use crate::choices::said;
 use crate::choices::word_of;
 use crate::headers::eight_at;
@@ -48,6 +48,18 @@ pub fn insert(text: &[u8], tally: Tally, pool: &mut [u64], tuple: &[u64]) -> Tal
     let table = came.table;
     let numbered = said(text, tally.at(header.at), came.number);
     let answered = said(text, numbered, word_of(came.is_new));
+    let then = headed(text, answered, table);
+    left(text, then, pool)
+}
+
+// Behind pool and tuple the header; then the number, whether the tuple was there, the header and the pool.
+pub fn remove(text: &[u8], tally: Tally, pool: &mut [u64], tuple: &[u64]) -> Tally {
+    let header = header_at(text, tally.at);
+    let before = header.table;
+    let came = column_trie_remove::remove(pool, before, tuple);
+    let table = came.table;
+    let numbered = said(text, tally.at(header.at), came.number);
+    let answered = said(text, numbered, word_of(came.was_there));
     let then = headed(text, answered, table);
     left(text, then, pool)
 }

@@ -31,8 +31,8 @@ pub fn build(times: usize) {
 
 /// A table of the last rows, and the first ones, which it lacks.
 pub struct Growing {
-    new: Vec<Row>,
-    old: Vec<Row>,
+    pub new: Vec<Row>,
+    pub old: Vec<Row>,
     pool: Vec<u64>,
     pub table: calls::ColumnTrie,
 }

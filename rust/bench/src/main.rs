@@ -18,6 +18,8 @@ mod merge;
 #[cfg(kermit)]
 mod plain_files;
 #[cfg(kermit)]
+mod removals;
+#[cfg(kermit)]
 mod seeks;
 #[cfg(kermit)]
 mod sides;
@@ -29,6 +31,7 @@ mod times;
 const GROUPS: [(&str, fn(usize)); 9] = [
     ("build", inserts::build),
     ("insert", inserts::insert),
+    ("remove", removals::remove),
     ("wait", inserts::wait),
     ("place", seeks::place),
     ("check", check::check),

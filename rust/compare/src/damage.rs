@@ -100,6 +100,19 @@ impl Damaged {
     }
 }
 
+/// An insert of the tuple, and its removal, each from these words.
+fn changes(tally: &mut Tally, pool: &[u64], t: ColumnTrie, tuple: &[u64]) -> Result<(), String> {
+    let (mut left, mut expected) = (pool.to_vec(), pool.to_vec());
+    let answer = insert(&mut left, t, tuple);
+    tally.same(answer, model::insert(&mut expected, t, tuple), || format!("answer to insert {tuple:?}"))?;
+    tally.same(left, expected, || format!("pool after insert {tuple:?}"))?;
+
+    let (mut left, mut expected) = (pool.to_vec(), pool.to_vec());
+    let answer = remove(&mut left, t, tuple);
+    tally.same(answer, model::remove(&mut expected, t, tuple), || format!("answer to remove {tuple:?}"))?;
+    tally.same(left, expected, || format!("pool after remove {tuple:?}"))
+}
+
 impl Case for Damaged {
     fn run(&self, tally: &mut Tally) -> Result<(), String> {
         let (pool, t) = self.spoiled();
@@ -124,10 +137,7 @@ impl Case for Damaged {
         for tuple in
             [vec![1; self.arity], vec![0; self.arity], self.rows.first().cloned().unwrap_or_default(), vec![9; self.arity + 1]]
         {
-            let (mut left, mut expected) = (pool.clone(), pool.clone());
-            let answer = insert(&mut left, t, &tuple);
-            tally.same(answer, model::insert(&mut expected, t, &tuple), || format!("answer to insert {tuple:?}"))?;
-            tally.same(left, expected, || format!("pool after insert {tuple:?}"))?;
+            changes(tally, &pool, t, &tuple)?;
         }
 
         let mut tables = Tables { count: 1, ..Default::default() };
@@ -155,7 +165,7 @@ impl Case for Damaged {
     }
 }
 
-/// A larger table with some words changed: whether it is damaged, its file, and what an insert says of it.
+/// A larger table with some words changed: whether it is damaged, its file, and what an insert and a removal say of it.
 #[derive(Clone)]
 pub struct Spoiled(Damaged);
 
@@ -167,8 +177,7 @@ impl fmt::Display for Spoiled {
 
 impl Case for Spoiled {
     fn run(&self, tally: &mut Tally) -> Result<(), String> {
-        let (mut pool, t) = self.0.spoiled();
-        let mut expected = pool.clone();
+        let (pool, t) = self.0.spoiled();
         tally.same(undamaged(&pool, t), model::undamaged(&pool, t), || "undamaged".into())?;
         let mut bytes = vec![b'~'; limits::file(self.0.arity, self.0.rows.len())];
         let mut expected_bytes = bytes.clone();
@@ -176,9 +185,7 @@ impl Case for Spoiled {
         tally.same(answer, model_files::write(&pool, t, &mut expected_bytes), || "answer of the write".into())?;
         tally.same(bytes, expected_bytes, || "file".into())?;
         let tuple = self.0.rows.last().cloned().unwrap_or_default();
-        let answer = insert(&mut pool, t, &tuple);
-        tally.same(answer, model::insert(&mut expected, t, &tuple), || format!("answer to insert {tuple:?}"))?;
-        tally.same(pool, expected, || format!("pool after insert {tuple:?}"))
+        changes(tally, &pool, t, &tuple)
     }
 
     fn smaller(&self) -> Vec<Self> {

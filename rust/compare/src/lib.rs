@@ -6,6 +6,8 @@
 #[cfg(kermit)]
 pub mod case;
 #[cfg(kermit)]
+pub mod changes;
+#[cfg(kermit)]
 pub mod cursors;
 #[cfg(kermit)]
 pub mod damage;

@@ -238,6 +238,23 @@ pub fn insert(pool: &mut [u64], t: ColumnTrie, tuple: &[u64]) -> Inserted {
     Inserted { number: 0, is_new: true, table: store(pool, t, &rows) }
 }
 
+/// What is laid over the pool are the layers of the rest, so that words past the new lengths stay.
+pub fn remove(pool: &mut [u64], t: ColumnTrie, tuple: &[u64]) -> Removed {
+    let refused = |number| Removed { number, was_there: false, table: t };
+    if !undamaged(pool, t) {
+        return refused(6);
+    }
+    if tuple.len() as u64 != t.arity {
+        return refused(4);
+    }
+    let mut rows = rows_of(pool, t);
+    let Ok(place) = rows.binary_search(&tuple.to_vec()) else {
+        return refused(0);
+    };
+    rows.remove(place);
+    Removed { number: 0, was_there: true, table: store(pool, t, &rows) }
+}
+
 /// The listing, or the refusal of a damaged table.
 pub fn text(pool: &[u64], t: ColumnTrie) -> Option<String> {
     undamaged(pool, t).then(|| {

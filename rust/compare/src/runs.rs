@@ -1,9 +1,9 @@
 //! The runs by name: what is exhaustive, then so many random cases.
 use crate::case::{check, Case, Tally};
 use crate::rng::Rng;
-use crate::{cursors, damage, files, joins, seeks, tables};
+use crate::{changes, cursors, damage, files, joins, seeks, tables};
 
-pub const NAMES: [&str; 6] = ["seeks", "tables", "files", "cursors", "joins", "damage"];
+pub const NAMES: [&str; 7] = ["seeks", "tables", "changes", "files", "cursors", "joins", "damage"];
 
 fn all<C: Case>(tally: &mut Tally, cases: impl IntoIterator<Item = C>) -> Result<(), String> {
     cases.into_iter().try_for_each(|case| check(case, tally))
@@ -33,6 +33,12 @@ pub fn run(name: &str, seed: u64, rounds: usize) -> Result<Tally, String> {
             all(t, large.then(|| tables::large(rng)).into_iter().flatten())?;
             some(t, rng, 2 * rounds, tables::random)?;
             some(t, rng, 10 * rounds, tables::refused)?;
+        }
+        "changes" => {
+            all(t, changes::exhaustive())?;
+            all(t, large.then(|| changes::large(rng)).into_iter().flatten())?;
+            some(t, rng, 2 * rounds, changes::random)?;
+            some(t, rng, rounds / 4, changes::emptied)?;
         }
         "files" => {
             all(t, files::every_table())?;

@@ -35,7 +35,7 @@ pub fn marked(len: usize) -> Vec<u64> {
 type Trie = oracle::ColumnTrie<GallopingSeek>;
 
 /// The table's words, count and listing are kermit's.
-fn same_table(tally: &mut Tally, pool: &[u64], t: ColumnTrie, trie: &Trie, when: &str) -> Result<(), String> {
+pub fn same_table(tally: &mut Tally, pool: &[u64], t: ColumnTrie, trie: &Trie, when: &str) -> Result<(), String> {
     let listing = trie.to_string();
     tally.same(model::layers(pool, t), layers(&listing), || format!("layers {when}"))?;
     tally.same(t.tuple_count, trie.tuple_count() as u64, || format!("count {when}"))?;

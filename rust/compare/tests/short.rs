@@ -17,6 +17,11 @@ mod short {
     }
 
     #[test]
+    fn changes() {
+        run("changes");
+    }
+
+    #[test]
     fn files() {
         run("files");
     }

@@ -51,6 +51,7 @@ c_struct!(
 );
 c_struct!(Built { number: u64, table: ColumnTrie });
 c_struct!(Inserted { number: u64, is_new: bool, table: ColumnTrie });
+c_struct!(Removed { number: u64, was_there: bool, table: ColumnTrie });
 c_struct!(Listed { number: u64, len: u64 });
 c_struct!(FileWritten { number: u64, len: u64 });
 c_struct!(
@@ -99,6 +100,7 @@ mod c {
             kinds: Kinds,
         ) -> Built;
         pub fn ducatbriar_insert(pool: *mut u64, len: u64, table: ColumnTrie, tuple: *const u64, tuple_len: u64) -> Inserted;
+        pub fn ducatbriar_remove(pool: *mut u64, len: u64, table: ColumnTrie, tuple: *const u64, tuple_len: u64) -> Removed;
         pub fn ducatbriar_list(pool: *const u64, len: u64, table: ColumnTrie, text: *mut u8, text_len: u64) -> Listed;
         pub fn ducatbriar_write(pool: *const u64, len: u64, table: ColumnTrie, bytes: *mut u8, bytes_len: u64) -> FileWritten;
         pub fn ducatbriar_read(
@@ -184,6 +186,22 @@ pub fn build(rows: &mut [u64], pool: &mut [u64], start: u64, arity: u64, capacit
 /// Inserts the tuple; the kinds stay. Refusals 6, 4, 5.
 pub fn insert(pool: &mut [u64], table: ColumnTrie, tuple: &[u64]) -> Inserted {
     unsafe { c::ducatbriar_insert(pool.as_mut_ptr(), pool.len() as u64, table, tuple.as_ptr(), tuple.len() as u64) }
+}
+
+/// Takes the tuple out; the kinds stay, and so do the words past the new lengths. Refusals 6, 4.
+///
+/// ```
+/// use ducatbriar::calls::{build, remove, Kinds};
+/// let mut pool = [0; 4];
+/// let table = build(&mut [5, 3], &mut pool, 0, 1, 2, Kinds::default()).table;
+/// let removed = remove(&mut pool, table, &[3]);
+/// assert_eq!((removed.number, removed.was_there, removed.table.tuple_count), (0, true, 1));
+/// // Layer 0 is the key 5 and the interval 0. Past their lengths the words are as they were.
+/// assert_eq!(pool, [5, 5, 0, 0]);
+/// assert!(!remove(&mut pool, removed.table, &[3]).was_there);
+/// ```
+pub fn remove(pool: &mut [u64], table: ColumnTrie, tuple: &[u64]) -> Removed {
+    unsafe { c::ducatbriar_remove(pool.as_mut_ptr(), pool.len() as u64, table, tuple.as_ptr(), tuple.len() as u64) }
 }
 
 /// Writes the table's listing at the front of the text. Refusals 6, 14.

@@ -313,6 +313,46 @@ impl Pool {
         self.insert(table, &words)
     }
 
+    /// Takes a row out, and says whether it was there. Its room is used again.
+    ///
+    /// ```
+    /// # fn main() -> Result<(), ducatbriar::Refusal> {
+    /// let mut pool = ducatbriar::Pool::new();
+    /// let mut table = pool.build(2, 2, &[[1, 3], [2, 4]])?;
+    /// assert!(pool.remove(&mut table, &[1, 3])?);
+    /// assert!(!pool.remove(&mut table, &[1, 3])?);
+    /// assert!(pool.insert(&mut table, &[1, 2])?);
+    /// assert_eq!(pool.rows(&table)?.iter().collect::<Vec<_>>(), [[1, 2], [2, 4]]);
+    /// # Ok(())
+    /// # }
+    /// ```
+    pub fn remove(&mut self, table: &mut Table, row: &[u64]) -> Result<bool, Refusal> {
+        let removed = calls::remove(&mut self.words, table.header, row);
+        table.header = removed.table;
+        Refusal::check(removed.number).map(|()| removed.was_there)
+    }
+
+    /// Takes a row out, its grades as grades, and says whether it was there.
+    ///
+    /// ```
+    /// # fn main() -> Result<(), ducatbriar::Refusal> {
+    /// use ducatbriar::{Cell, Kind, Pool};
+    /// let mut pool = Pool::new();
+    /// let mut grades = pool.build_with_kinds(&[Kind::Grade], 4, &[[Cell::Grade(0)], [Cell::Grade(-1)]])?;
+    /// assert!(pool.remove_cells(&mut grades, &[Cell::Grade(-1)])?);
+    /// assert_eq!((grades.len(), grades.kinds()), (1, vec![Kind::Grade]));
+    /// # Ok(())
+    /// # }
+    /// ```
+    ///
+    /// # Panics
+    ///
+    /// Where a cell is not of its column's kind.
+    pub fn remove_cells(&mut self, table: &mut Table, row: &[Cell]) -> Result<bool, Refusal> {
+        let words = words_of(&table.kinds(), row);
+        self.remove(table, &words)
+    }
+
     /// The table's layers as text.
     ///
     /// ```

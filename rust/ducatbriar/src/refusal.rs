@@ -40,11 +40,11 @@ refusals!(
     BadCapacity = 2,
     /// By a build or a read; never by those of a [`Pool`](crate::Pool), which makes room.
     OutsidePool = 3,
-    /// By a build or an insert.
+    /// By a build, an insert or a removal.
     BadLength = 4,
     /// By a build, an insert or a read.
     NoRoom = 5,
-    /// By an insert, a listing, a write, a cursor or a join.
+    /// By an insert, a removal, a listing, a write, a cursor or a join.
     Damaged = 6,
     /// By a cursor.
     BadCursor = 7,

@@ -49,3 +49,11 @@ fn no_18_a_window_is_whole_rows() {
     assert_eq!(into(&mut [7]), Err(Refusal::PartRows));
     assert_eq!((into(&mut []), into(&mut [7; 2])), (Ok(true), Ok(false)));
 }
+
+#[test]
+fn no_19_a_row_is_taken_out() {
+    let mut pool = Pool::new();
+    let mut table = pool.build(1, 1, &[[1]]).unwrap();
+    assert_eq!(pool.remove(&mut table, &[1]), Ok(true));
+    assert!(table.is_empty());
+}

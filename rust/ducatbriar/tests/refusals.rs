@@ -66,10 +66,55 @@ fn inserts() {
 }
 
 #[test]
+fn removals() {
+    let (mut pool, mut table) = pairs();
+    let (words, header) = (pool.words().to_vec(), table.header());
+    assert_eq!(number(pool.remove(&mut table, &[1])), 4);
+    assert_eq!(number(pool.remove(&mut table, &[1, 2, 3])), 4);
+    assert_eq!(number(pool.remove(&mut table, &[])), 4);
+    assert_eq!(pool.remove(&mut table, &[1, 3]), Ok(false));
+    assert_eq!((pool.words(), table.header()), (&words[..], header));
+}
+
+/// A table at capacity takes a new row after a removal; without its last row it is as one of no rows, and takes rows again.
+#[test]
+fn room_after_removals() {
+    let (mut pool, mut table) = pairs();
+    assert_eq!(number(pool.insert(&mut table, &[3, 4])), 5);
+    assert_eq!(pool.remove(&mut table, &[1, 2]), Ok(true));
+    assert_eq!(pool.insert(&mut table, &[3, 4]), Ok(true));
+    assert_eq!(number(pool.insert(&mut table, &[1, 2])), 5);
+    assert_eq!(pool.remove(&mut table, &[2, 3]), Ok(true));
+    assert_eq!(pool.remove(&mut table, &[3, 4]), Ok(true));
+    assert_eq!(table.header(), calls::empty(0, 2, 2));
+    assert_eq!(pool.remove(&mut table, &[3, 4]), Ok(false));
+    assert_eq!(pool.insert(&mut table, &[5, 6]), Ok(true));
+    assert_eq!(pool.rows(&table).unwrap().into_iter().collect::<Vec<_>>(), [[5, 6]]);
+}
+
+/// A key goes with the last row below it, at every depth; one that has others below it stays.
+#[test]
+fn parents_without_children_go() {
+    let mut pool = Pool::new();
+    let mut table = pool.build(3, 4, &[[1, 2, 3], [1, 2, 4], [1, 5, 6], [7, 8, 9]]).unwrap();
+    let mut keys_left = |row: &[u64]| {
+        assert_eq!(pool.remove(&mut table, row), Ok(true));
+        let header = table.header();
+        [header.data_len[0], header.data_len[1], header.data_len[2]]
+    };
+    assert_eq!(keys_left(&[1, 2, 3]), [2, 3, 3]);
+    assert_eq!(keys_left(&[1, 2, 4]), [2, 2, 2]);
+    assert_eq!(keys_left(&[1, 5, 6]), [1, 1, 1]);
+}
+
+#[test]
 fn another_pool() {
     let (_, mut table) = pairs();
     let mut other = Pool::new();
     assert_eq!(number(other.insert(&mut table, &[1, 2])), 6);
+    // Before 4.
+    assert_eq!(number(other.remove(&mut table, &[1, 2])), 6);
+    assert_eq!(number(other.remove(&mut table, &[1])), 6);
     assert_eq!(number(other.list(&table)), 6);
     assert_eq!(number(other.cursor(&table, SeekStrategy::Linear).open()), 6);
 }
@@ -111,6 +156,9 @@ fn kinds_stay() {
     assert_eq!(rows.kinds(), slope.kinds());
     let cells: Vec<_> = rows.cells().collect();
     assert_eq!(cells, [[Cell::Plain(7), Cell::Grade(-1)], [Cell::Plain(7), Cell::Grade(1)]]);
+    assert!(pool.remove_cells(&mut slope, &[Cell::Plain(7), Cell::Grade(1)]).unwrap());
+    assert!(pool.remove_cells(&mut slope, &[Cell::Plain(7), Cell::Grade(-1)]).unwrap());
+    assert_eq!((slope.len(), slope.kinds()), (0, vec![Kind::Plain, Kind::Grade]));
     assert_eq!(number(pool.build_with_kinds(&[Kind::Grade; 9], 1, &[[Cell::Grade(0); 9]])), 1);
 }
 
@@ -118,6 +166,14 @@ fn kinds_stay() {
 #[should_panic(expected = "Plain(7) in column 0, which is Grade")]
 fn a_cell_of_another_kind() {
     _ = Pool::new().build_with_kinds(&[Kind::Grade], 1, &[[Cell::Plain(7)]]);
+}
+
+#[test]
+#[should_panic(expected = "Plain(7) in column 0, which is Grade")]
+fn a_cell_of_another_kind_taken_out() {
+    let mut pool = Pool::new();
+    let mut table = pool.build_with_kinds(&[Kind::Grade], 1, &[[Cell::Grade(7)]]).unwrap();
+    _ = pool.remove_cells(&mut table, &[Cell::Plain(7)]);
 }
 
 #[test]

@@ -1,9 +1,12 @@
 -- `column_trie_insert::add_layer` meets its contract: a shift of the keys, then one of the intervals (Grows.antt).
 use native.Mathlib.Omega.{arith}
-use lib.ListN.{length}
+use lib.ListN.{length, take, drop}
 use borrow.Author.Needs.{needs}
-use Rattle.column_trie.proofs.Header.{LayerFits, layer-fits, header-told}
-use Rattle.column_trie_insert.proofs.Grows.{Keyed, keyed-long, small-left, added-new, added-old}
+use Rattle.column_trie.specs.Table.{dataLen}
+use Rattle.column_trie.proofs.Header.{LayerFits, layer-fits, header-told, length-part}
+use Rattle.wedge.proofs.Shifts.{length-wedged}
+use Rattle.layer_by_layer.proofs.Relays.{Keyed, keyed-long}
+use Rattle.column_trie_insert.proofs.Grows.{wedged-in, small-left, added-new, added-old}
 use Rattle.column_trie_insert.proofs.add_layer.Statement.{statement}
 use Rattle.column_trie_insert.proofs.add_layer.Tie as tie
 
@@ -42,17 +45,29 @@ wedge-requires : tie.Need-wedge-requires
 wedge-requires c κs = (c .before .before .before .before .before .pre .place, omega (arith, told (c .before .before .before .before .before), c .before .before .before .before .before .pre .key-room, c .before .before .before .layer-at .ensures))
 
 -- the layer once its key is in
-keyed : (c : tie.After-wedge) → Keyed (c .before .before .before .before .before .before .args .pool .now) (c .before .before .before .before .before .before .args .t2) (c .before .before .before .before .before .before .args .d) (c .before .before .before .before .before .before .args .at) (c .before .before .before .before .before .before .args .key) (c .before .before .before .before .layer-at .result) (c .wedge .last .0)
+keyed : (c : tie.After-wedge) → Keyed (wedged-in (c .before .before .before .before .before .before .args .at) (c .before .before .before .before .before .before .args .key)) (c .before .before .before .before .before .before .args .pool .now) (c .before .before .before .before .before .before .args .t2) (c .before .before .before .before .before .before .args .d) (c .before .before .before .before .layer-at .result) (c .wedge .last .0)
 keyed c =
     let s = c .before .before .before .before .before .before in
-    record { layer = told s; room = s .pre .key-room; data-from-is = c .before .before .before .before .layer-at .ensures; words = c .wedge .ensures }
+    let from = c .before .before .before .before .layer-at .result in
+    record {
+      layer = told s;
+      room =
+          omega (
+            arith,
+            length-wedged (s .args .at) (s .args .key) (take (dataLen (s .args .t2) (s .args .d)) (drop from (s .args .pool .now))),
+            length-part (s .args .pool .now) from (dataLen (s .args .t2) (s .args .d)) (omega (arith, told s, c .before .before .before .before .layer-at .ensures)),
+            s .pre .key-room,
+          );
+      data-from-is = c .before .before .before .before .layer-at .ensures;
+      words = c .wedge .ensures;
+    }
 
 wedge-raised-requires : tie.Need-wedge-raised-requires
 wedge-raised-requires c κs =
     let w = c .before .before .before .before in
     let s = w .before .before .before .before .before .before in
     let n = s .pre .new (c .before .if1 .taken) in
-    (n .0, omega (arith, keyed w, keyed-long (keyed w), n .1), λ j h k. small-left (keyed w) (s .pre .small) j (omega arith) k)
+    (n .0, omega (arith, keyed w, keyed-long (keyed w), n .1), λ j h k. small-left (s .args .at) (s .args .key) (keyed w) (s .pre .small) j (omega arith) k)
 
 add-out-2 : tie.Need-add-out-2
 add-out-2 c = omega (arith, told (c .before .before .before .before .before .before .before .before .before .before .before .before .before))
@@ -71,7 +86,7 @@ raise-requires c κs =
     let w = c .before .before .before .before in
     let s = w .before .before .before .before .before .before in
     let n = s .pre .old (c .before .if1 .left) in
-    (omega arith, omega (arith, keyed w, keyed-long (keyed w)), λ j h k. small-left (keyed w) (s .pre .small) j (omega arith) k)
+    (omega arith, omega (arith, keyed w, keyed-long (keyed w)), λ j h k. small-left (s .args .at) (s .args .key) (keyed w) (s .pre .small) j (omega arith) k)
 
 same-length : tie.Need-same-length
 same-length c = search needs
@@ -81,7 +96,7 @@ returns c =
     let w = c .before .before .before .before .before .before .before in
     let s = w .before .before .before .before .before .before in
     let f = c .before .before .before .before .if1 .taken in
-    added-new (keyed w) (s .args .i) (s .args .fresh) (c .before .before .wedge-raised .last .0) f (s .pre .new f .0) (c .before .before .wedge-raised .ensures)
+    added-new (s .args .at) (s .args .key) (keyed w) (s .args .i) (s .args .fresh) (c .before .before .wedge-raised .last .0) f (c .before .before .wedge-raised .ensures)
 
 same-length-2 : tie.Need-same-length-2
 same-length-2 c = search needs
@@ -90,7 +105,7 @@ returns-2 : tie.Need-returns-2
 returns-2 c =
     let w = c .before .before .before .before .before .before .before in
     let s = w .before .before .before .before .before .before in
-    added-old (keyed w) (s .args .i) (s .args .fresh) (c .before .before .raise .last .0) (c .before .before .before .before .if1 .left) (c .before .before .raise .ensures)
+    added-old (s .args .at) (s .args .key) (keyed w) (s .args .i) (s .args .fresh) (c .before .before .raise .last .0) (c .before .before .before .before .if1 .left) (c .before .before .raise .ensures)
 
 pub add-layer-spec : {M : Type 1} → statement M
 add-layer-spec =

@@ -1,15 +1,14 @@
 -- `column_trie_insert::add_row` meets its contract: each turn gives one layer its key (Rows.antt).
-use Prim.Native.Nat.{suc, _-_, _<_}
-use mathlib.Core.Path.{_≡_, refl, sym, subst, _∙_}
+use Prim.Native.Nat.{suc, _-_}
+use mathlib.Core.Path.{_≡_, refl, _∙_}
 use mathlib.Core.Logic.{inl, inr, ⊎-elim}
 use native.Mathlib.Omega.{arith}
 use borrow.Author.Needs.{needs}
 use Rattle.relation.proofs.Insert.{rankOf}
 use Rattle.column_trie.specs.Table.{rowsIn}
-use Rattle.column_trie.specs.declared.ColumnTrie.{ColumnTrie}
 use Rattle.column_trie.proofs.Layers.{Whole}
 use Rattle.column_trie_insert.proofs.Enters.{ready, growing-first}
-use Rattle.column_trie_insert.proofs.Rows.{Ready, Growing, placed, room-here, out-sound, pool-long, growing-step, grown-words, grown-header}
+use Rattle.column_trie_insert.proofs.Rows.{Ready, Growing, placed, room-here, grown-sound, grown-long, inside-out, growing-step, grown-words, grown-header}
 use Rattle.column_trie_insert.proofs.add_row.Statement.{statement}
 use Rattle.column_trie_insert.proofs.add_row.Tie as tie
 
@@ -40,7 +39,7 @@ loop-holds c = let s = c .before .before .before in growing-first (whole s) (s .
 begins-requires : tie.Need-begins-requires Inv-loop μ-loop
 begins-requires c κs =
     let s = c .before .before .before .before .before .before .before .before in
-    (out-sound (can s) (c .before .before .before .before .loop .inv), subst (λ (z : ColumnTrie). c .before .before .before .before .loop .d < z .arity) (sym (c .before .before .before .before .loop .inv .header)) (c .before .before .if1 .taken))
+    (grown-sound (can s) (c .before .before .before .before .loop .inv), inside-out (can s) (c .before .before .before .before .loop .inv) (c .before .before .if1 .taken))
 
 mul-add-layer : tie.Need-mul-add-layer Inv-loop μ-loop
 mul-add-layer c = omega arith
@@ -64,7 +63,7 @@ add-out : tie.Need-add-out Inv-loop μ-loop
 add-out c = omega arith
 
 same-length : tie.Need-same-length Inv-loop μ-loop
-same-length c = let s = c .before .before .before .before .before .before .before in pool-long (can s) (c .before .before .before .loop .inv)
+same-length c = let s = c .before .before .before .before .before .before .before in grown-long (can s) (c .before .before .before .loop .inv)
 
 returns : tie.Need-returns Inv-loop μ-loop
 returns c = let s = c .before .before .before .before .before .before .before in record { words = grown-words (can s) (c .before .before .before .loop .inv) (c .before .if1 .left); header = grown-header (can s) (c .before .before .before .loop .inv) (c .before .if1 .left) }

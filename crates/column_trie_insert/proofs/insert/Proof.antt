@@ -1,5 +1,5 @@
 -- `column_trie_insert::insert` meets its contract: each way out is one of Inserts.antt.
-use mathlib.Core.Path.{_≡_, refl, sym, ap, subst}
+use mathlib.Core.Path.{_≡_, refl, sym, ap, subst, _∙_}
 use mathlib.Core.Bool.{true}
 use mathlib.Core.Logic.{⊎-elim}
 use native.Mathlib.Omega.{arith}
@@ -8,8 +8,8 @@ use lib.Arith.{lt-of-le-ne}
 use Rattle.relation.proofs.Tests.{passed, failed}
 use Rattle.column_trie.specs.Table.{rowsIn, undamaged}
 use Rattle.column_trie.proofs.Layers.{Whole}
-use Rattle.column_trie_insert.specs.declared.Path.{Path}
-use Rattle.column_trie_insert.specs.Grow.{PathOf}
+use Rattle.column_trie_path.specs.declared.Path.{Path}
+use Rattle.column_trie_path.specs.Place.{PathOf}
 use Rattle.column_trie_insert.proofs.Inserts.{Located, damaged, another-length, there-already, full, taken-in, addable}
 use Rattle.column_trie_insert.proofs.insert.Statement.{statement}
 use Rattle.column_trie_insert.proofs.insert.Tie as tie
@@ -19,23 +19,23 @@ sound : (c : tie.Else1) → undamaged (c .before .before .before .before .before
 sound c = passed (c .before .undamaged .ensures) (c .if1 .left)
 
 -- the path, once the arms meet
-located : (c : tie.Joined3) → Located (c .before .before .before .before .before .before .before .before .before .args .pool .now) (c .before .before .before .before .before .before .before .before .before .args .table) (c .before .before .before .before .before .before .before .before .before .args .tuple .now) (c .if3 .path)
+located : (c : tie.Joined3) → Located (c .before .before .before .before .before .before .before .before .before .before .args .pool .now) (c .before .before .before .before .before .before .before .before .before .before .args .table) (c .before .before .before .before .before .before .before .before .before .before .args .tuple .now) (c .if3 .path)
 located c =
-    let a = c .before .before .before .before .before .before .before .before .before .args in
+    let a = c .before .before .before .before .before .before .before .before .before .before .args in
     let o : Whole (a .table) = record { data-long = search needs; interval-long = search needs } in
     ⊎-elim
     (λ w. record {
-      sound = sound (c .before .before .before .before);
-      long = c .before .before .if2 .left;
+      sound = sound (c .before .before .before .before .before);
+      long = c .before .before .before .if2 .left;
       whole = o;
       empty = λ e. absurd (w .0 .taken e);
       path = λ n. subst (λ (z : Path). PathOf (a .table .arity) (rowsIn (a .pool .now) (a .table)) (a .tuple .now) z) (sym (w .3)) (w .2 .ensures);
     })
     (λ w. record {
-      sound = sound (c .before .before .before .before);
-      long = c .before .before .if2 .left;
+      sound = sound (c .before .before .before .before .before);
+      long = c .before .before .before .if2 .left;
       whole = o;
-      empty = λ e. (ap (λ (z : Path). z .depth) (w .1), ap (λ (z : Path). z .interval) (w .1));
+      empty = λ e. (ap (λ (z : Path). z .depth) (w .1) ∙ c .before .before .top .ensures .0, ap (λ (z : Path). z .interval) (w .1) ∙ c .before .before .top .ensures .1);
       path = λ n. absurd (n (w .0 .left));
     })
     (c .if3 .came)
@@ -65,8 +65,11 @@ returns-2 c =
     let a = c .before .before .before .before .before .before .before .before .args in
     another-length (a .pool .now) (a .table) (a .tuple .now) (sound (c .before .before .before)) (c .before .if2 .taken) (c .unchanged2 .result) (c .unchanged2 .ensures)
 
+top-requires : tie.Need-top-requires
+top-requires c κs = search needs
+
 find-path-requires : tie.Need-find-path-requires
-find-path-requires c κs = (sound (c .before .before .before .before .before), c .before .before .before .if2 .left, lt-of-le-ne (omega arith) (λ z. c .before .if3 .taken (sym z)))
+find-path-requires c κs = (sound (c .before .before .before .before .before .before), c .before .before .before .before .if2 .left, lt-of-le-ne (omega arith) (λ z. c .before .if3 .taken (sym z)))
 
 unchanged-requires-3 : tie.Need-unchanged-requires-3
 unchanged-requires-3 c κs = search needs
@@ -107,6 +110,7 @@ insert-spec =
     unchanged-requires-2
     same-length-2
     returns-2
+    top-requires
     find-path-requires
     unchanged-requires-3
     same-length-3

@@ -1,5 +1,5 @@
 -- `wedge::raise` meets its contract: the words passed are one more (Raises.antt).
-use Prim.Native.Nat.{_+_, _-_}
+use Prim.Native.Nat.{suc, _+_, _-_}
 use mathlib.Core.Logic.{inr}
 use native.Mathlib.Omega.{arith}
 use native.Mathlib.Numerals.{add-one}
@@ -8,7 +8,7 @@ use Rattle.wedge.proofs.raise.Statement.{statement}
 use Rattle.wedge.proofs.raise.Tie as tie
 
 abbrev Inv-loop : tie.InvT-loop
-Inv-loop pool₀ base from n end i₀ pool i = Raising pool₀ (base + from) end pool i
+Inv-loop pool₀ base from n end i₀ pool i = Raising suc pool₀ (base + from) end pool i
 
 abbrev μ-loop : tie.MeasureT-loop
 μ-loop pool₀ base from n end i₀ pool i = end - i
@@ -20,7 +20,7 @@ add-i : tie.Need-add-i Inv-loop μ-loop
 add-i c = omega arith
 
 loop-holds : tie.Need-loop-holds Inv-loop μ-loop
-loop-holds c = raising-start (c .args .pool .now) (c .args .base + c .args .from) (c .args .base + c .args .n) (omega arith)
+loop-holds c = raising-start suc (c .args .pool .now) (c .args .base + c .args .from) (c .args .base + c .args .n) (omega arith)
 
 mul-pool : tie.Need-mul-pool Inv-loop μ-loop
 mul-pool c = omega arith

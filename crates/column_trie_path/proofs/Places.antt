@@ -1,10 +1,12 @@
 -- A key's place in its group: the group's words stand in the pool as the code cuts them out, and ascend, so the offset that a seek finds in them leads
 -- there, and is the key's place once the group's start is added.
-use Prim.Native.Nat.{ℕ, _+_, _-_, _≤_, _<_}
-use mathlib.Core.Path.{_≡_, sym, ap, subst, _∙_}
+use Prim.Native.Nat.{ℕ, suc, _+_, _-_, _≤_, _<_}
+use mathlib.Core.Path.{_≡_, sym, ap, ap₂, subst, _∙_}
 use mathlib.Core.List.{List}
 use native.Mathlib.Omega.{arith}
+use native.Mathlib.Numerals.{add-one}
 use lib.Arith.{lt-of-le-ne}
+use lib.Dec.{ltb}
 use lib.ListN.{length, take, drop, getD}
 use Rattle.relation.proofs.Tests.{not-both}
 use Rattle.seek.specs.Offset.{NonFalling, Leading}
@@ -19,7 +21,7 @@ use Rattle.column_trie.specs.declared.ColumnTrie.{ColumnTrie}
 use Rattle.column_trie.proofs.Groups.{keys-long, intervals-long, starts-group, ends-group}
 use Rattle.column_trie.proofs.Header.{LayerFits, length-part}
 use Rattle.column_trie.proofs.Words.{part-at}
-use Rattle.column_trie_insert.specs.Grow.{Grouped, KeyPlaceOf}
+use Rattle.column_trie_path.specs.Place.{Grouped, KeyPlaceOf}
 
 -- a layer in the pool, a group of it, and where the code reads that its data starts, and the group in it starts and ends
 pub record GroupAt (pool : List ℕ) (t : ColumnTrie) (d i data-from from to : ℕ) : Type 0 where
@@ -87,7 +89,7 @@ module _ {pool : List ℕ} {t : ColumnTrie} {d i data-from from to : ℕ} (u : G
         let e : from + (j - from) ≡ j = omega (arith, starts) in
         subst (λ (n : ℕ). getD (layerIn pool t d .keys) n 0 < key) e (omega (arith, l .before (j - from) (omega (arith, starts)), run-at (j - from) (omega (arith, starts, l .inside, run-long))))
 
-    pub place-sought : KeyPlaceOf (layerIn pool t d) i key (record { at = from + offset; there = hitAt (run pool data-from from to) key offset; probes = probes })
+    pub place-sought : KeyPlaceOf (layerIn pool t d) i key (record { at = from + offset; there = hitAt (run pool data-from from to) key offset; several = ltb (from + 1) to; probes = probes })
     place-sought =
         let words = run pool data-from from to in
         record {
@@ -98,5 +100,6 @@ module _ {pool : List ℕ} {t : ColumnTrie} {d i data-from from to : ℕ} (u : G
           absent = λ e k.
               let h : offset < length words = omega (arith, ends, run-long) in
               omega (arith, run-at offset (omega (arith, run-long)), lt-of-le-ne (l .stops h) (λ q. not-both (hitAt words key offset) (hit-given words key offset h (sym q)) e));
+          several = ap₂ ltb (add-one from ∙ ap suc starts) ends;
           few = probes-few c;
         }

@@ -1,8 +1,9 @@
--- `column_trie_insert::find_place` meets its contract: the seek's offset leads in the group's words (Places.antt), and halving looks at few of them.
+-- `column_trie_path::find_place` meets its contract: the seek's offset leads in the group's words (Places.antt), and halving looks at few of them.
 use Prim.Native.Nat.{_+_}
 use mathlib.Core.Path.{sym, subst}
 use native.Mathlib.Omega.{arith}
 use lib.ListN.{length}
+use lib.Dec.{ltb}
 use borrow.Author.Needs.{needs}
 use Rattle.seek.specs.Offset.{Leading}
 use Rattle.seek.specs.declared.Sought.{Sought}
@@ -10,10 +11,10 @@ use Rattle.seek.specs.declared.SeekStrategy.the-variants.{Binary}
 use Rattle.seek.proofs.Laws.{leading, binary-cost}
 use Rattle.column_trie.specs.Table.{layerIn}
 use Rattle.column_trie.proofs.Header.{LayerFits, layer-fits, header-told}
-use Rattle.column_trie_insert.specs.Grow.{KeyPlaceOf}
-use Rattle.column_trie_insert.proofs.Places.{GroupAt, index-small, group-fits, run, run-long, run-rises, place-sought}
-use Rattle.column_trie_insert.proofs.find_place.Statement.{statement}
-use Rattle.column_trie_insert.proofs.find_place.Tie as tie
+use Rattle.column_trie_path.specs.Place.{KeyPlaceOf}
+use Rattle.column_trie_path.proofs.Places.{GroupAt, index-small, group-fits, run, run-long, run-rises, place-sought}
+use Rattle.column_trie_path.proofs.find_place.Statement.{statement}
+use Rattle.column_trie_path.proofs.find_place.Tie as tie
 
 -- where the layer lies
 told : (s : tie.Start) → LayerFits (length (s .args .pool .now)) (s .args .t) (s .args .d)
@@ -76,6 +77,9 @@ add-t13 c =
     let g = group (c .before .before .before) in
     omega (arith, found (c .before) .inside, run-long g, group-fits g)
 
+add-t15 : tie.Need-add-t15
+add-t15 c = let g = group (c .before .before .before) in omega (arith, group-fits g)
+
 -- where the seek ended is the key's place, and it looked at few keys
 returns : tie.Need-returns
 returns c =
@@ -84,7 +88,7 @@ returns c =
     let words = run (args .pool .now) (b .layer-at .result) (b .before .before .begins .result) (b .before .begins2 .result) in
     let g = group b in
     subst
-    (λ (z : Sought). KeyPlaceOf (layerIn (args .pool .now) (args .t) (args .d)) (args .i) (args .key) (record { at = b .before .before .begins .result + z .offset; there = z .hit; probes = z .probes }))
+    (λ (z : Sought). KeyPlaceOf (layerIn (args .pool .now) (args .t) (args .d)) (args .i) (args .key) (record { at = b .before .before .begins .result + z .offset; there = z .hit; several = ltb (b .before .before .begins .result + 1) (b .before .begins2 .result); probes = z .probes }))
     (sym (c .before .partition-point .ensures))
     (place-sought g (leading Binary words (args .key) (run-rises g)) (binary-cost words (args .key)))
 
@@ -104,4 +108,5 @@ find-place-spec =
     part-run-end
     partition-point-requires
     add-t13
+    add-t15
     returns)

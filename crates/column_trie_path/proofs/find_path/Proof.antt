@@ -1,6 +1,7 @@
--- `column_trie_insert::find_path` meets its contract: each turn goes down one stored key (Walks.antt).
+-- `column_trie_path::find_path` meets its contract: each turn goes down one stored key (Walks.antt).
 use Prim.Native.Nat.{_-_, _<_}
 use mathlib.Core.Path.{_≡_, refl, sym, subst}
+use mathlib.Core.Logic.{inl, inr, ⊎-elim}
 use native.Mathlib.Omega.{arith}
 use lib.ListN.{getD}
 use borrow.Author.Needs.{needs}
@@ -13,16 +14,16 @@ use Rattle.column_trie.proofs.Damage.{undamaged-told, undamaged-header}
 use Rattle.column_trie.proofs.Stored.{in-pool}
 use Rattle.column_trie.proofs.Tables.{Holds, holds}
 use Rattle.column_trie.proofs.Words.{layer-is}
-use Rattle.column_trie_insert.specs.Grow.{Grouped, KeyPlaceOf}
-use Rattle.column_trie_insert.proofs.Walks.{Walking, walking-start, walking-grouped, walking-found, walking-left, walking-end}
-use Rattle.column_trie_insert.proofs.find_path.Statement.{statement}
-use Rattle.column_trie_insert.proofs.find_path.Tie as tie
+use Rattle.column_trie_path.specs.Place.{Grouped, KeyPlaceOf}
+use Rattle.column_trie_path.proofs.Walks.{Descending, descending-start, walking-grouped, descending-next, walking-left, walking-end}
+use Rattle.column_trie_path.proofs.find_path.Statement.{statement}
+use Rattle.column_trie_path.proofs.find_path.Tie as tie
 
 abbrev Inv-loop : tie.InvT-loop
-Inv-loop pool t tuple d₀ i₀ d i = Walking (t .arity) (rowsIn pool t) tuple d i
+Inv-loop pool t tuple d₀ i₀ fork₀ d i fork = Descending (t .arity) (rowsIn pool t) tuple d i fork
 
 abbrev μ-loop : tie.MeasureT-loop
-μ-loop pool t tuple d₀ i₀ d i = t .arity - d
+μ-loop pool t tuple d₀ i₀ fork₀ d i fork = t .arity - d
 
 -- the table holds its rows
 whole : (s : tie.Start Inv-loop μ-loop) → Whole (s .args .t)
@@ -46,7 +47,7 @@ place c =
     subst (λ (l : Layer). KeyPlaceOf l (c .before .before .before .before .loop .i) (getD (s .args .tuple .now) d 0) (c .find-place .result)) (layer-words s d (c .before .before .if1 .taken)) (c .find-place .ensures)
 
 loop-holds : tie.Need-loop-holds Inv-loop μ-loop
-loop-holds c = let s = c .before .before in walking-start (s .args .t .arity) (rowsIn (s .args .pool .now) (s .args .t)) (s .args .tuple .now) (omega (arith, held s .counted, s .pre .2))
+loop-holds c = let s = c .before .before in descending-start (s .args .t .arity) (rowsIn (s .args .pool .now) (s .args .t)) (s .args .tuple .now) _ refl refl (omega (arith, held s .counted, s .pre .2))
 
 mul-find-place : tie.Need-mul-find-place Inv-loop μ-loop
 mul-find-place c = omega arith
@@ -61,27 +62,30 @@ find-place-requires c κs =
     let h = c .before .if1 .taken in (
       undamaged-header (s .args .pool .now) (s .args .t) (s .pre .0),
       h,
-      subst (λ (l : Layer). Grouped l (c .before .before .before .loop .i)) (sym (layer-words s d h)) (walking-grouped (held s .width) (s .pre .1) (c .before .before .before .loop .inv) h),
+      subst (λ (l : Layer). Grouped l (c .before .before .before .loop .i)) (sym (layer-words s d h)) (walking-grouped (held s .width) (s .pre .1) (c .before .before .before .loop .inv .walk) h),
     )
 
 returns : tie.Need-returns Inv-loop μ-loop
 returns c =
     let s = c .before .before .before .before .before .before .before .before .before in
-    walking-left (held s .width) (s .pre .1) (c .before .before .before .before .before .before .loop .inv) (c .before .before .before .before .if1 .taken) refl (place (c .before .before)) (not-true _ (c .if2 .taken))
+    let v = c .before .before .before .before .before .before .loop .inv in
+    walking-left (held s .width) (s .pre .1) (v .walk) (c .before .before .before .before .if1 .taken) refl (place (c .before .before)) (not-true _ (c .if2 .taken)) (v .fork)
 
 add-d : tie.Need-add-d Inv-loop μ-loop
-add-d c = omega (arith, sound (c .before .before .before .before .before .before .before .before .before))
+add-d c = omega (arith, sound (c .before .before .before .before .before .before .before .before .before .before))
 
 loop-less : tie.Need-loop-less Inv-loop μ-loop
 loop-less c = omega arith
 
 loop-again : tie.Need-loop-again Inv-loop μ-loop
 loop-again c =
-    let s = c .before .before .before .before .before .before .before .before .before in
-    walking-found (held s .width) (s .pre .1) (c .before .before .before .before .before .before .loop .inv) (c .before .before .before .before .if1 .taken) refl (place (c .before .before)) (not-false _ (c .if2 .left))
+    let s = c .before .before .before .before .before .before .before .before .before .before in
+    let v = c .before .before .before .before .before .before .before .loop .inv in
+    descending-next (held s .width) (s .pre .1) (v .walk) (c .before .before .before .before .before .if1 .taken) refl (place (c .before .before .before)) (not-false _ (c .before .if2 .left)) (v .fork)
+    (⊎-elim (λ w. inl (w .0 .taken, w .1)) (λ w. inr (w .0 .left, w .1)) (c .if3 .came))
 
 returns-2 : tie.Need-returns-2 Inv-loop μ-loop
-returns-2 c = walking-end (c .before .before .loop .inv) (c .if1 .left)
+returns-2 c = let v = c .before .before .loop .inv in walking-end (v .walk) (v .fork) (c .if1 .left)
 
 pub find-path-spec : {M : Type 1} → statement M
 find-path-spec =

@@ -1,0 +1,4 @@
+pub mod Known
+pub mod Paths
+pub mod Places
+pub mod Walks

@@ -1,0 +1,5 @@
+pub mod Rest
+mod Shrinks
+mod Cuts
+mod Enters
+pub mod Removes

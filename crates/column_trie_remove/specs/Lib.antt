@@ -1,0 +1,2 @@
+pub mod Remove
+pub mod Shrink

@@ -1,0 +1,4 @@
+mod Mixed
+pub mod Changing
+pub mod Leaves
+pub mod Relays

@@ -1,0 +1,5 @@
+pub mod Exactly
+pub mod Untouched
+pub mod Laws
+pub mod Kept
+pub mod Pairs
