@@ -204,7 +204,7 @@ static void replay(const char *folder, const char *name, void (*one)(void))
 
 /* ---- drawn calls */
 
-static uint64_t state = UINT64_C(88172645463325252), sum = UINT64_C(14695981039346656037), calls, refusals[17];
+static uint64_t state = UINT64_C(88172645463325252), sum = UINT64_C(14695981039346656037), calls, refusals[18];
 
 static uint64_t draw(uint64_t below)
 {
@@ -327,6 +327,65 @@ static void rise(uint64_t *pool, uint64_t len, ducatbriar_table t)
     *word = kept;
 }
 
+static void add_pair(ducatbriar_laid_cursor c)
+{
+    add_cursor(c.school), add_cursor(c.maker);
+}
+
+/* A number among few, so that it is often a place. */
+static ducatbriar_cursor drawn_cursor(void)
+{
+    uint64_t depth = draw(4), interval_i = draw(4), slice_offset = draw(2) ? draw(4) : draw(20);
+    ducatbriar_cursor c = {depth, interval_i, slice_offset};
+    return c;
+}
+
+/* Lookups and a walk in one table laid over another. */
+static void walk_both(const uint64_t *pool, uint64_t len, ducatbriar_table school, ducatbriar_table maker)
+{
+    for (int i = 0; i < 4; i++) {
+        uint64_t first = key();
+        ducatbriar_looked_up f = ducatbriar_lookup(pool, len, school, pool, len, maker, first);
+        add_number(f.number), add(f.from_school), add(f.from), add(f.len);
+        add_words(ducatbriar_run(f, pool, pool), f.len);
+    }
+    ducatbriar_laid_cursor c = {{0, 0, 0}, {0, 0, 0}};
+    if (draw(6) == 0)
+        c.school = drawn_cursor(), c.maker = drawn_cursor();
+    for (int i = 0; i < 24; i++) {
+        uint64_t kind = draw(6);
+        if (kind <= 1) {
+            ducatbriar_laid_next_answer a = ducatbriar_laid_next(pool, len, school, pool, len, maker, c);
+            add_number(a.number), add(a.found), add(a.key), add_pair(c = a.cursor);
+        } else if (kind <= 3) {
+            ducatbriar_laid_open_answer a = ducatbriar_laid_open(pool, len, school, pool, len, maker, c);
+            add_number(a.number), add(a.opened), add_pair(c = a.cursor);
+        } else if (kind == 4) {
+            ducatbriar_laid_up_answer a = ducatbriar_laid_up(pool, len, school, pool, len, maker, c);
+            add_number(a.number), add(a.risen), add_pair(c = a.cursor);
+        } else {
+            uint64_t strategy = draw(4), target = key();
+            ducatbriar_laid_seek_answer a = ducatbriar_laid_seek(pool, len, school, pool, len, maker, c, strategy, target);
+            add_number(a.number), add(a.found), add(a.hit), add(a.probes), add_pair(c = a.cursor);
+        }
+        ducatbriar_key_answer k = ducatbriar_laid_key(pool, len, school, pool, len, maker, c);
+        ducatbriar_end_answer e = ducatbriar_laid_at_end(pool, len, school, pool, len, maker, c);
+        add_number(k.number), add(k.found), add(k.key), add_number(e.number), add(e.at_end);
+    }
+}
+
+/* A table of the same arity and kinds, if one is found, so that most pairs pass 17. */
+static uint64_t another(const ducatbriar_tables *ts, uint64_t table)
+{
+    uint64_t other = draw(ts->count);
+    for (uint64_t i = 0; i < ts->count; i++) {
+        if (ts->tables[other].arity == ts->tables[table].arity && memcmp(ts->tables[other].grade, ts->tables[table].grade, sizeof ts->tables[table].grade) == 0)
+            break;
+        other = (other + 1) % ts->count;
+    }
+    return draw(8) ? other : draw(ts->count);
+}
+
 /* A query that follows the order drawn, over tables of these arities. */
 static ducatbriar_query query_over(const ducatbriar_tables *ts)
 {
@@ -348,6 +407,8 @@ static ducatbriar_query query_over(const ducatbriar_tables *ts)
                 gap--;
             else
                 a->variables[a->len++] = q.order[v];
+        a->laid_over = draw(2);
+        a->maker = a->laid_over ? another(ts, a->table) : draw(16);
     }
     return q;
 }
@@ -365,6 +426,8 @@ static void query(const uint64_t *pool, uint64_t len, ducatbriar_tables ts)
         q.atoms[where % q.atom_count].table = word;
     if (draw(24) == 0)
         q.atoms[where % q.atom_count].len = word;
+    if (draw(24) == 0)
+        q.atoms[where % q.atom_count].maker = word;
     if (draw(24) == 0)
         q.n = word;
     if (draw(24) == 0)
@@ -498,6 +561,8 @@ static void round_of_calls(void)
         walk(pool, COUNT(pool), ts.tables[i]);
         rise(pool, COUNT(pool), ts.tables[i]);
     }
+    for (uint64_t i = 0; i < ts.count; i++)
+        walk_both(pool, COUNT(pool), ts.tables[i], ts.tables[another(&ts, i)]);
     for (int i = 0; i < 8; i++)
         query(pool, COUNT(pool), ts);
     add_words(pool, COUNT(pool));
@@ -618,7 +683,9 @@ static void limits(void)
     walk(pool, COUNT(pool), t);
     for (uint64_t strategy = 0; strategy < 3; strategy++) {
         ducatbriar_tables ts = {1, {t}};
-        ducatbriar_query q = {3, {0, 1, 2}, 2, {{0, 2, {0, 2}}, {0, 2, {1, 2}}}};
+        ducatbriar_query q = {.n = 3, .order = {0, 1, 2}, .atom_count = 2};
+        q.atoms[0] = (ducatbriar_atom){.table = 0, .len = 2, .variables = {0, 2}};
+        q.atoms[1] = (ducatbriar_atom){.table = 0, .len = 2, .variables = {1, 2}, .laid_over = strategy > 0};
         uint64_t from = draw(1000), target = draw(UINT64_C(1) << 40);
         ducatbriar_joined j = ducatbriar_join(strategy, pool, COUNT(pool), ts, q, window, COUNT(window));
         add_number(j.number), add(j.rows), add(j.seeks), add_words(window, COUNT(window));

@@ -106,7 +106,7 @@ int main(void)
         ts.tables[i] = ducatbriar_build(pairs, 8, pool, 4096, i * 64, 2, 16, plain).table;
         q.order[i] = i;
         uint64_t v = i < 7 ? i : 0;
-        q.atoms[i] = (ducatbriar_atom){i, 2, {v, i < 7 ? v + 1 : 7}};
+        q.atoms[i] = (ducatbriar_atom){.table = i, .len = 2, .variables = {v, i < 7 ? v + 1 : 7}};
     }
     file_len = ducatbriar_write(pool, 4096, ts.tables[0], file, sizeof file).len;
     measure("join", join);

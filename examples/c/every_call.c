@@ -1,5 +1,6 @@
 /* Uses every call once or more, over keys that need more than 32 bits: a lesson's stretches of road and their grades, walked by a cursor, joined with the
- * friction of their surfaces into a window that is too small, and then into one that isn't; the grades go to another unit as a file, and at the end a stretch is taken out.
+ * friction of their surfaces into a window that is too small, and then into one that isn't; the grades go to another unit as a file; a school's own friction is
+ * laid over the maker's, and at the end a stretch is taken out.
  *
  * Road: (surface, stretch). Grades: (grade, stretch), a grade as its word. Friction: (surface, thousandths). Each check that fails ends the program. */
 #include <inttypes.h>
@@ -15,13 +16,15 @@
 /* Cut to 32 bits both would be 5. */
 #define WET_COBBLES KIND(7, 5)
 #define ICY_COBBLES KIND(9, 5)
+#define WET_GRAVEL KIND(7, 6)
+#define ICY_GRAVEL KIND(9, 6)
 
 enum { CAPACITY = 4, WORDS = DUCATBRIAR_WORDS(2, CAPACITY), STRETCHES = 3 };
 
 /* Where each table starts. */
-enum { ROAD = 0, GRADES = WORDS, FRICTION = 2 * WORDS };
+enum { ROAD = 0, GRADES = WORDS, FRICTION = 2 * WORDS, SCHOOL = 3 * WORDS };
 
-static uint64_t pool[3 * WORDS];
+static uint64_t pool[4 * WORDS];
 
 /* Goes on only where the call did what was asked. */
 static void done(const char *what, uint64_t number)
@@ -72,6 +75,13 @@ static ducatbriar_table friction(void)
         table = answer.table;
     }
     return table;
+}
+
+/* What the school measured itself: wet cobbles anew, and gravel, of which the maker says nothing. */
+static ducatbriar_table school_friction(void)
+{
+    uint64_t rows[] = {WET_COBBLES, 430, WET_GRAVEL, 550};
+    return built("the school's friction", rows, COUNT(rows), SCHOOL, plain);
 }
 
 /* A text that is never too short for a table of this size. */
@@ -187,18 +197,83 @@ static void join_kinds(ducatbriar_tables tables)
     printf("surfaces joined to grades: %s\n", ducatbriar_meaning(answer.number));
 }
 
+/* One of each surface: the school's, if it has one, else the maker's. */
+static void look_up(ducatbriar_table school, ducatbriar_table maker)
+{
+    const uint64_t surfaces[] = {WET_COBBLES, WET_GRAVEL, ICY_COBBLES, ICY_GRAVEL};
+    for (uint64_t i = 0; i < COUNT(surfaces); i++) {
+        ducatbriar_looked_up found = ducatbriar_lookup(pool, COUNT(pool), school, pool, COUNT(pool), maker, surfaces[i]);
+        done("the lookup", found.number);
+        const uint64_t *run = ducatbriar_run(found, pool, pool);
+        if (run) {
+            printf("surface %" PRIu64 ": 0.%03" PRIu64 ", %s\n", surfaces[i], run[0], found.from_school ? "the school's" : "the maker's");
+        } else {
+            printf("surface %" PRIu64 ": no friction\n", surfaces[i]);
+        }
+    }
+}
+
+/* The frictions that count, surface by surface, from the icy ones on. */
+static void walk_both(ducatbriar_table school, ducatbriar_table maker)
+{
+    const uint64_t len = COUNT(pool);
+    ducatbriar_laid_cursor root = {{0, 0, 0}, {0, 0, 0}};
+    ducatbriar_laid_open_answer top = ducatbriar_laid_open(pool, len, school, pool, len, maker, root);
+    done("open", top.number);
+    ducatbriar_laid_next_answer second = ducatbriar_laid_next(pool, len, school, pool, len, maker, top.cursor);
+    done("next", second.number);
+    printf("the second surface: %" PRIu64 "\n", second.key);
+    ducatbriar_laid_seek_answer icy = ducatbriar_laid_seek(pool, len, school, pool, len, maker, second.cursor, DUCATBRIAR_BINARY, KIND(9, 0));
+    done("seek", icy.number);
+    ducatbriar_laid_open_answer below = ducatbriar_laid_open(pool, len, school, pool, len, maker, icy.cursor);
+    done("open", below.number);
+    ducatbriar_key_answer key = ducatbriar_laid_key(pool, len, school, pool, len, maker, below.cursor);
+    done("key", key.number);
+    printf("from %" PRIu64 " on, probes %" PRIu64 ": 0.%03" PRIu64 "\n", KIND(9, 0), icy.probes, key.key);
+    ducatbriar_laid_up_answer up = ducatbriar_laid_up(pool, len, school, pool, len, maker, below.cursor);
+    done("up", up.number);
+    ducatbriar_laid_next_answer last = ducatbriar_laid_next(pool, len, school, pool, len, maker, up.cursor);
+    done("next", last.number);
+    printf("at the end: %s\n", ducatbriar_laid_at_end(pool, len, school, pool, len, maker, last.cursor).at_end ? "yes" : "no");
+    ducatbriar_laid_cursor apart = {top.cursor.school, root.maker};
+    printf("a pair that is no state: %s\n", ducatbriar_meaning(ducatbriar_laid_key(pool, len, school, pool, len, maker, apart).number));
+}
+
+/* Variables: 0 surface, 1 stretch, 2 friction. The road's frictions, the school's laid over the maker's; then laid over a table of other kinds. */
+static void join_both(ducatbriar_tables tables)
+{
+    ducatbriar_query query = {
+        .n = 3,
+        .order = {0, 1, 2},
+        .atom_count = 2,
+        .atoms = {{.table = 0, .len = 2, .variables = {0, 1}}, {.table = 3, .len = 2, .variables = {0, 2}, .laid_over = true, .maker = 2}},
+    };
+    uint64_t window[3 * STRETCHES];
+    ducatbriar_joined answer = ducatbriar_join(DUCATBRIAR_GALLOPING, pool, COUNT(pool), tables, query, window, COUNT(window));
+    done("the join", answer.number);
+    for (uint64_t i = 0; i < answer.rows; i++) {
+        printf("surface %" PRIu64 ", stretch %" PRIu64 ": 0.%03" PRIu64 "\n", window[3 * i], window[3 * i + 1], window[3 * i + 2]);
+    }
+    query.atoms[1].maker = 1;
+    answer = ducatbriar_join(DUCATBRIAR_GALLOPING, pool, COUNT(pool), tables, query, window, COUNT(window));
+    printf("frictions over grades: %s\n", ducatbriar_meaning(answer.number));
+}
+
 int main(void)
 {
     const uint64_t run[] = {2, 4, 6, 8, 10, 12, 14, 16};
     ducatbriar_sought sought = ducatbriar_partition_point(DUCATBRIAR_GALLOPING, run, COUNT(run), 7);
     printf("version " DUCATBRIAR_VERSION "\n7 in 2 4 .. 16: offset %" PRIu64 ", probes %" PRIu64 "\n", sought.offset, sought.probes);
 
-    ducatbriar_tables tables = {.count = 3, .tables = {road(), grades(), friction()}};
+    ducatbriar_tables tables = {.count = 4, .tables = {road(), grades(), friction(), school_friction()}};
     list(tables.tables[0]);
     carry(tables.tables[1]);
     walk(tables.tables[0]);
     join(tables);
     join_kinds(tables);
+    look_up(tables.tables[3], tables.tables[2]);
+    walk_both(tables.tables[3], tables.tables[2]);
+    join_both(tables);
 
     tables.tables[0] = close_stretch(tables.tables[0]);
     pool[ROAD + CAPACITY] = 1; /* the first interval, which is 0 in every table */

@@ -11,11 +11,11 @@ use Rattle.relation.proofs.Sequence.{exactly-then, exactly-same}
 use Rattle.query.specs.Meaning.{Listing}
 use Rattle.query.proofs.Unique.{unique}
 use Rattle.join_query.specs.Query.{orderOf, atomsOf, joinNumber, Accepted}
-use Rattle.join_query.specs.Facts.{Typed, Ordered, Named, AllFollow, Covered, SameKinds, WholeRows, SoundTables, Passing}
+use Rattle.join_query.specs.Facts.{Typed, Ordered, Named, AllFollow, Covered, SameKinds, WholeRows, SoundTables, SameShapes, Passing}
 use Rattle.join_query.specs.Outcome.{listed, outcome}
 use Rattle.join_query.specs.declared.Query.{Query}
 use Rattle.join_query.specs.declared.Tables.{Tables}
-use Rattle.join_query.proofs.Exactly.{checks-8, checks-9, checks-10, checks-11, checks-15, checks-16, checks-6, checks-0, not-12, answered-by, answered-late}
+use Rattle.join_query.proofs.Exactly.{checks-8, checks-9, checks-10, checks-11, checks-15, checks-16, checks-6, checks-17, checks-0, not-12, answered-by, answered-late}
 use Rattle.leapfrog_triejoin.specs.Outcome.{Joins}
 use Rattle.leapfrog_triejoin.specs.declared.Joined.{Joined}
 use Rattle.demand_3.proofs.Theorems.{demand-3}
@@ -30,7 +30,7 @@ module _ {pool : List ℕ} {ts : Tables} {q : Query} {window : List ℕ} {r : Jo
   pub number-8-exactly : Exactly (r .number ≡ 8) (Ordered q → ⊥)
   number-8-exactly = exactly-then (by-checks 8 (λ e. omega arith) (λ e. omega arith)) (checks-8 pool ts q (length window) y)
 
-  -- "over 8 atoms or tables, or an atom names no table"
+  -- "over 8 atoms or tables, or an atom names no table": neither as its table nor, laid over, as its maker's
   pub number-9-exactly : Exactly (r .number ≡ 9) (Ordered q × (Named (ts .count) q → ⊥))
   number-9-exactly = exactly-then (by-checks 9 (λ e. omega arith) (λ e. omega arith)) (checks-9 pool ts q (length window) y)
 
@@ -50,9 +50,13 @@ module _ {pool : List ℕ} {ts : Tables} {q : Query} {window : List ℕ} {r : Jo
   pub number-16-exactly : Exactly (r .number ≡ 16) (Ordered q × (Named (ts .count) q × (AllFollow ts q × (Covered q × (SameKinds ts q × (WholeRows (q .n) (length window) → ⊥))))))
   number-16-exactly = exactly-then (by-checks 16 (λ e. omega arith) (λ e. omega arith)) (checks-16 pool ts q (length window) y)
 
-  -- "damaged table"; "only tables that atoms name are checked"
+  -- "damaged table"; "only tables that atoms name are checked", both where it is laid over
   pub number-6-exactly : Exactly (r .number ≡ 6) (Ordered q × (Named (ts .count) q × (AllFollow ts q × (Covered q × (SameKinds ts q × (WholeRows (q .n) (length window) × (SoundTables pool ts q → ⊥)))))))
   number-6-exactly = exactly-then (by-checks 6 (λ e. omega arith) (λ e. omega arith)) (checks-6 pool ts q (length window) y)
+
+  -- "lay one table over another of the same arity and kinds (else new 17, after 6 on either and before 12)"
+  pub number-17-exactly : Exactly (r .number ≡ 17) (Ordered q × (Named (ts .count) q × (AllFollow ts q × (Covered q × (SameKinds ts q × (WholeRows (q .n) (length window) × (SoundTables pool ts q × (SameShapes ts q → ⊥))))))))
+  number-17-exactly = exactly-then (by-checks 17 (λ e. omega arith) (λ e. omega arith)) (checks-17 pool ts q (length window) y)
 
   module _ {rows : List Row} (l : Listing (q .n) (orderOf q) (atomsOf pool ts q) rows) where
     abbrev More : Type 0

@@ -6,7 +6,7 @@ use mathlib.Core.Bool.{Bool, true, false, _&&_}
 use mathlib.Core.Logic.{inl, inr}
 use mathlib.Core.List.{List, [], _++_}
 use lib.ListN.{length, take, drop}
-use lib.Dec.{eqb, ltb, leb}
+use lib.Dec.{leb}
 use borrow.Author.Tests.{le-leb}
 use Rattle.relation.specs.Order.{Row, pick}
 use Rattle.relation.specs.Lists.{Ascends}
@@ -29,15 +29,14 @@ use denote.Ref.{RefT, now}
 use Rattle.seek.specs.declared.SeekStrategy.{SeekStrategy}
 use Rattle.leapfrog.specs.Walk.{walkOf, joinSeeks}
 use Rattle.query.specs.Limits.{maxAtoms}
-use Rattle.join_query.specs.Query.{maxTables, maxVariables, atomAt, orderOf, listsOf, atomsOf, orderOk, namedOk, listOk, oneKind, wholeRows, named, soundAt, joinNumber, Accepted}
+use Rattle.join_query.specs.Query.{maxTables, maxVariables, orderOf, listsOf, atomsOf, orderOk, namedOk, listOk, oneKind, wholeRows, names, named, soundAt, shapeOk, joinNumber, Accepted}
 use Rattle.join_query.specs.Facts.{WholeRows}
 use Rattle.join_query.specs.Outcome.{listed, outcome}
 use Rattle.leapfrog_triejoin.specs.Outcome.{seeksAt, Joins}
-use Rattle.join_query.specs.declared.Atom.{Atom}
 use Rattle.leapfrog_triejoin.specs.declared.Joined.{Joined}
 use Rattle.join_query.specs.declared.Query.{Query}
 use Rattle.join_query.specs.declared.Tables.{Tables}
-use Rattle.join_query.proofs.Lists.{number-0, passed-all, sound-unnamed}
+use Rattle.join_query.proofs.Lists.{namesOne, number-0, passed-all, sound-unnamed}
 use Rattle.join_query.proofs.Accepted.{passes}
 use Rattle.join_query.proofs.Exactly.{rows-decide}
 use Rattle.leapfrog_triejoin.proofs.Determined.{one-answer, one-window}
@@ -74,10 +73,11 @@ refused-leaves-the-window {pool} {ts} {q} {window} number e j =
 
 -- ---- demand 3
 
--- "for every query that passes document 01's checks", 15 and 16 of document 02 among them
+-- "for every query that passes document 01's checks", 15, 16 and 17 of document 02 among them
 pub record Demand3 (pool : List ℕ) (ts : Tables) (q : Query) (window : List ℕ) (r : Joined) (after : List ℕ) : Type 0 where
   pub rows : List Row
-  -- "the rows are exactly the assignments of words to variables whose part for each atom is a stored row: each once, ascending as read in the query's order"
+  -- "the rows are exactly the assignments of words to variables whose part for each atom is a stored row: each once, ascending as read in the query's order";
+  -- where the atom is laid over, "'stored row' then reads as a row that counts"
   pub exactly : Listing (q .n) (orderOf q) (atomsOf pool ts q) rows
   pub each-once : Ascends (λ (a b : Row). a ≡ b → ⊥) rows
   -- "A small window receives the first rows that fit", by variable number, and words behind them stay
@@ -177,13 +177,14 @@ module _ (pool : List ℕ) (ts : Tables) (q : Query) (variables : q .n ≡ 0) (n
       let every-one : (p : ℕ → Bool) → index.every (q .«atom_count») p ≡ true = λ p. subst (λ (m : ℕ). index.every m p ≡ true) (sym no-atoms) (every-none p) in
       sym (number-0 pool ts q len
       (and-true (leb (q .n) maxVariables) (permutes (q .n) (orderOf q)) (le-leb (q .n) maxVariables (omega arith)) (subst (λ (m : ℕ). permutes m (take m (q .order)) ≡ true) (sym variables) refl))
-      (and-true (leb (q .«atom_count») maxAtoms) (leb (ts .count) maxTables && index.every (q .«atom_count») (λ (i : ℕ). ltb (atomAt q i .table) (ts .count))) (le-leb (q .«atom_count») maxAtoms (omega arith))
-      (and-true (leb (ts .count) maxTables) (index.every (q .«atom_count») (λ (i : ℕ). ltb (atomAt q i .table) (ts .count))) (le-leb (ts .count) maxTables few) (every-one (λ (i : ℕ). ltb (atomAt q i .table) (ts .count)))))
+      (and-true (leb (q .«atom_count») maxAtoms) (leb (ts .count) maxTables && index.every (q .«atom_count») (namesOne (ts .count) q)) (le-leb (q .«atom_count») maxAtoms (omega arith))
+      (and-true (leb (ts .count) maxTables) (index.every (q .«atom_count») (namesOne (ts .count) q)) (le-leb (ts .count) maxTables few) (every-one (namesOne (ts .count) q))))
       (every-one (listOk ts q))
       (subst (λ (m : ℕ). covers m (listsOf q) ≡ true) (sym variables) refl)
       (subst (λ (m : ℕ). index.every m (oneKind ts q) ≡ true) (sym variables) (every-none (oneKind ts q)))
       (subst (λ (m : ℕ). wholeRows m len ≡ true) (sym variables) refl)
-      (every-all (soundAt pool ts q) (ts .count) (λ t h. sound-unnamed pool ts q t (subst (λ (m : ℕ). some (λ (a : Atom). eqb (a .table) t) (take m (q .atoms)) ≡ false) (sym no-atoms) refl))))
+      (every-all (soundAt pool ts q) (ts .count) (λ t h. sound-unnamed pool ts q t (subst (λ (m : ℕ). some (names t) (take m (q .atoms)) ≡ false) (sym no-atoms) refl)))
+      (every-one (shapeOk ts q)))
 
   pub one-empty-row : {window : List ℕ} {r : Joined} {after : List ℕ} → Joins pool ts q window r after → EmptyRow window r after
   unfolding told seeksAt

@@ -30,6 +30,13 @@ use Rattle.ducatbriar.proofs.ducatbriar_seek.Reads as seek-reads
 use Rattle.ducatbriar.proofs.ducatbriar_at_end.Reads as at-end-reads
 use Rattle.ducatbriar.proofs.ducatbriar_open.Reads as open-reads
 use Rattle.ducatbriar.proofs.ducatbriar_up.Reads as up-reads
+use Rattle.ducatbriar.proofs.ducatbriar_lookup.Reads as lookup-reads
+use Rattle.ducatbriar.proofs.ducatbriar_laid_key.Reads as laid-key-reads
+use Rattle.ducatbriar.proofs.ducatbriar_laid_next.Reads as laid-next-reads
+use Rattle.ducatbriar.proofs.ducatbriar_laid_seek.Reads as laid-seek-reads
+use Rattle.ducatbriar.proofs.ducatbriar_laid_at_end.Reads as laid-at-end-reads
+use Rattle.ducatbriar.proofs.ducatbriar_laid_open.Reads as laid-open-reads
+use Rattle.ducatbriar.proofs.ducatbriar_laid_up.Reads as laid-up-reads
 use Rattle.ducatbriar.proofs.ducatbriar_join.Reads as join-reads
 
 -- ---- calls that write nothing: one answer for each list of arguments
@@ -69,6 +76,27 @@ opened κs args r₁ r₂ e₁ e₂ p q = p ∙ sym q
 
 pub up : (κs : Lfts 1) → OneAnswer (up-reads.Post κs)
 up κs args r₁ r₂ e₁ e₂ p q = p ∙ sym q
+
+pub lookup : (κs : Lfts 2) → OneAnswer (lookup-reads.Post κs)
+lookup κs args r₁ r₂ e₁ e₂ p q = p ∙ sym q
+
+pub laid-key : (κs : Lfts 2) → OneAnswer (laid-key-reads.Post κs)
+laid-key κs args r₁ r₂ e₁ e₂ p q = p ∙ sym q
+
+pub laid-next : (κs : Lfts 2) → OneAnswer (laid-next-reads.Post κs)
+laid-next κs args r₁ r₂ e₁ e₂ p q = p ∙ sym q
+
+pub laid-seek : (κs : Lfts 2) → OneAnswer (laid-seek-reads.Post κs)
+laid-seek κs args r₁ r₂ e₁ e₂ p q = p ∙ sym q
+
+pub laid-at-end : (κs : Lfts 2) → OneAnswer (laid-at-end-reads.Post κs)
+laid-at-end κs args r₁ r₂ e₁ e₂ p q = p ∙ sym q
+
+pub laid-open : (κs : Lfts 2) → OneAnswer (laid-open-reads.Post κs)
+laid-open κs args r₁ r₂ e₁ e₂ p q = p ∙ sym q
+
+pub laid-up : (κs : Lfts 2) → OneAnswer (laid-up-reads.Post κs)
+laid-up κs args r₁ r₂ e₁ e₂ p q = p ∙ sym q
 
 -- ---- calls that write: one answer, and what they leave of the words lent, which `left` finds among the arguments at the return
 

@@ -14,6 +14,8 @@ ghost use Rattle.file_read.specs.Read.{Reads};
 ghost use Rattle.file_write.specs.Write.{Writes};
 ghost use Rattle.column_trie_listing.specs.List.{Lists};
 ghost use Rattle.column_trie_iter.specs.Cursor.{keyOf, nextOf, soughtOf, endOf, openOf, upOf};
+ghost use Rattle.overlay_lookup.specs.Lookup.{lookedUp};
+ghost use Rattle.overlay_iter.specs.Calls.{laidKeyOf, laidNextOf, laidSoughtOf, laidEndOf, laidOpenOf, laidUpOf};
 ghost use Rattle.leapfrog_triejoin.specs.Outcome.{Joins};
 ghost use Rattle.ducatbriar.specs.Strategy.{strategyOf};
 use column_trie::ColumnTrie;
@@ -32,6 +34,12 @@ use from_sorted::Built;
 use join_query::Query;
 use join_query::Tables;
 use leapfrog_triejoin::Joined;
+use overlay_iter::LaidNextAnswer;
+use overlay_iter::LaidOpenAnswer;
+use overlay_iter::LaidSeekAnswer;
+use overlay_iter::LaidUpAnswer;
+use overlay_lookup::LookedUp;
+use overlay_place::LaidIter;
 use seek::SeekStrategy;
 use seek::Sought;
 
@@ -205,6 +213,107 @@ pub extern "C" fn ducatbriar_up(pool: &[u64], table: ColumnTrie, iter: ColumnTri
     ensures { λ r. ⌜ r ≡ upOf (now (pool .entry)) table iter ⌝ }
 {
     column_trie_iter::up(pool, table, iter)
+}
+
+#[no_mangle]
+pub extern "C" fn ducatbriar_lookup(
+    school_pool: &[u64],
+    school: ColumnTrie,
+    maker_pool: &[u64],
+    maker: ColumnTrie,
+    key: u64,
+) -> LookedUp
+    ensures { λ r. ⌜ r ≡ lookedUp (now («school_pool» .entry)) school (now («maker_pool» .entry)) maker key ⌝ }
+{
+    overlay_lookup::lookup(school_pool, school, maker_pool, maker, key)
+}
+
+#[no_mangle]
+pub extern "C" fn ducatbriar_laid_key(
+    school_pool: &[u64],
+    school: ColumnTrie,
+    maker_pool: &[u64],
+    maker: ColumnTrie,
+    iter: LaidIter,
+) -> KeyAnswer
+    ensures { λ r. ⌜ r ≡ laidKeyOf (now («school_pool» .entry)) school (now («maker_pool» .entry)) maker iter ⌝ }
+{
+    overlay_iter::key(school_pool, school, maker_pool, maker, iter)
+}
+
+#[no_mangle]
+pub extern "C" fn ducatbriar_laid_next(
+    school_pool: &[u64],
+    school: ColumnTrie,
+    maker_pool: &[u64],
+    maker: ColumnTrie,
+    iter: LaidIter,
+) -> LaidNextAnswer
+    ensures { λ r. ⌜ r ≡ laidNextOf (now («school_pool» .entry)) school (now («maker_pool» .entry)) maker iter ⌝ }
+{
+    overlay_iter::next(school_pool, school, maker_pool, maker, iter)
+}
+
+#[no_mangle]
+pub extern "C" fn ducatbriar_laid_seek(
+    school_pool: &[u64],
+    school: ColumnTrie,
+    maker_pool: &[u64],
+    maker: ColumnTrie,
+    iter: LaidIter,
+    strategy: u64,
+    target: u64,
+) -> LaidSeekAnswer
+    ensures { λ r. ⌜ r ≡ laidSoughtOf (now («school_pool» .entry)) school (now («maker_pool» .entry)) maker iter (strategyOf strategy) target ⌝ }
+{
+    overlay_iter::seek(
+        school_pool,
+        school,
+        maker_pool,
+        maker,
+        iter,
+        strategy_of(strategy),
+        target,
+    )
+}
+
+#[no_mangle]
+pub extern "C" fn ducatbriar_laid_at_end(
+    school_pool: &[u64],
+    school: ColumnTrie,
+    maker_pool: &[u64],
+    maker: ColumnTrie,
+    iter: LaidIter,
+) -> EndAnswer
+    ensures { λ r. ⌜ r ≡ laidEndOf (now («school_pool» .entry)) school (now («maker_pool» .entry)) maker iter ⌝ }
+{
+    overlay_iter::at_end(school_pool, school, maker_pool, maker, iter)
+}
+
+#[no_mangle]
+pub extern "C" fn ducatbriar_laid_open(
+    school_pool: &[u64],
+    school: ColumnTrie,
+    maker_pool: &[u64],
+    maker: ColumnTrie,
+    iter: LaidIter,
+) -> LaidOpenAnswer
+    ensures { λ r. ⌜ r ≡ laidOpenOf (now («school_pool» .entry)) school (now («maker_pool» .entry)) maker iter ⌝ }
+{
+    overlay_iter::open(school_pool, school, maker_pool, maker, iter)
+}
+
+#[no_mangle]
+pub extern "C" fn ducatbriar_laid_up(
+    school_pool: &[u64],
+    school: ColumnTrie,
+    maker_pool: &[u64],
+    maker: ColumnTrie,
+    iter: LaidIter,
+) -> LaidUpAnswer
+    ensures { λ r. ⌜ r ≡ laidUpOf (now («school_pool» .entry)) school (now («maker_pool» .entry)) maker iter ⌝ }
+{
+    overlay_iter::up(school_pool, school, maker_pool, maker, iter)
 }
 
 #[no_mangle]

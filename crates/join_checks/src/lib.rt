@@ -1,4 +1,4 @@
-// The checks of a query, in document 01's sequence, with 15 and 16 of document 02 behind 11. `refusal` asks nothing; the others are internal, and some ask of their caller what an earlier check found.
+// The checks of a query, in document 01's sequence, with 15 and 16 of document 02 behind 11 and 17 behind 6. `refusal` asks nothing; the others are internal, and some ask of their caller what an earlier check found.
 ghost use mathlib.Core.Path.{_≡_};
 ghost use mathlib.Core.Bool.{true};
 ghost use mathlib.Core.List.{List};
@@ -10,13 +10,14 @@ ghost use Rattle.query.specs.Solve.{headed};
 ghost use Rattle.query.specs.Checks.{some, covers};
 ghost use Rattle.column_trie.specs.Limits.{maxArity};
 ghost use Rattle.query.specs.Limits.{maxAtoms};
-ghost use Rattle.join_query.specs.Query.{maxVariables, varsOf, listsOf, orderOk, namedOk, listedAt, listOk, columnOk, bindsOnly, oneKind, wholeRows, named, soundAt, joinNumber};
+ghost use Rattle.join_query.specs.Query.{maxTables, maxVariables, tableAt, varsOf, listsOf, orderOk, namesSome, namedOk, listedAt, listOk, columnOk, bindsOnly, oneKind, wholeRows, names, named, soundAt, shapesAgree, shapeOk, joinNumber};
 ghost use Rattle.join_query.specs.Checking.{reached, Listed};
 use column_trie::ColumnTrie;
 use column_trie::undamaged;
 use join_query::Atom;
 use join_query::Query;
 use join_query::Tables;
+use laid_over::same_shape;
 
 // Whether v is one of the first `len` numbers of the list.
 fn holds(list: [usize; ColumnTrie::MAX_ARITY], len: usize, v: usize) -> bool
@@ -56,7 +57,14 @@ fn order_ok(q: Query) -> bool
     true
 }
 
-// Not 9: there are at most 8 atoms and tables, and each atom names a table.
+// Whether the atom's table is one of `count`, and its maker's where it is laid over.
+fn names_some(count: usize, a: Atom) -> bool
+    ensures { λ r. ⌜ r ≡ namesSome count a ⌝ }
+{
+    a.table < count && (!a.laid_over || a.maker < count)
+}
+
+// Not 9: there are at most 8 atoms and tables, and each atom names tables.
 fn named_ok(count: usize, q: Query) -> bool
     ensures { λ r. ⌜ r ≡ namedOk count q ⌝ }
 {
@@ -69,7 +77,7 @@ fn named_ok(count: usize, q: Query) -> bool
     let mut i = 0;
     while i < q.atom_count {
         let a = q.atoms[i];
-        if count <= a.table {
+        if !names_some(count, a) {
             return false;
         }
         i += 1;
@@ -221,6 +229,13 @@ fn rows_ok(n: usize, len: usize) -> bool
     n == 0 || len % n == 0
 }
 
+// Whether the atom names table t: as its table, or as its maker's where it is laid over.
+fn names(a: Atom, t: usize) -> bool
+    ensures { λ r. ⌜ r ≡ names t a ⌝ }
+{
+    a.table == t || (a.laid_over && a.maker == t)
+}
+
 // Whether an atom names table t.
 fn is_named(q: Query, t: usize) -> bool
     requires { ⌜ q .«atom_count» ≤ maxAtoms ⌝ }
@@ -229,7 +244,7 @@ fn is_named(q: Query, t: usize) -> bool
     let mut i = 0;
     while i < q.atom_count {
         let a = q.atoms[i];
-        if a.table == t {
+        if names(a, t) {
             return true;
         }
         i += 1;
@@ -249,6 +264,37 @@ fn tables_ok(pool: &[u64], ts: Tables, q: Query) -> bool
             if !undamaged(pool, t) {
                 return false;
             }
+        }
+        i += 1;
+    }
+    true
+}
+
+// Not 17, of one atom: where it is laid over, its two tables are of the same shape.
+fn shape_ok(ts: Tables, a: Atom) -> bool
+    requires { ⌜ (ts .count ≤ maxTables) × (namesSome (ts .count) a ≡ true) × (tableAt ts (a .table) .arity ≤ maxArity) ⌝ }
+    ensures { λ r. ⌜ r ≡ shapesAgree ts a ⌝ }
+{
+    if !a.laid_over {
+        return true;
+    }
+    let school = a.table;
+    let s = ts.tables[school];
+    let maker = a.maker;
+    let m = ts.tables[maker];
+    same_shape(s, m)
+}
+
+// Not 17: every atom passes.
+fn shapes_ok(ts: Tables, q: Query) -> bool
+    requires { ⌜ (namedOk (ts .count) q ≡ true) × (index.every (q .«atom_count») (listOk ts q) ≡ true) ⌝ }
+    ensures { λ r. ⌜ r ≡ index.every (q .«atom_count») (shapeOk ts q) ⌝ }
+{
+    let mut i = 0;
+    while i < q.atom_count {
+        let a = q.atoms[i];
+        if !shape_ok(ts, a) {
+            return false;
         }
         i += 1;
     }
@@ -279,6 +325,9 @@ pub fn refusal(pool: &[u64], ts: Tables, q: Query, len: usize) -> u64
     }
     if !tables_ok(pool, ts, q) {
         return 6;
+    }
+    if !shapes_ok(ts, q) {
+        return 17;
     }
     0
 }

@@ -96,6 +96,13 @@ module _ {pool : List ℕ} {t : ColumnTrie} (u : Undamaged pool t) where
     key-word : (j : ℕ) → j < dataLen t d → getD pool (keys-from + j) 0 ≡ getD (lay .keys) j 0
     key-word j k = sym (part-at pool keys-from (dataLen t d) j k) ∙ ap (λ (l : List ℕ). getD l j 0) keys-are
 
+    -- they lie in the pool, in one part
+    pub keys-in : keys-from + dataLen t d ≤ length pool
+    keys-in = omega (arith, fits)
+
+    pub keys-run : part pool keys-from (keys-from + dataLen t d) ≡ lay .keys
+    keys-run = ap (λ (n : ℕ). take n (drop keys-from pool)) (let e : keys-from + dataLen t d - keys-from ≡ dataLen t d = omega arith in e) ∙ keys-are
+
     pub intervals-in : intervals-from + intervalLen t d ≤ length pool
     intervals-in = omega (arith, fits)
 

@@ -1,7 +1,11 @@
-pub mod Plans
-pub mod Openings
+pub mod Wholes
 pub mod Groups
+pub mod Firsts
+pub mod Owners
+pub mod Openings
 pub mod Standing
+pub mod Takers
 pub mod Depths
 pub mod Stepping
 pub mod Beginnings
+pub mod Below

@@ -15,8 +15,8 @@ use Rattle.query.specs.Descend.{standings, nobody, holders}
 use Rattle.query.proofs.Meet.{getD-in, in-getD}
 use Rattle.query.proofs.Holders.{in-holders, holders-in, holders-ascend}
 use Rattle.query.proofs.Under.{length-standings, standings-at}
-use Rattle.join_query.specs.Query.{noAtom, atomAt, orderOf, varsOf, atomsOf, atomTable}
-use Rattle.join_depths.specs.Plan.{depthAt, openingAt, leftAt, takers, Opening, DepthPlanned}
+use Rattle.join_query.specs.Query.{noAtom, atomAt, tableAt, orderOf, varsOf, atomsOf, atomTable}
+use Rattle.join_plan.specs.Plan.{depthAt, openingAt, leftAt, takers, secondOf, AtomOpening, DepthPlanned}
 use Rattle.join_depths.specs.Depth.{countAt, whoAt, Based, takesPart}
 use Rattle.join_query.specs.declared.Query.{Query}
 use Rattle.join_query.specs.declared.Tables.{Tables}
@@ -35,7 +35,7 @@ holders-vars v (a ∷ l) (b ∷ m) e f =
     ap₂ (λ (xs : List ℕ) (hs : List ℕ). pick (headed v xs) (0 ∷ map suc hs) (map suc hs)) (f 0 (omega arith))
     (holders-vars v l m (omega arith) (λ i h. f (suc i) (omega arith)))
 
-module _ {pool : List ℕ} {ts : Tables} {q : Query} {plan : List ℕ} {n d : ℕ} {f : ℕ → Row} (s : Based pool ts q plan n d f) where
+module _ {pool : List ℕ} {ts : Tables} {q : Query} {plan ends : List ℕ} {n d : ℕ} {f : ℕ → Row} (s : Based pool ts q plan ends n d f) where
   -- what is left of atom i's list
   pub left-vars : (i : ℕ) → i < q .«atom_count» → standing (f i) (getD (atomsOf pool ts q) i nobody) .vars ≡ drop (length (f i)) (varsOf (atomAt q i))
   left-vars i h = ap (λ (a : meaning.Atom). standing (f i) a .vars) (atoms-at (s .accepted) i h)
@@ -79,7 +79,7 @@ module _ {pool : List ℕ} {ts : Tables} {q : Query} {plan : List ℕ} {n d : �
     count-is = at-depth .count
 
     pub who-is : (j : ℕ) → j < countAt plan d → whoAt plan d j ≡ getD (takers q d) j 0
-    who-is j h = at-depth .openings j (omega (arith, count-is)) .atom
+    who-is j h = at-depth .openings j (omega (arith, count-is)) .table .tag
 
     -- one that takes part
     pub record Taker (i : ℕ) : Type 0 where
@@ -114,12 +114,12 @@ module _ {pool : List ℕ} {ts : Tables} {q : Query} {plan : List ℕ} {n d : �
     takers-ascend = rw takers-are at (holders-ascend v (standings f (atomsOf pool ts q)))
 
     -- its opening: the layer is the number of its words, and there is such a layer
-    pub opening-is : (j : ℕ) → j < countAt plan d → Opening plan (openingAt d j) (whoAt plan d j) (atomTable ts q (whoAt plan d j)) (length (f (whoAt plan d j)))
+    pub opening-is : (j : ℕ) → j < countAt plan d → let a = whoAt plan d j in AtomOpening plan (openingAt d j) a (atomAt q a .«laid_over») (atomTable ts q a) (tableAt ts (secondOf (atomAt q a))) (length (f a))
     opening-is j h =
         let a = getD (takers q d) j 0 in
         let w = who-is j h in
-        subst (λ (x : ℕ). Opening plan (openingAt d j) x (atomTable ts q x) (length (f x))) (sym w)
-        (subst (Opening plan (openingAt d j) a (atomTable ts q a)) (sym (s .words a (taker (getD-in (takers q d) j 0 (omega (arith, count-is))) .atom))) (at-depth .openings j (omega (arith, count-is))))
+        subst (λ (x : ℕ). AtomOpening plan (openingAt d j) x (atomAt q x .«laid_over») (atomTable ts q x) (tableAt ts (secondOf (atomAt q x))) (length (f x))) (sym w)
+        (subst (AtomOpening plan (openingAt d j) a (atomAt q a .«laid_over») (atomTable ts q a) (tableAt ts (secondOf (atomAt q a)))) (sym (s .words a (taker (getD-in (takers q d) j 0 (omega (arith, count-is))) .atom))) (at-depth .openings j (omega (arith, count-is))))
 
     pub layer-in : {i : ℕ} → Taker i → length (f i) < atomTable ts q i .arity
     layer-in {i} t = omega (arith, headed-inside v (length (f i)) (varsOf (atomAt q i)) (t .takes), lists (s .accepted) i (t .atom) .exact)

@@ -1,109 +1,118 @@
 -- The steps of a depth, from the leapfrog's answers: said of the ring in atom order, whichever ring was searched.
 -- Idea: both rings have the same atoms, and what is said of runs and keys does not depend on their sequence.
 use Prim.Native.Nat.{ℕ, _+_, _<_}
-use mathlib.Core.Path.{_≡_, refl, ap, _∙_}
+use mathlib.Core.Path.{_≡_, refl, ap, ap₂, _∙_}
 use mathlib.Core.Bool.{Bool, true, false}
-use mathlib.Core.List.{List, [], _++_}
+use mathlib.Core.List.{List, [], _∷_, _++_, map}
 use lib.ListN.{getD, take}
-use Rattle.relation.specs.Lists.{Ascends}
+use Rattle.relation.specs.Lists.{_∈_, hd, tl, Ascends}
+use Rattle.relation.specs.Runs.{from}
 use Rattle.query.specs.Meet.{meet}
 use Rattle.ring_sort.specs.Sorted.{keyAt}
 use Rattle.leapfrog_join.specs.Ring.{SameAtoms}
-use Rattle.leapfrog_join.specs.Leapfrog.{runsIn, Ready, Agreed, Moved, Left, leftOf, answered, Ran, Begun}
+use Rattle.leapfrog_join.specs.Leapfrog.{leftOf, answered}
 use Rattle.leapfrog_join.specs.declared.Landed.{Landed}
 use Rattle.leapfrog_join.specs.declared.Landed.the-variants.{Key, Nothing}
 use Rattle.leapfrog_join.specs.declared.Searched.{Searched}
+use Rattle.leapfrog_join.proofs.Laws.{same-back}
 use Rattle.leapfrog.specs.Search.{Went, nextOf}
 use Rattle.leapfrog.specs.Walk.{capped}
-use Rattle.leapfrog_join.proofs.Laws.{same-back, same-meet, same-agreed, same-moved, agreed-here, went-next}
-use Rattle.leapfrog_join.proofs.Beginning.{begun-same, begun-left}
-use Rattle.join_depths.specs.Depth.{AgreedAt, Steps, Answers, Leapt, sinceOf, Onward}
+use Rattle.stretches.specs.Stand.{State, standOf, wholeOf, wholesIn}
+use Rattle.stretches.specs.Whole.{WholeReady, WholeAgreed, Carried, WholeRan, WholeBegun}
+use Rattle.join_depths.specs.Depth.{AgreedAt, AtKey, Steps, Answers, Leapt, sinceOf, Onward}
+use Rattle.join_depths.proofs.Wholes.{WholeLeft, whole-ready, whole-here, same-wholes, same-whole-agreed, same-carried, whole-next-left, sorted-same, whole-begun-left}
 
 -- what a search of one ring leaves, said of another with the same atoms
-module _ {pool end ring byAtom : List ℕ} {k : ℕ} (s : SameAtoms ring byAtom k) {at₀ at common passed : List ℕ} where
-  same-ended : (landed : Landed) → Left pool end ring k at₀ at common passed landed → AgreedAt pool at end byAtom k landed
-  same-ended (Key x p) l = same-agreed s (l .ended) p (l .ended .place)
+module _ {pool ends ring byAtom : List ℕ} {k : ℕ} (s : SameAtoms ring byAtom k) {z₀ z : State} {common passed : List ℕ} where
+  same-ended : (landed : Landed) → WholeLeft pool ends ring k z₀ z common passed landed → AgreedAt pool z ends byAtom k landed
+  same-ended (Key x p) l = same-whole-agreed s (l .agreed) p (l .agreed .agreed .place)
   same-ended (Nothing p) l = tt
 
-  same-keys : (landed : Landed) → Left pool end ring k at₀ at common passed landed → common ≡ passed ++ leftOf (runsIn pool at end byAtom k) landed
-  same-keys (Key x p) l = l .keys ∙ ap (λ (ks : List ℕ). passed ++ ks) (same-meet s (l .ended .ready))
+  same-keys : (landed : Landed) → WholeLeft pool ends ring k z₀ z common passed landed → common ≡ passed ++ leftOf (wholesIn pool z ends byAtom k) landed
+  same-keys (Key x p) l = l .keys ∙ ap (λ (ks : List ℕ). passed ++ ks) (same-wholes s (whole-ready (l .agreed)))
   same-keys (Nothing p) l = l .keys
+
+  same-cut : (landed : Landed) → WholeLeft pool ends ring k z₀ z common passed landed → AtKey landed (λ (x : ℕ). wholesIn pool z ends byAtom k ≡ map (from x) (wholesIn pool z₀ ends byAtom k))
+  unfolding wholesIn
+  same-cut (Key x p) l = go (take k byAtom) (λ a m. l .cut a (s .back a m))
+    where
+      go : (l : List ℕ) → ((a : ℕ) → a ∈ l → wholeOf pool (standOf z ends a) ≡ from x (wholeOf pool (standOf z₀ ends a))) → map (λ (a : ℕ). wholeOf pool (standOf z ends a)) l ≡ map (from x) (map (λ (a : ℕ). wholeOf pool (standOf z₀ ends a)) l)
+      go [] f = refl
+      go (a ∷ l) f = ap₂ (λ (y : List ℕ) (ys : List (List ℕ)). y ∷ ys) (f a (hd refl)) (go l (λ b i. f b (tl i)))
+  same-cut (Nothing p) l = tt
 
 -- ---- the next key
 
-module _ {pool at end byAtom : List ℕ} {k x p : ℕ} (g : Agreed pool at end byAtom k x p) where
+module _ {pool ends byAtom : List ℕ} {z : State} {k x p : ℕ} (g : WholeAgreed pool z ends byAtom k x p) where
+  steps-by : {ring : List ℕ} → SameAtoms ring byAtom k → {z′ : State} {landed : Landed} → meet (wholesIn pool z ends byAtom k) ≡ meet (wholesIn pool z ends ring k) → WholeLeft pool ends ring k z z′ (meet (wholesIn pool z ends ring k)) (x ∷ []) landed → Steps pool ends byAtom k z z′ x landed
+  steps-by b {landed = landed} e m = record { agreed = same-ended b landed m; keys = e ∙ same-keys b landed m; cut = same-cut b landed m; carried = same-carried b (m .carried) }
+
   -- at the last depth the ring goes on as it is
   module _ {ring : List ℕ} (s : SameAtoms byAtom ring k) where
-    pub goes-on : Agreed pool at end ring k (keyAt pool at (getD ring p 0)) p
-    goes-on = agreed-here (same-agreed s g p (g .place))
+    pub goes-on : WholeAgreed pool z ends ring k (keyAt pool (z .at) (getD ring p 0)) p
+    goes-on = whole-here (same-whole-agreed s g p (g .agreed .place))
 
-    pub went-on : {at′ : List ℕ} {r : Searched} → Ran pool end ring k at at′ (nextOf (runsIn pool at end ring k) p) r → Steps pool end byAtom k at at′ x (r .landed)
-    went-on {r = r} d =
-        let m = went-next (same-agreed s g p (g .place)) d in
-        let b = same-back s (g .ready) in
-        record {
-          agreed = same-ended b (r .landed) m;
-          keys = same-meet s (g .ready) ∙ same-keys b (r .landed) m;
-          moved = same-moved b (m .moved);
-        }
+    pub went-on : {z′ : State} {r : Searched} → WholeRan pool ends ring k z z′ (nextOf (wholesIn pool z ends ring k) p) r → Steps pool ends byAtom k z z′ x (r .landed)
+    went-on {r = r} d = steps-by (same-back s (g .agreed .ready)) (same-wholes s (whole-ready g)) (whole-next-left {a = r} (same-whole-agreed s g p (g .agreed .place)) d)
 
   -- at another it is in atom order again
-  anew : Agreed pool at end byAtom k x 0
-  anew = record { ready = g .ready; place = g .ready .positive; all = g .all }
+  anew : WholeAgreed pool z ends byAtom k x 0
+  anew = record { agreed = record { ready = g .agreed .ready; place = g .agreed .ready .positive; all = g .agreed .all }; sized = g .sized; tailed = g .tailed }
 
   same-ring : SameAtoms byAtom byAtom k
-  same-ring = record { size = g .ready .size; to = λ a m. m; back = λ a m. m; apart = g .ready .apart }
+  same-ring = record { size = g .agreed .ready .size; to = λ a m. m; back = λ a m. m; apart = g .agreed .ready .apart }
 
-  pub begins-anew : Agreed pool at end byAtom k (keyAt pool at (getD byAtom 0 0)) 0
-  begins-anew = agreed-here anew
+  pub begins-anew : WholeAgreed pool z ends byAtom k (keyAt pool (z .at) (getD byAtom 0 0)) 0
+  begins-anew = whole-here anew
 
-  pub went-anew : {at′ : List ℕ} {r : Searched} → Ran pool end byAtom k at at′ (nextOf (runsIn pool at end byAtom k) 0) r → Steps pool end byAtom k at at′ x (r .landed)
-  went-anew {r = r} d =
-      let m = went-next anew d in
-      record { agreed = same-ended same-ring (r .landed) m; keys = same-keys same-ring (r .landed) m; moved = m .moved }
+  pub went-anew : {z′ : State} {r : Searched} → WholeRan pool ends byAtom k z z′ (nextOf (wholesIn pool z ends byAtom k) 0) r → Steps pool ends byAtom k z z′ x (r .landed)
+  went-anew {r = r} d = steps-by same-ring refl (whole-next-left {a = r} anew d)
 
 -- ---- the seeks
 
 -- a call that did what the definition says, its seeks added to those before
-pub ran-leapt : {pool end ring : List ℕ} {k : ℕ} {at₀ at : List ℕ} {w : Went} {r : Searched} (before : ℕ) → Ran pool end ring k at₀ at w r → Leapt w (runsIn pool at end ring k) before (r .landed) (capped (before + r .seeks))
-ran-leapt {pool} {end} {ring} {k} {at = at} {w} {r} before d = record { made = r .seeks; answers = go (r .landed) (d .same); sum = refl }
+pub ran-leapt : {pool ends ring : List ℕ} {k : ℕ} {z₀ z : State} {w : Went} {r : Searched} (before : ℕ) → WholeRan pool ends ring k z₀ z w r → Leapt w (wholesIn pool z ends ring k) before (r .landed) (capped (before + r .seeks))
+ran-leapt {pool} {ends} {ring} {k} {z = z} {w} {r} before d = record { made = r .seeks; answers = go (r .landed) (d .same); sum = refl }
   where
-    go : (h : Landed) → w ≡ answered (runsIn pool at end ring k) h (r .seeks) → Answers w (runsIn pool at end ring k) h (r .seeks)
+    go : (h : Landed) → w ≡ answered (wholesIn pool z ends ring k) h (r .seeks) → Answers w (wholesIn pool z ends ring k) h (r .seeks)
     go (Key x p) c = c
     go (Nothing p) c = (ap (λ (v : Went). v .stop) c, ap (λ (v : Went). v .seeks) c)
 
 -- either way
-module _ {pool at end ring byAtom : List ℕ} {k p : ℕ} {last : Bool} (g : Agreed pool at end byAtom k (keyAt pool at (getD byAtom 0 0)) p) {at′ : List ℕ} {r a : Searched} (before : ℕ) (e : a ≡ sinceOf before r) where
-  pub onward-last : last ≡ true → SameAtoms byAtom ring k → Ran pool end ring k at at′ (nextOf (runsIn pool at end ring k) p) r → Onward pool end ring byAtom k p last at at′ before a
+module _ {pool ends ring byAtom : List ℕ} {z : State} {k p : ℕ} {last : Bool} (g : WholeAgreed pool z ends byAtom k (keyAt pool (z .at) (getD byAtom 0 0)) p) {z′ : State} {r a : Searched} (before : ℕ) (e : a ≡ sinceOf before r) where
+  pub onward-last : last ≡ true → SameAtoms byAtom ring k → WholeRan pool ends ring k z z′ (nextOf (wholesIn pool z ends ring k) p) r → Onward pool ends ring byAtom k p last z z′ before a
   onward-last l s d = rw (e, l) (record { steps = went-on g s d; leapt = ran-leapt before d })
 
-  pub onward-anew : last ≡ false → Ran pool end byAtom k at at′ (nextOf (runsIn pool at end byAtom k) 0) r → Onward pool end ring byAtom k p last at at′ before a
+  pub onward-anew : last ≡ false → WholeRan pool ends byAtom k z z′ (nextOf (wholesIn pool z ends byAtom k) 0) r → Onward pool ends ring byAtom k p last z z′ before a
   onward-anew l d = rw (e, l) (record { steps = went-anew g d; leapt = ran-leapt before d })
 
 -- ---- the first key
 
-module _ {pool at end byAtom ring ring′ : List ℕ} {k : ℕ} (r : Ready pool at end ring k) (f : Ready pool at end byAtom k) (e : take k ring ≡ take k byAtom) (asc : Ascends _<_ (take k ring)) {at′ : List ℕ} {a : Searched} (b : Begun pool end k ring ring′ at at′ a) where
+module _ {pool ends byAtom ring ring′ : List ℕ} {k : ℕ} {z : State} (r : WholeReady pool z ends ring k) (f : WholeReady pool z ends byAtom k) (e : take k ring ≡ take k byAtom) (asc : Ascends _<_ (take k ring)) {z′ : State} {a : Searched} (b : WholeBegun pool ends k ring ring′ z z′ a) where
   -- the ring in atom order, sorted and in atom order again
   both : SameAtoms byAtom ring k
-  both = record { size = r .size; to = λ a m. rw e m; back = λ a m. rw e at m; apart = r .apart }
+  both = record { size = r .ready .size; to = λ a m. rw e m; back = λ a m. rw e at m; apart = r .ready .apart }
 
   sorts : SameAtoms ring ring′ k
-  sorts = begun-same r asc (b .order)
+  sorts = sorted-same r asc b
 
   through : SameAtoms ring′ byAtom k
-  through = record { size = f .size; to = λ a m. both .back a (sorts .back a m); back = λ a m. sorts .to a (both .to a m); apart = f .apart }
+  through = record { size = f .ready .size; to = λ a m. both .back a (sorts .back a m); back = λ a m. sorts .to a (both .to a m); apart = f .ready .apart }
 
-  left : Left pool end ring′ k at at′ (meet (runsIn pool at end ring k)) [] (a .landed)
-  left = begun-left r asc b
+  left : WholeLeft pool ends ring′ k z z′ (meet (wholesIn pool z ends ring k)) [] (a .landed)
+  left = whole-begun-left r asc b
 
-  pub first-agreed : AgreedAt pool at′ end byAtom k (a .landed)
+  pub first-agreed : AgreedAt pool z′ ends byAtom k (a .landed)
   first-agreed = same-ended through (a .landed) left
 
-  pub first-keys : meet (runsIn pool at end byAtom k) ≡ leftOf (runsIn pool at′ end byAtom k) (a .landed)
-  first-keys = same-meet both f ∙ same-keys through (a .landed) left
+  pub first-keys : meet (wholesIn pool z ends byAtom k) ≡ leftOf (wholesIn pool z′ ends byAtom k) (a .landed)
+  first-keys = same-wholes both f ∙ same-keys through (a .landed) left
 
-  pub first-moved : Moved end byAtom k at at′
-  first-moved = same-moved through (left .moved)
+  pub first-cut : AtKey (a .landed) (λ (x : ℕ). wholesIn pool z′ ends byAtom k ≡ map (from x) (wholesIn pool z ends byAtom k))
+  first-cut = same-cut through (a .landed) left
+
+  pub first-carried : Carried pool ends byAtom k z z′
+  first-carried = same-carried through (left .carried)
 
   pub first-same : SameAtoms byAtom ring′ k
   first-same = record { size = sorts .size; to = through .back; back = through .to; apart = sorts .apart }

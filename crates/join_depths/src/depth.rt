@@ -5,26 +5,31 @@ ghost use lib.ListN.{getD};
 ghost use Rattle.leapfrog.specs.Walk.{capped};
 ghost use Rattle.ring_sort.specs.Sorted.{keyAt};
 ghost use Rattle.leapfrog_join.specs.Ring.{SameAtoms};
-ghost use Rattle.leapfrog_join.specs.Leapfrog.{Agreed};
-ghost use Rattle.join_depths.specs.Plan.{openingWords, planWords};
-ghost use Rattle.join_depths.specs.Depth.{groupLow, groupHigh, Readable, Openable, Arrays, OpenedAll, Standing, Opening, Onward, sinceOf};
-use crate::plan::ABOVE;
-use crate::plan::COUNT;
-use crate::plan::DEPTH_WORDS;
-use crate::plan::INTERVAL_COUNT;
-use crate::plan::INTERVALS;
-use crate::plan::KEY_COUNT;
-use crate::plan::KEYS;
-use crate::plan::OPENING_WORDS;
-use crate::plan::OPENINGS;
-use crate::plan::PLAN_WORDS;
+ghost use Rattle.stretches.specs.Stand.{state, standOf, Sized};
+ghost use Rattle.stretches.specs.Whole.{WholeAgreed};
+ghost use Rattle.join_plan.specs.Plan.{tableWords, openingWords, planWords};
+ghost use Rattle.join_depths.specs.Depth.{groupLow, groupHigh, atomOf, Readable, OneOpenable, OpensOne, Openable, Arrays, OpenedAll, Standing, Fresh, Opening, Onward, sinceOf};
 use column_trie::interval_or;
+use join_plan::ABOVE;
+use join_plan::COUNT;
+use join_plan::DEPTH_WORDS;
+use join_plan::ENDS;
+use join_plan::INTERVAL_COUNT;
+use join_plan::INTERVALS;
+use join_plan::KEY_COUNT;
+use join_plan::KEYS;
+use join_plan::MAKERS;
+use join_plan::OPENING_WORDS;
+use join_plan::OPENINGS;
+use join_plan::PLAN_WORDS;
+use join_plan::TABLE_WORDS;
 use leapfrog_join::Landed;
 use leapfrog_join::Searched;
-use leapfrog_join::leapfrog_init;
-use leapfrog_join::leapfrog_next;
 use query::MAX_ATOMS;
 use seek::SeekStrategy;
+use stretches::take_stretch;
+use stretches::whole_init;
+use stretches::whole_next;
 
 // The sum; 2^64 - 1 stands for that and all above.
 fn added(a: u64, b: u64) -> u64
@@ -53,7 +58,7 @@ struct KeyRange {
 
 // The group under the key at `place`, in the layer that the opening at `base` opens.
 fn group_under(pool: &[u64], plan: &[usize; PLAN_WORDS], base: usize, place: usize) -> KeyRange
-    requires { ⌜ base + openingWords ≤ planWords ⌝ }
+    requires { ⌜ base + tableWords ≤ planWords ⌝ }
     requires { ⌜ Readable (now pool) (now plan) base place ⌝ }
     ensures { λ r. ⌜ (r .lo ≡ groupLow (now (pool .entry)) (now (plan .entry)) base place) × (r .hi ≡ groupHigh (now (pool .entry)) (now (plan .entry)) base place) ⌝ }
 {
@@ -68,32 +73,66 @@ fn group_under(pool: &[u64], plan: &[usize; PLAN_WORDS], base: usize, place: usi
     }
 }
 
-// Opens the atoms that take part at a depth, each under its present key, with both rings in atom order; false where a table without rows refuses.
+// Opens the atom whose opening stands at `base`: under its present key, in the table that the key is of; at the first column of one that is laid over, both
+// tables' first keys. False where there are none.
+fn open_one(
+    pool: &[u64],
+    plan: &[usize; PLAN_WORDS],
+    base: usize,
+    at: &mut [usize; MAX_ATOMS],
+    end: &mut [usize; MAX_ATOMS],
+    own: &mut [usize; MAX_ATOMS],
+    left: &mut [usize; MAX_ATOMS],
+    ends: &[usize; ENDS],
+    strategy: SeekStrategy,
+) -> bool
+    requires { ⌜ (base + openingWords ≤ planWords) × Sized (state (now at) (now end) (now own) (now left)) (now ends) ⌝ }
+    requires { ⌜ OneOpenable (now pool) (now plan) (now ends) base (standOf (state (now at) (now end) (now own) (now left)) (now ends) (atomOf (now plan) base)) ⌝ }
+    ensures { λ r. ⌜ OpensOne (now (pool .entry)) (now (plan .entry)) (now (ends .entry)) base (state (now (at .entry)) (now (end .entry)) (now (own .entry)) (now (left .entry))) (state (now (at .exit)) (now (end .exit)) (now (own .exit)) (now (left .exit))) r ⌝ }
+{
+    let a = plan[base];
+    if plan[base + MAKERS] == 1 {
+        let x = plan[base + KEYS];
+        let y = plan[base + MAKERS + KEYS];
+        return take_stretch(pool, at, end, own, left, ends, a, x, y, 0, strategy);
+    }
+    let from = base + TABLE_WORDS * own[a];
+    if plan[from + KEY_COUNT] == 0 {
+        return false;
+    }
+    let g = group_under(pool, plan, from, at[a]);
+    at[a] = g.lo;
+    end[a] = g.hi;
+    true
+}
+
+// Opens the atoms that take part at a depth, with both rings in atom order; false where one has no keys.
 fn open_all(
     pool: &[u64],
     plan: &[usize; PLAN_WORDS],
     depth: usize,
     at: &mut [usize; MAX_ATOMS],
     end: &mut [usize; MAX_ATOMS],
+    own: &mut [usize; MAX_ATOMS],
+    left: &mut [usize; MAX_ATOMS],
+    ends: &[usize; ENDS],
     ring: &mut [usize; MAX_ATOMS],
     by_atom: &mut [usize; MAX_ATOMS],
+    strategy: SeekStrategy,
 ) -> bool
-    requires { ⌜ Openable (now pool) (now plan) depth (now at) ⌝ }
-    requires { ⌜ Arrays (now at) (now end) (now ring) (now «by_atom») ⌝ }
-    ensures { λ r. ⌜ OpenedAll r (now (pool .entry)) (now (plan .entry)) depth (now (at .entry)) (now (at .exit)) (now (end .exit)) (now (ring .exit)) (now («by_atom» .exit)) ⌝ }
+    requires { ⌜ Openable (now pool) (now plan) (now ends) depth (state (now at) (now end) (now own) (now left)) ⌝ }
+    requires { ⌜ Arrays (state (now at) (now end) (now own) (now left)) (now ends) (now ring) (now «by_atom») ⌝ }
+    ensures { λ r. ⌜ OpenedAll (now (pool .entry)) (now (plan .entry)) (now (ends .entry)) depth (state (now (at .entry)) (now (end .entry)) (now (own .entry)) (now (left .entry))) (state (now (at .exit)) (now (end .exit)) (now (own .exit)) (now (left .exit))) (now (ring .exit)) (now («by_atom» .exit)) r ⌝ }
 {
     let count = plan[DEPTH_WORDS * depth + COUNT];
     let first = DEPTH_WORDS * depth + OPENINGS;
     let mut j = 0;
     while j < count {
         let base = first + OPENING_WORDS * j;
-        if plan[base + KEY_COUNT] == 0 {
+        if !open_one(pool, plan, base, at, end, own, left, ends, strategy) {
             return false;
         }
         let a = plan[base];
-        let g = group_under(pool, plan, base, at[a]);
-        at[a] = g.lo;
-        end[a] = g.hi;
         ring[j] = a;
         by_atom[j] = a;
         j += 1;
@@ -101,40 +140,61 @@ fn open_all(
     true
 }
 
-// Opens a depth and finds its first key: the atoms that take part are opened in atom order, and the leapfrog over their groups is begun. Where a table without
-// rows refuses, nothing is searched, and the place that comes with no key says nothing.
+// Opens a depth and finds its first key: the atoms that take part are opened in atom order, and the leapfrog over their runs is begun. Where one has no keys,
+// nothing is searched, and the place that comes with no key says nothing.
 pub fn open(
     strategy: SeekStrategy,
     pool: &[u64],
     plan: &[usize; PLAN_WORDS],
+    ends: &[usize; ENDS],
     n: usize,
     depth: usize,
     at: &mut [usize; MAX_ATOMS],
     end: &mut [usize; MAX_ATOMS],
+    own: &mut [usize; MAX_ATOMS],
+    left: &mut [usize; MAX_ATOMS],
     ring: &mut [usize; MAX_ATOMS],
     by_atom: &mut [usize; MAX_ATOMS],
     seeks: u64,
 ) -> Searched
-    requires { ⌜ Standing (now pool) (now plan) n depth (now at) ⌝ }
-    requires { ⌜ (depth < n) × Arrays (now at) (now end) (now ring) (now «by_atom») ⌝ }
-    ensures { λ r. ⌜ Opening (now (pool .entry)) (now (plan .entry)) n depth (now (at .entry)) (now (at .exit)) (now (end .exit)) (now (ring .exit)) (now («by_atom» .exit)) seeks r ⌝ }
+    requires { ⌜ Standing (now pool) (now plan) (now ends) n depth (now at) (now own) ⌝ }
+    requires { ⌜ (depth < n) × Fresh (state (now at) (now end) (now own) (now left)) (now ends) (now ring) (now «by_atom») ⌝ }
+    ensures { λ r. ⌜ Opening (now (pool .entry)) (now (plan .entry)) (now (ends .entry)) n depth (now (at .entry)) (now (own .entry)) (state (now (at .exit)) (now (end .exit)) (now (own .exit)) (now (left .exit))) (now (ring .exit)) (now («by_atom» .exit)) seeks r ⌝ }
 {
-    if !open_all(pool, plan, depth, at, end, ring, by_atom) {
+    if !open_all(
+        pool,
+        plan,
+        depth,
+        at,
+        end,
+        own,
+        left,
+        ends,
+        ring,
+        by_atom,
+        strategy,
+    ) {
         return Searched {
             landed: Landed::Nothing { p: 0 },
             seeks,
         };
     }
     let k = plan[DEPTH_WORDS * depth + COUNT];
-    since(seeks, leapfrog_init(pool, at, end, ring, k, strategy))
+    since(
+        seeks,
+        whole_init(pool, at, end, own, left, ends, ring, k, strategy),
+    )
 }
 
 // The next key of a depth. After a descent below it the ring is in atom order again and begins at its first place; at the last depth it goes on as it is.
 pub fn onward(
     strategy: SeekStrategy,
     pool: &[u64],
+    ends: &[usize; ENDS],
     at: &mut [usize; MAX_ATOMS],
-    end: &[usize; MAX_ATOMS],
+    end: &mut [usize; MAX_ATOMS],
+    own: &mut [usize; MAX_ATOMS],
+    left: &mut [usize; MAX_ATOMS],
     ring: &[usize; MAX_ATOMS],
     by_atom: &[usize; MAX_ATOMS],
     k: usize,
@@ -142,12 +202,18 @@ pub fn onward(
     last: bool,
     seeks: u64,
 ) -> Searched
-    requires { ⌜ Agreed (now pool) (now at) (now end) (now «by_atom») k (keyAt (now pool) (now at) (getD (now «by_atom») 0 0)) p ⌝ }
+    requires { ⌜ WholeAgreed (now pool) (state (now at) (now end) (now own) (now left)) (now ends) (now «by_atom») k (keyAt (now pool) (now at) (getD (now «by_atom») 0 0)) p ⌝ }
     requires { ⌜ SameAtoms (now «by_atom») (now ring) k ⌝ }
-    ensures { λ r. ⌜ Onward (now (pool .entry)) (now (end .entry)) (now (ring .entry)) (now («by_atom» .entry)) k p last (now (at .entry)) (now (at .exit)) seeks r ⌝ }
+    ensures { λ r. ⌜ Onward (now (pool .entry)) (now (ends .entry)) (now (ring .entry)) (now («by_atom» .entry)) k p last (state (now (at .entry)) (now (end .entry)) (now (own .entry)) (now (left .entry))) (state (now (at .exit)) (now (end .exit)) (now (own .exit)) (now (left .exit))) seeks r ⌝ }
 {
     if last {
-        return since(seeks, leapfrog_next(pool, at, end, ring, k, p, strategy));
+        return since(
+            seeks,
+            whole_next(pool, at, end, own, left, ends, ring, k, p, strategy),
+        );
     }
-    since(seeks, leapfrog_next(pool, at, end, by_atom, k, 0, strategy))
+    since(
+        seeks,
+        whole_next(pool, at, end, own, left, ends, by_atom, k, 0, strategy),
+    )
 }

@@ -25,17 +25,19 @@ use Rattle.query.proofs.Meet.{getD-in, in-getD}
 use Rattle.query.proofs.Checks.{true-permutes, listed-is, follows-sublist, sublist-follows, some-in, covers-true, true-covers}
 use Rattle.query.proofs.Solved.{follow-in}
 use Rattle.column_trie.specs.Limits.{maxArity}
-use Rattle.column_trie.specs.Table.{gradeAt}
+use Rattle.column_trie.specs.Table.{gradeAt, Undamaged}
 use Rattle.column_trie.specs.declared.ColumnTrie.{ColumnTrie}
 use Rattle.column_trie.proofs.Damage.{undamaged-told, told-undamaged}
+use Rattle.laid_over.specs.Shape.{sameShape, SameShape}
+use Rattle.laid_over.proofs.Shape.{same-decides, shape-decides}
 use Rattle.query.specs.Limits.{maxAtoms}
-use Rattle.join_query.specs.Query.{maxTables, maxVariables, noAtom, atomAt, tableAt, atomTable, orderOf, varsOf, varAt, atomsIn, listsOf, orderOk, namedOk, listedAt, listOk, columnOk, columnsOk, bindsOnly, oneKind, wholeRows, named, soundAt, joinNumber}
-use Rattle.join_query.specs.Facts.{Typed, Ordered, Named, Follows, AllFollow, Covered, HasColumn, SameKinds, WholeRows, SoundTables, Passing}
+use Rattle.join_query.specs.Query.{maxTables, maxVariables, noAtom, atomAt, tableAt, atomTable, atomMaker, orderOf, varsOf, varAt, atomsIn, listsOf, orderOk, namedOk, listedAt, listOk, columnOk, columnsOk, bindsOnly, oneKind, wholeRows, names, named, soundAt, shapeOk, joinNumber}
+use Rattle.join_query.specs.Facts.{Typed, Ordered, Named, Follows, AllFollow, Covered, HasColumn, SameKinds, WholeRows, SoundTables, SameShapes, Passing}
 use Rattle.join_query.specs.Outcome.{answered}
 use Rattle.join_query.specs.declared.Atom.{Atom}
 use Rattle.join_query.specs.declared.Query.{Query}
 use Rattle.join_query.specs.declared.Tables.{Tables}
-use Rattle.join_query.proofs.Lists.{order-told, named-told, listed-told, named-at, sound-named, sound-unnamed, plain-alone, grades-alone}
+use Rattle.join_query.proofs.Lists.{either, made, make, namesOne, order-told, named-told, listed-told, named-at, names-table, names-maker, names-one, sound-named, sound-unnamed, plain-alone, grades-alone}
 
 -- ---- each test decides its fact, where the facts before it hold
 
@@ -50,14 +52,16 @@ names-decide : (count : ℕ) (q : Query) → Exactly (namedOk count q ≡ true) 
 unfolding namedOk
 names-decide count q = (named-told count q, back)
   where
-    names : ℕ → Bool
-    names i = ltb (atomAt q i .table) count
+    one : Named count q → (i : ℕ) → i < q .«atom_count» → namesOne count q i ≡ true
+    one f i h =
+        let a = atomAt q i in
+        and-true (ltb (a .table) count) (not (a .«laid_over») || ltb (a .maker) count) (lt-ltb (a .table) count (f .each i h))
+        (make (a .«laid_over») (ltb (a .maker) count) (λ e. lt-ltb (a .maker) count (f .maker i h e)))
 
     back : Named count q → namedOk count q ≡ true
     back f =
-        and-true (leb (q .«atom_count») maxAtoms) (leb count maxTables && index.every (q .«atom_count») names) (le-leb (q .«atom_count») maxAtoms (f .few))
-        (and-true (leb count maxTables) (index.every (q .«atom_count») names) (le-leb count maxTables (f .bounded))
-        (every-all names (q .«atom_count») (λ i h. lt-ltb (atomAt q i .table) count (f .each i h))))
+        and-true (leb (q .«atom_count») maxAtoms) (leb count maxTables && index.every (q .«atom_count») (namesOne count q)) (le-leb (q .«atom_count») maxAtoms (f .few))
+        (and-true (leb count maxTables) (index.every (q .«atom_count») (namesOne count q)) (le-leb count maxTables (f .bounded)) (every-all (namesOne count q) (q .«atom_count») (one f)))
 
 list-decides : (q : Query) (a : Atom) (arity : ℕ) → Ordered q → length (a .variables) ≡ maxArity → Exactly (listedAt q a arity ≡ true) (Follows q a arity)
 unfolding listedAt
@@ -79,16 +83,6 @@ list-decides q a arity o whole = (tells, back)
         and-true (leb (a .len) maxArity) (listed (q .n) (orderOf q) arity (varsOf a)) (le-leb (a .len) maxArity (f .short))
         (listed-is (o .permutation) arity (varsOf a)
         ∙ and-true (eqb (length (varsOf a)) arity) (follows (orderOf q) (varsOf a)) (eq-eqb (length (varsOf a)) arity long) (sublist-follows (orderOf q) (varsOf a) (f .strictly)))
-
-same-decides : (a b : Bool) → Exactly (Bool·beq a b ≡ true) (a ≡ b)
-same-decides true true = (λ e. refl, λ e. refl)
-same-decides true false = (λ e. sym e, λ e. sym e)
-same-decides false true = (λ e. e, λ e. e)
-same-decides false false = (λ e. refl, λ e. refl)
-
-either : (a b : Bool) → (a || b) ≡ true → (a ≡ true) ⊎ (b ≡ true)
-either true b e = inl refl
-either false b e = inr e
 
 column-decides : (t : ColumnTrie) (a : Atom) (v : ℕ) (grade : Bool) (j : ℕ) → Exactly (columnOk t a v grade j ≡ true) (varAt a j ≡ v → gradeAt t j ≡ grade)
 column-decides t a v grade j = (
@@ -189,23 +183,48 @@ module _ (q : Query) (y : Typed q) where
             grade i j c d false p = not-both (bindsOnly ts q v false) (only-decides ts q v false .1 (λ k l o m. s k l i j o c (m ∙ sym d) ∙ p)) e
 
   module _ (pool : List ℕ) (ts : Tables) (n : Named (ts .count) q) where
+    -- a table that an atom names passes as it is undamaged
+    one-decides : (i : ℕ) → i < q .«atom_count» → (t : ℕ) → names t (atomAt q i) ≡ true → Exactly (soundAt pool ts q t ≡ true) (Undamaged pool (tableAt ts t))
+    one-decides i h t e =
+        let s = sound-named pool ts q t (named-at q (y .atoms) (n .few) t i h e) in
+        (λ d. undamaged-told pool (tableAt ts t) (sym s ∙ d), λ u. s ∙ told-undamaged pool (tableAt ts t) u)
+
     tables-decide : Exactly (index.every (ts .count) (soundAt pool ts q) ≡ true) (SoundTables pool ts q)
     unfolding named
     tables-decide = (
-      λ e i h.
-          let t = atomAt q i .table in
-          undamaged-told pool (tableAt ts t)
-          (sym (sound-named pool ts q t (named-at q (y .atoms) (n .few) t i h refl)) ∙ every-at (soundAt pool ts q) (ts .count) e t (n .each i h)),
+      λ e. record {
+        each = λ i h. one-decides i h (atomAt q i .table) (names-table (atomAt q i)) .0 (every-at (soundAt pool ts q) (ts .count) e (atomAt q i .table) (n .each i h));
+        maker = λ i h l. one-decides i h (atomAt q i .maker) (names-maker (atomAt q i) l) .0 (every-at (soundAt pool ts q) (ts .count) e (atomAt q i .maker) (n .maker i h l));
+      },
       λ f. every-all (soundAt pool ts q) (ts .count) (λ t h. passes f t (named q t) refl),
     )
       where
+        whole : SoundTables pool ts q → (i : ℕ) → i < q .«atom_count» → (t : ℕ) → names t (atomAt q i) ≡ true → Undamaged pool (tableAt ts t)
+        whole f i h t e =
+            ⊎-elim {C = Undamaged pool (tableAt ts t)}
+            (λ (d : atomAt q i .table ≡ t). rw d at (f .each i h))
+            (λ (d : (atomAt q i .«laid_over» ≡ true) × (atomAt q i .maker ≡ t)). rw (d .1) at (f .maker i h (d .0)))
+            (names-one t (atomAt q i) e)
+
         passes : SoundTables pool ts q → (t : ℕ) (b : Bool) → named q t ≡ b → soundAt pool ts q t ≡ true
         passes f t false e = sound-unnamed pool ts q t e
         passes f t true e =
-            let u = some-in (λ (a : Atom). eqb (a .table) t) (atomsIn q) e in
+            let u = some-in (names t) (atomsIn q) e in
             let v = in-atom n (u .1) in
-            let d : atomAt q (v .0) .table ≡ t = ap (λ (a : Atom). a .table) (v .2) ∙ eqb-true (u .0 .table) t (u .2) in
-            sound-named pool ts q t e ∙ told-undamaged pool (tableAt ts t) (rw d at (f (v .0) (v .1)))
+            let d : names t (atomAt q (v .0)) ≡ true = ap (names t) (v .2) ∙ u .2 in
+            one-decides (v .0) (v .1) t d .1 (whole f (v .0) (v .1) t d)
+
+shapes-decide : (ts : Tables) (q : Query) → Exactly (index.every (q .«atom_count») (shapeOk ts q) ≡ true) (SameShapes ts q)
+shapes-decide ts q = (
+  λ e i h l. one i .0 (made (atomAt q i .«laid_over») (same i) (every-at (shapeOk ts q) (q .«atom_count») e i h) l),
+  λ f. every-all (shapeOk ts q) (q .«atom_count») (λ i h. make (atomAt q i .«laid_over») (same i) (λ l. one i .1 (f i h l))),
+)
+  where
+    same : ℕ → Bool
+    same i = sameShape (atomTable ts q i) (atomMaker ts q i)
+
+    one : (i : ℕ) → Exactly (same i ≡ true) (SameShape (atomTable ts q i) (atomMaker ts q i))
+    one i = shape-decides (atomTable ts q i) (atomMaker ts q i)
 
 -- ---- the number of the first check that fails
 
@@ -214,10 +233,13 @@ module _ (pool : List ℕ) (ts : Tables) (q : Query) (len : ℕ) (y : Typed q) w
   number = joinNumber pool ts q len
 
   abbrev last : ℕ
-  last = pick (index.every (ts .count) (soundAt pool ts q)) 0 6
+  last = pick (index.every (q .«atom_count») (shapeOk ts q)) 0 17
+
+  abbrev seventh : ℕ
+  seventh = pick (index.every (ts .count) (soundAt pool ts q)) last 6
 
   abbrev sixth : ℕ
-  sixth = pick (wholeRows (q .n) len) last 16
+  sixth = pick (wholeRows (q .n) len) seventh 16
 
   abbrev fifth : ℕ
   fifth = pick (index.every (q .n) (oneKind ts q)) sixth 15
@@ -236,11 +258,14 @@ module _ (pool : List ℕ) (ts : Tables) (q : Query) (len : ℕ) (y : Typed q) w
   in-sequence = simp turned
 
   -- the numbers behind a check are others than its own, and none is 12
-  last-not : (k : ℕ) → 6 < k → last ≡ k → ⊥
-  last-not k h = neither (index.every (ts .count) (soundAt pool ts q)) 6 0 k (λ e. omega arith) (λ e. omega arith)
+  last-not : (k : ℕ) → 0 < k → k < 17 → last ≡ k → ⊥
+  last-not k h b = neither (index.every (q .«atom_count») (shapeOk ts q)) 17 0 k (λ e. omega arith) (λ e. omega arith)
+
+  seventh-not : (k : ℕ) → 6 < k → k < 17 → seventh ≡ k → ⊥
+  seventh-not k h b = neither (index.every (ts .count) (soundAt pool ts q)) 6 last k (λ e. omega arith) (last-not k (omega arith) b)
 
   sixth-not : (k : ℕ) → 6 < k → k < 16 → sixth ≡ k → ⊥
-  sixth-not k h b = neither (wholeRows (q .n) len) 16 last k (λ e. omega arith) (last-not k h)
+  sixth-not k h b = neither (wholeRows (q .n) len) 16 seventh k (λ e. omega arith) (seventh-not k h (omega arith))
 
   fifth-not : (k : ℕ) → 6 < k → k < 15 → fifth ≡ k → ⊥
   fifth-not k h b = neither (index.every (q .n) (oneKind ts q)) 15 sixth k (λ e. omega arith) (sixth-not k h (omega arith))
@@ -275,8 +300,11 @@ module _ (pool : List ℕ) (ts : Tables) (q : Query) (len : ℕ) (y : Typed q) w
     past-kinds : AllFollow ts q → (k : ℕ) {Q : Type 0} → (15 ≡ k → ⊥) → (SameKinds ts q → Exactly (sixth ≡ k) Q) → Exactly (fifth ≡ k) (SameKinds ts q × Q)
     past-kinds l k f g = later (index.every (q .n) (oneKind ts q)) (kinds-decide q y n ts l) 15 sixth k f g
 
-  past-rows : (k : ℕ) {Q : Type 0} → (16 ≡ k → ⊥) → (WholeRows (q .n) len → Exactly (last ≡ k) Q) → Exactly (sixth ≡ k) (WholeRows (q .n) len × Q)
-  past-rows k f g = later (wholeRows (q .n) len) (rows-decide (q .n) len) 16 last k f g
+  past-rows : (k : ℕ) {Q : Type 0} → (16 ≡ k → ⊥) → (WholeRows (q .n) len → Exactly (seventh ≡ k) Q) → Exactly (sixth ≡ k) (WholeRows (q .n) len × Q)
+  past-rows k f g = later (wholeRows (q .n) len) (rows-decide (q .n) len) 16 seventh k f g
+
+  past-tables : Named (ts .count) q → (k : ℕ) {Q : Type 0} → (6 ≡ k → ⊥) → (SoundTables pool ts q → Exactly (last ≡ k) Q) → Exactly (seventh ≡ k) (SoundTables pool ts q × Q)
+  past-tables n k f g = later (index.every (ts .count) (soundAt pool ts q)) (tables-decide q y pool ts n) 6 last k f g
 
   pub checks-8 : Exactly (joinNumber pool ts q len ≡ 8) (Ordered q → ⊥)
   checks-8 =
@@ -306,20 +334,25 @@ module _ (pool : List ℕ) (ts : Tables) (q : Query) (len : ℕ) (y : Typed q) w
   pub checks-16 : Exactly (joinNumber pool ts q len ≡ 16) (Ordered q × (Named (ts .count) q × (AllFollow ts q × (Covered q × (SameKinds ts q × (WholeRows (q .n) len → ⊥))))))
   checks-16 =
       past-order 16 (λ e. omega arith) λ o. past-names 16 (λ e. omega arith) λ n. past-lists o n 16 (λ e. omega arith) λ f. past-covering o n 16 (λ e. omega arith) λ c. past-kinds o n f 16 (λ e. omega arith) λ k.
-      here (wholeRows (q .n) len) (rows-decide (q .n) len) 16 last (last-not 16 (omega arith))
+      here (wholeRows (q .n) len) (rows-decide (q .n) len) 16 seventh (seventh-not 16 (omega arith) (omega arith))
 
   pub checks-6 : Exactly (joinNumber pool ts q len ≡ 6) (Ordered q × (Named (ts .count) q × (AllFollow ts q × (Covered q × (SameKinds ts q × (WholeRows (q .n) len × (SoundTables pool ts q → ⊥)))))))
   checks-6 =
       past-order 6 (λ e. omega arith) λ o. past-names 6 (λ e. omega arith) λ n. past-lists o n 6 (λ e. omega arith) λ f. past-covering o n 6 (λ e. omega arith) λ c. past-kinds o n f 6 (λ e. omega arith) λ k. past-rows 6 (λ e. omega arith) λ w.
-      here (index.every (ts .count) (soundAt pool ts q)) (tables-decide q y pool ts n) 6 0 (λ e. omega arith)
+      here (index.every (ts .count) (soundAt pool ts q)) (tables-decide q y pool ts n) 6 last (last-not 6 (omega arith) (omega arith))
+
+  pub checks-17 : Exactly (joinNumber pool ts q len ≡ 17) (Ordered q × (Named (ts .count) q × (AllFollow ts q × (Covered q × (SameKinds ts q × (WholeRows (q .n) len × (SoundTables pool ts q × (SameShapes ts q → ⊥))))))))
+  checks-17 =
+      past-order 17 (λ e. omega arith) λ o. past-names 17 (λ e. omega arith) λ n. past-lists o n 17 (λ e. omega arith) λ f. past-covering o n 17 (λ e. omega arith) λ c. past-kinds o n f 17 (λ e. omega arith) λ k. past-rows 17 (λ e. omega arith) λ w. past-tables n 17 (λ e. omega arith) λ s.
+      here (index.every (q .«atom_count») (shapeOk ts q)) (shapes-decide ts q) 17 0 (λ e. omega arith)
 
   pub checks-0 : Exactly (joinNumber pool ts q len ≡ 0) (Passing pool ts q len)
   checks-0 =
       exactly-then
-      (past-order 0 (λ e. omega arith) λ o. past-names 0 (λ e. omega arith) λ n. past-lists o n 0 (λ e. omega arith) λ f. past-covering o n 0 (λ e. omega arith) λ c. past-kinds o n f 0 (λ e. omega arith) λ k. past-rows 0 (λ e. omega arith) λ w.
-      later (index.every (ts .count) (soundAt pool ts q)) (tables-decide q y pool ts n) 6 0 0 (λ e. omega arith) (λ s. exactly-same refl)) (
-        λ t. record { ordered = t .0; named = t .1 .0; follow = t .1 .1 .0; covered = t .1 .1 .1 .0; kinds = t .1 .1 .1 .1 .0; window = t .1 .1 .1 .1 .1 .0; sound = t .1 .1 .1 .1 .1 .1 .0 },
-        λ p. (p .ordered, (p .named, (p .follow, (p .covered, (p .kinds, (p .window, (p .sound, refl))))))),
+      (past-order 0 (λ e. omega arith) λ o. past-names 0 (λ e. omega arith) λ n. past-lists o n 0 (λ e. omega arith) λ f. past-covering o n 0 (λ e. omega arith) λ c. past-kinds o n f 0 (λ e. omega arith) λ k. past-rows 0 (λ e. omega arith) λ w. past-tables n 0 (λ e. omega arith) λ s.
+      later (index.every (q .«atom_count») (shapeOk ts q)) (shapes-decide ts q) 17 0 0 (λ e. omega arith) (λ h. exactly-same refl)) (
+        λ t. record { ordered = t .0; named = t .1 .0; follow = t .1 .1 .0; covered = t .1 .1 .1 .0; kinds = t .1 .1 .1 .1 .0; window = t .1 .1 .1 .1 .1 .0; sound = t .1 .1 .1 .1 .1 .1 .0; shapes = t .1 .1 .1 .1 .1 .1 .1 .0 },
+        λ p. (p .ordered, (p .named, (p .follow, (p .covered, (p .kinds, (p .window, (p .sound, (p .shapes, refl)))))))),
       )
 
 -- ---- of the outcome

@@ -6,16 +6,17 @@ use native.Mathlib.Numerals.{add-one}
 use native.Mathlib.Decide.{ℕ-discrete, decLt}
 use mathlib.Core.Path.{_≡_, refl, sym, subst, ap, ap₂, _∙_}
 use mathlib.Core.Bool.{Bool, true, false, _&&_, _||_, not, Bool·beq, false≢true}
+use mathlib.Core.Logic.{_⊎_, inl, inr, ⊎-elim}
 use mathlib.Core.List.{List, [], _∷_, _++_, map}
-use lib.ListN.{length, getD, take, drop, drop-of-length-le}
+use lib.ListN.{length, getD, take, drop, length-take, drop-of-length-le}
 use lib.Seq.{drop-cons, drop-drop, getD-take, length-take-le, take-suc}
 use lib.Dec.{eqb, ltb, leb, eqb·zero-suc, eqb·suc-suc}
 use borrow.Author.Count.{below-more}
-use borrow.Author.Tests.{eq-eqb, ne-eqb, le-leb, lt-leb, leb-true, ltb-true, not-true, not-false}
+use borrow.Author.Tests.{eqb-true, eq-eqb, ne-eqb, le-leb, lt-leb, leb-true, ltb-true, not-true, not-false}
 use Rattle.relation.specs.Order.{pick}
 use Rattle.relation.specs.Lists.{_∈_}
 use Rattle.relation.specs.Tests as index
-use Rattle.relation.proofs.Tests.{and-true, and-left, and-right, or-right, gate-shut, gate-open, every-at}
+use Rattle.relation.proofs.Tests.{not-both, and-true, and-left, and-right, or-right, gate-shut, gate-open, every-at}
 use Rattle.query.specs.Meaning.{Permutation, follows}
 use Rattle.query.specs.Meet.{has}
 use Rattle.query.specs.Solve.{headed}
@@ -26,12 +27,34 @@ use Rattle.column_trie.specs.Limits.{maxArity}
 use Rattle.column_trie.specs.Table.{gradeAt, undamaged}
 use Rattle.column_trie.specs.declared.ColumnTrie.{ColumnTrie}
 use Rattle.query.specs.Limits.{maxAtoms}
-use Rattle.join_query.specs.Query.{maxTables, maxVariables, noAtom, atomAt, tableAt, orderOf, varsOf, varAt, atomsIn, listsOf, orderOk, namedOk, listedAt, listOk, columnOk, bindsOnly, oneKind, wholeRows, named, soundAt, joinNumber}
+use Rattle.join_query.specs.Query.{maxTables, maxVariables, noAtom, atomAt, tableAt, atomTable, atomMaker, orderOf, varsOf, varAt, atomsIn, listsOf, orderOk, namesSome, namedOk, listedAt, listOk, columnOk, bindsOnly, oneKind, wholeRows, names, named, soundAt, shapeOk, joinNumber}
 use Rattle.join_query.specs.Facts.{Ordered, Named}
 use Rattle.join_query.specs.Checking.{reached, Listed}
 use Rattle.join_query.specs.declared.Atom.{Atom}
 use Rattle.join_query.specs.declared.Query.{Query}
 use Rattle.join_query.specs.declared.Tables.{Tables}
+
+-- ---- tests of two
+
+pub either : (a b : Bool) → (a || b) ≡ true → (a ≡ true) ⊎ (b ≡ true)
+either true b e = inl refl
+either false b e = inr e
+
+-- the first test alone, and the second where the first fails
+pub or-first : (a b : Bool) → a ≡ true → a ≡ (a || b)
+or-first a b e = e ∙ sym (ap (λ (x : Bool). x || b) e)
+
+pub or-second : (a b : Bool) → a ≡ false → b ≡ (a || b)
+or-second a b e = sym (ap (λ (x : Bool). x || b) e)
+
+-- a test b that is made only where a holds
+pub made : (a b : Bool) → (not a || b) ≡ true → a ≡ true → b ≡ true
+made true b e h = e
+made false b e h = not-both false h refl
+
+pub make : (a b : Bool) → (a ≡ true → b ≡ true) → (not a || b) ≡ true
+make true b f = f refl
+make false b f = refl
 
 -- ---- the first n numbers of a list, by place
 
@@ -180,7 +203,7 @@ module _ (q : Query) (long : length (q .order) ≡ maxVariables) where
 
 module _ (count : ℕ) (q : Query) where
   abbrev pub namesOne : ℕ → Bool
-  namesOne i = ltb (atomAt q i .table) count
+  namesOne i = namesSome count (atomAt q i)
 
   pub atoms-many : maxAtoms < q .«atom_count» → false ≡ namedOk count q
   unfolding namedOk
@@ -194,8 +217,8 @@ module _ (count : ℕ) (q : Query) where
     pub tables-many : maxTables < count → false ≡ namedOk count q
     tables-many h = past false (gate-shut (leb count maxTables) (index.every (q .«atom_count») namesOne) (lt-leb count maxTables h))
 
-    pub names : (b : Bool) → count ≤ maxTables → b ≡ index.every (q .«atom_count») namesOne → b ≡ namedOk count q
-    names b h e = past b (gate-open (leb count maxTables) (index.every (q .«atom_count») namesOne) b (le-leb count maxTables h) e)
+    pub names-all : (b : Bool) → count ≤ maxTables → b ≡ index.every (q .«atom_count») namesOne → b ≡ namedOk count q
+    names-all b h e = past b (gate-open (leb count maxTables) (index.every (q .«atom_count») namesOne) b (le-leb count maxTables h) e)
 
 -- what the tests tell
 pub order-told : (q : Query) → orderOk q ≡ true → Ordered q
@@ -258,13 +281,27 @@ module _ (q : Query) (whole : length (q .atoms) ≡ maxAtoms) (few : q .«atom_c
   pub held-nowhere : (v : ℕ) → ((i : ℕ) → i < q .«atom_count» → has (varsOf (atomAt q i)) v ≡ false) → some (λ (l : List ℕ). has l v) (listsOf q) ≡ false
   held-nowhere v f = some-map (λ (l : List ℕ). has l v) varsOf (atomsIn q) ∙ some-nowhere (λ (a : Atom). has (varsOf a) v) (q .atoms) (q .«atom_count») noAtom (omega arith) f
 
-  pub named-at : (t i : ℕ) → i < q .«atom_count» → atomAt q i .table ≡ t → named q t ≡ true
+  pub named-at : (t i : ℕ) → i < q .«atom_count» → names t (atomAt q i) ≡ true → named q t ≡ true
   unfolding named
-  named-at t i h e = some-here (λ (a : Atom). eqb (a .table) t) (q .atoms) (q .«atom_count») noAtom (omega arith) i h (eq-eqb (atomAt q i .table) t e)
+  named-at t i h e = some-here (names t) (q .atoms) (q .«atom_count») noAtom (omega arith) i h e
 
-  pub named-nowhere : (t : ℕ) → ((i : ℕ) → i < q .«atom_count» → atomAt q i .table ≡ t → ⊥) → named q t ≡ false
+  pub named-nowhere : (t : ℕ) → ((i : ℕ) → i < q .«atom_count» → names t (atomAt q i) ≡ false) → named q t ≡ false
   unfolding named
-  named-nowhere t f = some-nowhere (λ (a : Atom). eqb (a .table) t) (q .atoms) (q .«atom_count») noAtom (omega arith) (λ i h. ne-eqb (atomAt q i .table) t (f i h))
+  named-nowhere t f = some-nowhere (names t) (q .atoms) (q .«atom_count») noAtom (omega arith) f
+
+-- an atom names its table, its maker's where it is laid over, and no other
+pub names-table : (a : Atom) → names (a .table) a ≡ true
+names-table a = ap (λ (b : Bool). b || (a .«laid_over» && eqb (a .maker) (a .table))) (eq-eqb (a .table) (a .table) refl)
+
+pub names-maker : (a : Atom) → a .«laid_over» ≡ true → names (a .maker) a ≡ true
+names-maker a e = or-right (eqb (a .table) (a .maker)) (a .«laid_over» && eqb (a .maker) (a .maker)) (and-true (a .«laid_over») (eqb (a .maker) (a .maker)) e (eq-eqb (a .maker) (a .maker) refl))
+
+pub names-one : (t : ℕ) (a : Atom) → names t a ≡ true → (a .table ≡ t) ⊎ ((a .«laid_over» ≡ true) × (a .maker ≡ t))
+names-one t a e =
+    ⊎-elim
+    (λ d. inl (eqb-true (a .table) t d))
+    (λ d. inr (and-left (a .«laid_over») (eqb (a .maker) t) d, eqb-true (a .maker) t (and-right (a .«laid_over») (eqb (a .maker) t) d)))
+    (either (eqb (a .table) t) (a .«laid_over» && eqb (a .maker) t) e)
 
 -- one variable more is covered, or it is not
 pub covers-next : (lists : List (List ℕ)) (v : ℕ) → covers v lists ≡ true → some (λ (l : List ℕ). has l v) lists ≡ true → covers (v + 1) lists ≡ true
@@ -312,6 +349,22 @@ module _ (ts : Tables) (q : Query) (v : ℕ) where
 
 -- ---- what the tests tell
 
+module _ (count : ℕ) (a : Atom) (e : namesSome count a ≡ true) where
+  pub table-there : a .table < count
+  table-there = ltb-true (a .table) count (and-left (ltb (a .table) count) (not (a .«laid_over») || ltb (a .maker) count) e)
+
+  pub maker-there : a .«laid_over» ≡ true → a .maker < count
+  maker-there l =
+      ltb-true (a .maker) count
+      (made (a .«laid_over») (ltb (a .maker) count) (and-right (ltb (a .table) count) (not (a .«laid_over») || ltb (a .maker) count) e) l)
+
+pub names-told : (count : ℕ) (q : Query) → namedOk count q ≡ true → (i : ℕ) → i < q .«atom_count» → namesSome count (atomAt q i) ≡ true
+unfolding namedOk
+names-told count q e =
+    let c = leb count maxTables in
+    let r = index.every (q .«atom_count») (namesOne count q) in
+    every-at (namesOne count q) (q .«atom_count») (and-right c r (and-right (leb (q .«atom_count») maxAtoms) (c && r) e))
+
 pub named-told : (count : ℕ) (q : Query) → namedOk count q ≡ true → Named count q
 unfolding namedOk
 named-told count q e =
@@ -321,7 +374,8 @@ named-told count q e =
     record {
       few = leb-true (q .«atom_count») maxAtoms (and-left (leb (q .«atom_count») maxAtoms) (c && r) e);
       bounded = leb-true count maxTables (and-left c r f);
-      each = λ i h. ltb-true (atomAt q i .table) count (every-at (namesOne count q) (q .«atom_count») (and-right c r f) i h);
+      each = λ i h. table-there count (atomAt q i) (names-told count q e i h);
+      maker = λ i h l. maker-there count (atomAt q i) (names-told count q e i h) l;
     }
 
 -- of one atom's list
@@ -342,11 +396,17 @@ lists-told ts q n e = record {
   short = λ i h. listed-told q (atomAt q i) (tableAt ts (atomAt q i .table) .arity) (every-at (listOk ts q) (q .«atom_count») e i h) .short;
 }
 
+-- the arity of an atom's table
+pub arity-short : (ts : Tables) (q : Query) → index.every (q .«atom_count») (listOk ts q) ≡ true → (i : ℕ) → i < q .«atom_count» → atomTable ts q i .arity ≤ maxArity
+arity-short ts q e i h =
+    let l = listed-told q (atomAt q i) (atomTable ts q i .arity) (every-at (listOk ts q) (q .«atom_count») e i h) in
+    omega (arith, l .exact, l .short, length-take (atomAt q i .len) (atomAt q i .variables))
+
 -- ---- the number
 
 module _ (pool : List ℕ) (ts : Tables) (q : Query) (len : ℕ) where
-  abbrev seven : Bool → Bool → Bool → Bool → Bool → Bool → Bool → ℕ
-  seven a b c d k w e = pick (not a) 8 (pick (not b) 9 (pick (not c) 10 (pick (not d) 11 (pick (not k) 15 (pick (not w) 16 (pick (not e) 6 0))))))
+  abbrev eight : Bool → Bool → Bool → Bool → Bool → Bool → Bool → Bool → ℕ
+  eight a b c d k w e s = pick (not a) 8 (pick (not b) 9 (pick (not c) 10 (pick (not d) 11 (pick (not k) 15 (pick (not w) 16 (pick (not e) 6 (pick (not s) 17 0)))))))
 
   abbrev lists-pass : Bool
   lists-pass = index.every (q .«atom_count») (listOk ts q)
@@ -357,6 +417,9 @@ module _ (pool : List ℕ) (ts : Tables) (q : Query) (len : ℕ) where
   abbrev tables-pass : Bool
   tables-pass = index.every (ts .count) (soundAt pool ts q)
 
+  abbrev shapes-pass : Bool
+  shapes-pass = index.every (q .«atom_count») (shapeOk ts q)
+
   pub record Passed : Type 0 where
     pub order : orderOk q ≡ true
     pub names : namedOk (ts .count) q ≡ true
@@ -365,51 +428,57 @@ module _ (pool : List ℕ) (ts : Tables) (q : Query) (len : ℕ) where
     pub kinds : kinds-pass ≡ true
     pub window : wholeRows (q .n) len ≡ true
     pub sound : tables-pass ≡ true
+    pub shapes : shapes-pass ≡ true
 
-  number : {a b c d k w e : Bool} → orderOk q ≡ a → namedOk (ts .count) q ≡ b → lists-pass ≡ c → covers (q .n) (listsOf q) ≡ d → kinds-pass ≡ k → wholeRows (q .n) len ≡ w → tables-pass ≡ e → seven a b c d k w e ≡ joinNumber pool ts q len
+  number : {a b c d k w e s : Bool} → orderOk q ≡ a → namedOk (ts .count) q ≡ b → lists-pass ≡ c → covers (q .n) (listsOf q) ≡ d → kinds-pass ≡ k → wholeRows (q .n) len ≡ w → tables-pass ≡ e → shapes-pass ≡ s → eight a b c d k w e s ≡ joinNumber pool ts q len
   unfolding joinNumber
-  number p r s t g v u i = seven (sym p i) (sym r i) (sym s i) (sym t i) (sym g i) (sym v i) (sym u i)
+  number p r l t g v u h i = eight (sym p i) (sym r i) (sym l i) (sym t i) (sym g i) (sym v i) (sym u i) (sym h i)
 
   pub number-8 : orderOk q ≡ false → 8 ≡ joinNumber pool ts q len
-  number-8 e = number e refl refl refl refl refl refl
+  number-8 e = number e refl refl refl refl refl refl refl
 
   module _ (o : orderOk q ≡ true) where
     pub number-9 : namedOk (ts .count) q ≡ false → 9 ≡ joinNumber pool ts q len
-    number-9 e = number o e refl refl refl refl refl
+    number-9 e = number o e refl refl refl refl refl refl
 
     module _ (n : namedOk (ts .count) q ≡ true) where
       pub number-10 : lists-pass ≡ false → 10 ≡ joinNumber pool ts q len
-      number-10 e = number o n e refl refl refl refl
+      number-10 e = number o n e refl refl refl refl refl
 
       module _ (l : lists-pass ≡ true) where
         pub number-11 : covers (q .n) (listsOf q) ≡ false → 11 ≡ joinNumber pool ts q len
-        number-11 e = number o n l e refl refl refl
+        number-11 e = number o n l e refl refl refl refl
 
         module _ (c : covers (q .n) (listsOf q) ≡ true) where
           pub number-15 : kinds-pass ≡ false → 15 ≡ joinNumber pool ts q len
-          number-15 e = number o n l c e refl refl
+          number-15 e = number o n l c e refl refl refl
 
           module _ (k : kinds-pass ≡ true) where
             pub number-16 : wholeRows (q .n) len ≡ false → 16 ≡ joinNumber pool ts q len
-            number-16 e = number o n l c k e refl
+            number-16 e = number o n l c k e refl refl
 
             module _ (w : wholeRows (q .n) len ≡ true) where
               pub number-6 : tables-pass ≡ false → 6 ≡ joinNumber pool ts q len
-              number-6 e = number o n l c k w e
+              number-6 e = number o n l c k w e refl
 
-              pub number-0 : tables-pass ≡ true → 0 ≡ joinNumber pool ts q len
-              number-0 e = number o n l c k w e
+              module _ (u : tables-pass ≡ true) where
+                pub number-17 : shapes-pass ≡ false → 17 ≡ joinNumber pool ts q len
+                number-17 e = number o n l c k w u e
+
+                pub number-0 : shapes-pass ≡ true → 0 ≡ joinNumber pool ts q len
+                number-0 e = number o n l c k w u e
 
   -- and 0 tells that every check passed
   pub passed-all : joinNumber pool ts q len ≡ 0 → Passed
-  passed-all z = go (orderOk q) (namedOk (ts .count) q) lists-pass (covers (q .n) (listsOf q)) kinds-pass (wholeRows (q .n) len) tables-pass refl refl refl refl refl refl refl
+  passed-all z = go (orderOk q) (namedOk (ts .count) q) lists-pass (covers (q .n) (listsOf q)) kinds-pass (wholeRows (q .n) len) tables-pass shapes-pass refl refl refl refl refl refl refl refl
     where
-      go : (a b c d k w e : Bool) → orderOk q ≡ a → namedOk (ts .count) q ≡ b → lists-pass ≡ c → covers (q .n) (listsOf q) ≡ d → kinds-pass ≡ k → wholeRows (q .n) len ≡ w → tables-pass ≡ e → Passed
-      go true true true true true true true p r s t g v u = record { order = p; names = r; lists = s; covered = t; kinds = g; window = v; sound = u }
-      go true true true true true true false p r s t g v u = absurd (omega (arith, z, number p r s t g v u))
-      go true true true true true false e p r s t g v u = absurd (omega (arith, z, number p r s t g v u))
-      go true true true true false w e p r s t g v u = absurd (omega (arith, z, number p r s t g v u))
-      go true true true false k w e p r s t g v u = absurd (omega (arith, z, number p r s t g v u))
-      go true true false d k w e p r s t g v u = absurd (omega (arith, z, number p r s t g v u))
-      go true false c d k w e p r s t g v u = absurd (omega (arith, z, number p r s t g v u))
-      go false b c d k w e p r s t g v u = absurd (omega (arith, z, number p r s t g v u))
+      go : (a b c d k w e s : Bool) → orderOk q ≡ a → namedOk (ts .count) q ≡ b → lists-pass ≡ c → covers (q .n) (listsOf q) ≡ d → kinds-pass ≡ k → wholeRows (q .n) len ≡ w → tables-pass ≡ e → shapes-pass ≡ s → Passed
+      go true true true true true true true true p r l t g v u h = record { order = p; names = r; lists = l; covered = t; kinds = g; window = v; sound = u; shapes = h }
+      go true true true true true true true false p r l t g v u h = absurd (omega (arith, z, number p r l t g v u h))
+      go true true true true true true false s p r l t g v u h = absurd (omega (arith, z, number p r l t g v u h))
+      go true true true true true false e s p r l t g v u h = absurd (omega (arith, z, number p r l t g v u h))
+      go true true true true false w e s p r l t g v u h = absurd (omega (arith, z, number p r l t g v u h))
+      go true true true false k w e s p r l t g v u h = absurd (omega (arith, z, number p r l t g v u h))
+      go true true false d k w e s p r l t g v u h = absurd (omega (arith, z, number p r l t g v u h))
+      go true false c d k w e s p r l t g v u h = absurd (omega (arith, z, number p r l t g v u h))
+      go false b c d k w e s p r l t g v u h = absurd (omega (arith, z, number p r l t g v u h))

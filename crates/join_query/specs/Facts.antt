@@ -2,14 +2,16 @@
 use Prim.Native.Nat.{ℕ, _*_, _≤_, _<_}
 use mathlib.Core.Path.{_≡_}
 use mathlib.Core.Logic.{_⊎_}
+use mathlib.Core.Bool.{true}
 use mathlib.Core.List.{List, Sublistᴰ}
 use lib.ListN.{length}
 use Rattle.relation.specs.Lists.{_∈_}
 use Rattle.query.specs.Meaning.{Permutation}
 use Rattle.column_trie.specs.Limits.{maxArity}
 use Rattle.column_trie.specs.Table.{gradeAt, Undamaged}
+use Rattle.laid_over.specs.Shape.{SameShape}
 use Rattle.query.specs.Limits.{maxAtoms}
-use Rattle.join_query.specs.Query.{maxTables, maxVariables, atomAt, tableAt, atomTable, orderOf, varsOf, varAt}
+use Rattle.join_query.specs.Query.{maxTables, maxVariables, atomAt, tableAt, atomTable, atomMaker, orderOf, varsOf, varAt}
 use Rattle.join_query.specs.declared.Atom.{Atom}
 use Rattle.join_query.specs.declared.Query.{Query}
 use Rattle.join_query.specs.declared.Tables.{Tables}
@@ -24,11 +26,12 @@ pub record Ordered (q : Query) : Type 0 where
   pub few : q .n ≤ maxVariables
   pub permutation : Permutation (q .n) (orderOf q)
 
--- not 9: not over 8 atoms or tables, and each atom names a table
+-- not 9: not over 8 atoms or tables, and each atom names a table, its maker's too where it is laid over
 pub record Named (count : ℕ) (q : Query) : Type 0 where
   pub few : q .«atom_count» ≤ maxAtoms
   pub bounded : count ≤ maxTables
   pub each : (i : ℕ) → i < q .«atom_count» → atomAt q i .table < count
+  pub maker : (i : ℕ) → i < q .«atom_count» → atomAt q i .«laid_over» ≡ true → atomAt q i .maker < count
 
 -- not 10, of one atom: its list is as long as its table's arity, which is not over 8, holds no number from n up, and strictly follows the order: it is
 -- the order with some variables left out
@@ -59,9 +62,14 @@ SameKinds ts q = (i j k l : ℕ) → HasColumn q i j → HasColumn q k l → var
 abbrev pub WholeRows : ℕ → ℕ → Type 0
 WholeRows n len = (n ≡ 0) ⊎ ((rows : ℕ) × (len ≡ rows * n))
 
--- not 6: each table that an atom names is undamaged
-abbrev pub SoundTables : List ℕ → Tables → Query → Type 0
-SoundTables pool ts q = (i : ℕ) → i < q .«atom_count» → Undamaged pool (tableAt ts (atomAt q i .table))
+-- not 6: each table that an atom names is undamaged, and where it is laid over its maker's too
+pub record SoundTables (pool : List ℕ) (ts : Tables) (q : Query) : Type 0 where
+  pub each : (i : ℕ) → i < q .«atom_count» → Undamaged pool (atomTable ts q i)
+  pub maker : (i : ℕ) → i < q .«atom_count» → atomAt q i .«laid_over» ≡ true → Undamaged pool (atomMaker ts q i)
+
+-- not 17: the two tables of each atom that is laid over are of the same arity and kinds
+abbrev pub SameShapes : Tables → Query → Type 0
+SameShapes ts q = (i : ℕ) → i < q .«atom_count» → atomAt q i .«laid_over» ≡ true → SameShape (atomTable ts q i) (atomMaker ts q i)
 
 -- none of these numbers, where the window has len words
 pub record Passing (pool : List ℕ) (ts : Tables) (q : Query) (len : ℕ) : Type 0 where
@@ -72,3 +80,4 @@ pub record Passing (pool : List ℕ) (ts : Tables) (q : Query) (len : ℕ) : Typ
   pub kinds : SameKinds ts q
   pub window : WholeRows (q .n) len
   pub sound : SoundTables pool ts q
+  pub shapes : SameShapes ts q

@@ -5,7 +5,7 @@ use lib.ListN.{length}
 use Rattle.query.specs.Solve.{listing}
 use Rattle.query.specs.Window.{Progress, windowed}
 use Rattle.query.specs.Outcome.{Comes, told, refused}
-use Rattle.join_query.specs.Query.{orderOf, atomsOf, joinNumber}
+use Rattle.join_query.specs.Query.{orderOf, rowsAt, atomsOf, joinNumber}
 use Rattle.join_query.specs.declared.Query.{Query}
 use Rattle.join_query.specs.declared.Tables.{Tables}
 
@@ -20,5 +20,5 @@ answered zero window s = told s
 answered (suc number) window s = refused (suc number) window
 
 unfoldable pub outcome : List ℕ → Tables → Query → List ℕ → Comes
-unfolding answered joinNumber listing windowed
+unfolding answered joinNumber rowsAt listing windowed
 outcome pool ts q window = answered (joinNumber pool ts q (length window)) window (listed pool ts q window)

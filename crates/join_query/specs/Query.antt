@@ -5,13 +5,15 @@ use mathlib.Core.Bool.{Bool, true, false, _&&_, _||_, not, Bool·beq}
 use mathlib.Core.List.{List, [], map}
 use lib.ListN.{length, take, getD}
 use lib.Dec.{eqb, ltb, leb}
-use Rattle.relation.specs.Order.{pick}
+use Rattle.relation.specs.Order.{Row, pick}
 use Rattle.relation.specs.Tests as index
 use Rattle.query.specs.Meaning as meaning
 use Rattle.query.specs.Checks.{some, permutes, listed, covers}
 use Rattle.column_trie.specs.Limits.{maxArity}
 use Rattle.column_trie.specs.Table.{noTable, gradeAt, rowsIn, undamaged}
 use Rattle.column_trie.specs.declared.ColumnTrie.{ColumnTrie}
+use Rattle.overlay.specs.Laid.{laid}
+use Rattle.laid_over.specs.Shape.{sameShape}
 use Rattle.query.specs.Limits.{maxAtoms}
 use Rattle.join_query.specs.declared.Atom.{Atom}
 use Rattle.join_query.specs.declared.Query.{Query}
@@ -26,7 +28,7 @@ maxVariables = 8
 
 -- what stands where an atom is looked up by a number that none has
 abbrev pub noAtom : Atom
-noAtom = record { table = 0; len = 0; variables = [] }
+noAtom = record { table = 0; len = 0; variables = []; «laid_over» = false; maker = 0 }
 
 abbrev pub atomAt : Query → ℕ → Atom
 atomAt q i = getD (q .atoms) i noAtom
@@ -51,28 +53,42 @@ listsOf q = map varsOf (atomsIn q)
 abbrev pub varAt : Atom → ℕ → ℕ
 varAt a j = getD (a .variables) j 0
 
--- the atoms of the theory: their lists, with the rows that their tables hold in the pool
+-- an atom's rows: those that its table holds in the pool; where it is laid over, those of its table and its maker's that count
+unfoldable pub rowsAt : List ℕ → Tables → Atom → List Row
+unfolding laid
+rowsAt pool ts a =
+    pick (a .«laid_over») (laid (rowsIn pool (tableAt ts (a .table))) (rowsIn pool (tableAt ts (a .maker))))
+    (rowsIn pool (tableAt ts (a .table)))
+
+-- the atoms of the theory: their lists, with their rows
 abbrev pub atomOf : List ℕ → Tables → Atom → meaning.Atom
-atomOf pool ts a = record { vars = varsOf a; rows = rowsIn pool (tableAt ts (a .table)) }
+atomOf pool ts a = record { vars = varsOf a; rows = rowsAt pool ts a }
 
 abbrev pub atomsOf : List ℕ → Tables → Query → List meaning.Atom
 atomsOf pool ts q = map (atomOf pool ts) (atomsIn q)
 
--- atom i's table
+-- atom i's table; its maker's, where it is laid over
 abbrev pub atomTable : Tables → Query → ℕ → ColumnTrie
 atomTable ts q i = tableAt ts (atomAt q i .table)
 
--- ---- the checks, in document 01's sequence, with 15 and 16 of document 02 behind 11
+abbrev pub atomMaker : Tables → Query → ℕ → ColumnTrie
+atomMaker ts q i = tableAt ts (atomAt q i .maker)
+
+-- ---- the checks, in document 01's sequence, with 15 and 16 of document 02 behind 11, and 17 behind 6
 
 -- not 8: the order is a permutation of 0 to n - 1, and n is at most 8
 unfoldable pub orderOk : Query → Bool
 unfolding permutes
 orderOk q = leb (q .n) maxVariables && permutes (q .n) (orderOf q)
 
--- not 9: at most 8 atoms and tables, and each atom names a table
+-- an atom's table is one of so many; and so is its maker's, where it is laid over
+abbrev pub namesSome : ℕ → Atom → Bool
+namesSome count a = ltb (a .table) count && (not (a .«laid_over») || ltb (a .maker) count)
+
+-- not 9: at most 8 atoms and tables, and each atom names tables
 unfoldable pub namedOk : ℕ → Query → Bool
 unfolding index.every
-namedOk count q = leb (q .«atom_count») maxAtoms && (leb count maxTables && index.every (q .«atom_count») (λ (i : ℕ). ltb (atomAt q i .table) count))
+namedOk count q = leb (q .«atom_count») maxAtoms && (leb count maxTables && index.every (q .«atom_count») (λ (i : ℕ). namesSome count (atomAt q i)))
 
 -- not 10, of one atom
 unfoldable pub listedAt : Query → Atom → ℕ → Bool
@@ -102,19 +118,30 @@ oneKind ts q v = bindsOnly ts q v false || bindsOnly ts q v true
 abbrev pub wholeRows : ℕ → ℕ → Bool
 wholeRows n len = eqb n 0 || eqb (len % n) 0
 
+-- the atom names table t: as its table, or as its maker's where it is laid over
+abbrev pub names : ℕ → Atom → Bool
+names t a = eqb (a .table) t || (a .«laid_over» && eqb (a .maker) t)
+
 -- an atom names table t
 unfoldable pub named : Query → ℕ → Bool
 unfolding some
-named q t = some (λ (a : Atom). eqb (a .table) t) (atomsIn q)
+named q t = some (names t) (atomsIn q)
 
 -- not 6, of one table: undamaged, where an atom names it
 unfoldable pub soundAt : List ℕ → Tables → Query → ℕ → Bool
 unfolding named undamaged
 soundAt pool ts q t = not (named q t) || undamaged pool (tableAt ts t)
 
+-- not 17, of one atom: where it is laid over, its two tables are of the same shape
+abbrev pub shapesAgree : Tables → Atom → Bool
+shapesAgree ts a = not (a .«laid_over») || sameShape (tableAt ts (a .table)) (tableAt ts (a .maker))
+
+abbrev pub shapeOk : Tables → Query → ℕ → Bool
+shapeOk ts q i = shapesAgree ts (atomAt q i)
+
 -- the refusal, or 0, where the window has len words
 unfoldable pub joinNumber : List ℕ → Tables → Query → ℕ → ℕ
-unfolding orderOk namedOk listedAt covers soundAt
+unfolding orderOk namedOk listedAt covers soundAt sameShape
 joinNumber pool ts q len =
     pick (not (orderOk q)) 8
     (pick (not (namedOk (ts .count) q)) 9
@@ -123,7 +150,8 @@ joinNumber pool ts q len =
     (pick (not (index.every (q .n) (oneKind ts q))) 15
     (pick (not (wholeRows (q .n) len)) 16
     (pick (not (index.every (ts .count) (soundAt pool ts q))) 6
-    0))))))
+    (pick (not (index.every (q .«atom_count») (shapeOk ts q))) 17
+    0)))))))
 
 -- the query passed the checks, with a window of len words; that its array of atoms is full is what its type says
 pub record Accepted (pool : List ℕ) (ts : Tables) (q : Query) (len : ℕ) : Type 0 where

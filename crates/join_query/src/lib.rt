@@ -5,11 +5,14 @@
 // knows how the rows are found.
 use column_trie::ColumnTrie;
 
+// An atom over one table or, where it is laid over, over the rows that count of two: `table` is then the school's and `maker` the maker's. A plain atom's `maker` is not looked at.
 #[repr(C)]
 pub struct Atom {
     pub table: usize,
     pub len: usize,
     pub variables: [usize; ColumnTrie::MAX_ARITY],
+    pub laid_over: bool,
+    pub maker: usize,
 }
 
 #[repr(C)]

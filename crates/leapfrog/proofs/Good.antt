@@ -94,7 +94,7 @@ module _ {runs : List (List ℕ)} {p most : ℕ} (g : Good runs p most) where
       some-length : (r : List ℕ) → (r ≡ [] → ⊥) → 0 < length r
       some-length r n = omega (arith, ap length (some-cons r n))
 
-  top : (j : ℕ) → j < length runs → firstAt runs j ≤ most
+  pub top : (j : ℕ) → j < length runs → firstAt runs j ≤ most
   top j l = omega (arith, greatest (g .round) (g .last) (g .inside) (g .follows) j l, g .is-most)
 
   pub agreed : firstAt runs p ≡ most → Agree runs most

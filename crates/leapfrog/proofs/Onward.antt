@@ -54,10 +54,10 @@ comes-past : (runs : List (List ℕ)) (p : ℕ) (s : List ℕ) (d : ℕ) {common
 comes-past runs p s d {common} {w} h e t c = subst (Comes 0 runs common) (more-none w) (comes-on 0 d h e refl (omega arith) c)
 
 module _ {runs : List (List ℕ)} {x p : ℕ} (g : Agreeing runs x p) where
-  keys : (j : ℕ) → j < length runs → firstAt runs j ≡ x
+  pub keys : (j : ℕ) → j < length runs → firstAt runs j ≡ x
   keys j l = ap first (g .agree j l)
 
-  agreeing-round : Round (firstAt runs) (length runs) p
+  pub agreeing-round : Round (firstAt runs) (length runs) p
   agreeing-round = record {
     up = λ i j a b c. omega (arith, keys i (omega arith), keys j c);
     wrapped = λ i j a b. omega (arith, keys i (omega (arith, g .place)), keys j (omega (arith, g .place)));

@@ -37,7 +37,7 @@ follows-before {k} {p} {q} f = ap (placeBefore k) (sym (follows-after f)) ∙ be
 
 -- ---- a ring that is ready
 
-round-same : {κ κ′ : ℕ → ℕ} {k p : ℕ} → p < k → ((j : ℕ) → j < k → κ′ j ≡ κ j) → Round κ k p → Round κ′ k p
+pub round-same : {κ κ′ : ℕ → ℕ} {k p : ℕ} → p < k → ((j : ℕ) → j < k → κ′ j ≡ κ j) → Round κ k p → Round κ′ k p
 round-same h f r = record {
   up = λ i j a b c. omega (arith, r .up i j a b c, f i (omega arith), f j c);
   wrapped = λ i j a b. omega (arith, r .wrapped i j a b, f i (omega arith), f j (omega arith));
@@ -45,7 +45,7 @@ round-same h f r = record {
 }
 
 -- runs of at most n keys each
-few : (rs : List (List ℕ)) (n : ℕ) → ((i : ℕ) → i < length rs → length (runAt rs i) ≤ n) → total rs ≤ length rs * n
+pub few : (rs : List (List ℕ)) (n : ℕ) → ((i : ℕ) → i < length rs → length (runAt rs i) ≤ n) → total rs ≤ length rs * n
 unfolding total
 few [] n f = omega arith
 few (s ∷ rs) n f = omega (arith, f 0 (omega arith), few rs n (λ i l. f (suc i) (omega arith)), suc-mul (length rs) n)
@@ -97,7 +97,7 @@ module _ {pool at₀ end ring : List ℕ} {k : ℕ} (r : Ready pool at₀ end ri
   size : length (runsIn pool at end ring k) ≡ k
   size = runs-length pool at end ring k (enough r)
 
-  left-agreed : {x p : ℕ} → p < k → Runs (runsIn pool at end ring k) → Agree (runsIn pool at end ring k) x → Agreed pool at end ring k x p
+  pub left-agreed : {x p : ℕ} → p < k → Runs (runsIn pool at end ring k) → Agree (runsIn pool at end ring k) x → Agreed pool at end ring k x p
   left-agreed {x} {p} h s g = record {
     ready = record {
       positive = r .positive;

@@ -42,7 +42,7 @@ pub struct SearchedFor {
 }
 
 // The place of the ring after p.
-fn after(p: usize, k: usize) -> usize
+pub fn after(p: usize, k: usize) -> usize
     requires { ⌜ p < k ⌝ }
     ensures { λ r. ⌜ Follows k p r ⌝ }
 {
@@ -50,7 +50,7 @@ fn after(p: usize, k: usize) -> usize
 }
 
 // The place of the ring before p.
-fn before(p: usize, k: usize) -> usize
+pub fn before(p: usize, k: usize) -> usize
     requires { ⌜ p < k ⌝ }
     ensures { λ r. ⌜ Follows k r p ⌝ }
 {

@@ -24,13 +24,14 @@ use Rattle.leapfrog.specs.Search.{Went, on, out, none, initOf, nextOf}
 use Rattle.leapfrog.specs.Walk.{Tally, onwardOf, depthOf, walkOf, capped}
 use Rattle.leapfrog.proofs.Steps.{none-not, none-is}
 use Rattle.leapfrog.proofs.Walk.{depth-out, depth-full, depth-on, walk-leaf, walk-depth, belowOf, capped-twice, from-from, meet-few}
-use Rattle.leapfrog_join.specs.Leapfrog.{runsIn, Agreed, leftOf}
+use Rattle.leapfrog_join.specs.Leapfrog.{leftOf}
 use Rattle.leapfrog_join.specs.declared.Landed.{Landed}
 use Rattle.leapfrog_join.specs.declared.Landed.the-variants.{Key, Nothing}
-use Rattle.leapfrog_join.proofs.Laws.{agreed-first, agreed-key, agreed-from}
+use Rattle.leapfrog_join.proofs.Laws.{agreed-key}
 use Rattle.ring_sort.specs.Sorted.{keyAt}
 use Rattle.leapfrog_join.specs.declared.Searched.{Searched}
-use Rattle.leapfrog_join.proofs.Runs.{ready-runs}
+use Rattle.stretches.specs.Stand.{State, wholesIn}
+use Rattle.stretches.specs.Whole.{WholeAgreed}
 use Rattle.join_query.specs.Query.{orderOf, atomsOf}
 use Rattle.join_window.specs.Window.{written}
 use Rattle.join_depths.specs.Depth.{countAt, Based, Stands, AgreedAt, AtKey, Answers, Leapt, groupsAt, Starts, Begins, Steps, Opening, Onward, variableAt}
@@ -38,12 +39,13 @@ use Rattle.leapfrog_triejoin.specs.Descent.{Counted, Completes}
 use Rattle.join_query.specs.declared.Query.{Query}
 use Rattle.join_query.specs.declared.Tables.{Tables}
 use Rattle.join_query.proofs.Accepted.{sized, tables}
+use Rattle.join_depths.proofs.Wholes.{whole-first, whole-ready, ready-wholes}
 use Rattle.join_depths.proofs.Standing.{order-next, variable-is}
 use Rattle.leapfrog_triejoin.proofs.Walking.{Goes, Walk, first, rest, gained, gains, goes-below, descended-leaf}
 
 -- ---- the last depth
 
-pub last-is : {pool : List ℕ} {ts : Tables} {q : Query} {plan : List ℕ} {n d : ℕ} {f : ℕ → Row} → Based pool ts q plan n d f → d < n → none (rest q d) ≡ eqb (d + 1) n
+pub last-is : {pool : List ℕ} {ts : Tables} {q : Query} {plan ends : List ℕ} {n d : ℕ} {f : ℕ → Row} → Based pool ts q plan ends n d f → d < n → none (rest q d) ≡ eqb (d + 1) n
 last-is {q = q} {n = n} {d} b h = go (ℕ-discrete (d + 1) n)
   where
     long : length (orderOf q) ≡ n
@@ -70,15 +72,15 @@ answers-stood w runs runs′ last (Nothing p) m e a = a .0
 abbrev tally : Progress → ℕ → Tally
 tally s m = record { progress = s; seeks = m }
 
-pub record Counts (pool : List ℕ) (ts : Tables) (q : Query) (plan : List ℕ) (n d : ℕ) (f : ℕ → Row) (found : Row) (t₀ : Tally) (at end ring byAtom : List ℕ) (landed : Landed) (s : Progress) (seeks : ℕ) : Type 0 where
+pub record Counts (pool : List ℕ) (ts : Tables) (q : Query) (plan ends : List ℕ) (n d : ℕ) (f : ℕ → Row) (found : Row) (t₀ : Tally) (z : State) (ring byAtom : List ℕ) (landed : Landed) (s : Progress) (seeks : ℕ) : Type 0 where
   pub fuel : ℕ
   pub went : Went
   pub made : ℕ
   pub same : walkOf n (first q d ∷ rest q d) (standings f (atomsOf pool ts q)) found t₀ ≡ depthOf (belowOf n (first q d) (rest q d) (standings f (atomsOf pool ts q)) found) (none (rest q d)) (groupsAt pool ts q d f) (suc fuel) went (tally s made)
   pub sum : seeks ≡ capped (made + went .seeks)
-  pub stood : Stood went (none (rest q d)) (runsIn pool at end ring (countAt plan d)) landed
-  pub enough : length (leftOf (runsIn pool at end byAtom (countAt plan d)) landed) ≤ fuel
-  pub cut : AtKey landed (λ (x : ℕ). runsIn pool at end byAtom (countAt plan d) ≡ map (from x) (groupsAt pool ts q d f))
+  pub stood : Stood went (none (rest q d)) (wholesIn pool z ends ring (countAt plan d)) landed
+  pub enough : length (leftOf (wholesIn pool z ends byAtom (countAt plan d)) landed) ≤ fuel
+  pub cut : AtKey landed (λ (x : ℕ). wholesIn pool z ends byAtom (countAt plan d) ≡ map (from x) (groupsAt pool ts q d f))
 
 -- seeks before, capped, and those of one call
 one-sum : {seeks : ℕ} (before made m m′ : ℕ) → seeks ≡ capped (before + m) → before ≡ capped made → m′ ≡ m → seeks ≡ capped (made + m′)
@@ -92,34 +94,34 @@ map-from : (x y : ℕ) → x ≤ y → (rs : List (List ℕ)) → map (from y) (
 map-from x y h [] = refl
 map-from x y h (r ∷ rs) = ap₂ (λ (y : List ℕ) (ys : List (List ℕ)). y ∷ ys) (from-from x y h r) (map-from x y h rs)
 
-module _ {pool : List ℕ} {ts : Tables} {q : Query} {plan : List ℕ} {n d : ℕ} {f : ℕ → Row} {found : Row} where
-  pub counts-start : Based pool ts q plan n d f → {at end ring byAtom : List ℕ} {landed : Landed} {s₀ : Progress} {before seeks : ℕ} → Begins pool ts q plan n d at end byAtom f landed → Starts pool ts q plan d at end ring byAtom f before landed seeks → (m : ℕ) → before ≡ capped m → Counts pool ts q plan n d f found (tally s₀ m) at end ring byAtom landed s₀ seeks
-  counts-start b {at} {end} {ring} {landed = landed} {s₀} {before} g st m e = record {
+module _ {pool : List ℕ} {ts : Tables} {q : Query} {plan ends : List ℕ} {n d : ℕ} {f : ℕ → Row} {found : Row} where
+  pub counts-start : Based pool ts q plan ends n d f → {z : State} {ring byAtom : List ℕ} {landed : Landed} {s₀ : Progress} {before seeks : ℕ} → Begins pool ts q plan ends n d z byAtom f landed → Starts pool ts q plan ends d z ring byAtom f before landed seeks → (m : ℕ) → before ≡ capped m → Counts pool ts q plan ends n d f found (tally s₀ m) z ring byAtom landed s₀ seeks
+  counts-start b {z} {ring} {landed = landed} {s₀} {before} g st m e = record {
     fuel = total (groupsAt pool ts q d f);
     went = initOf (groupsAt pool ts q d f);
     made = m;
     same = walk-depth n (first q d) (rest q d) (standings f (atomsOf pool ts q)) found (tally s₀ m);
-    sum = one-sum before m (st .leapt .made) (initOf (groupsAt pool ts q d f) .seeks) (st .leapt .sum) e (answers-seeks (initOf (groupsAt pool ts q d f)) (runsIn pool at end ring (countAt plan d)) landed (st .leapt .made) (st .leapt .answers));
-    stood = answers-stood (initOf (groupsAt pool ts q d f)) (runsIn pool at end ring (countAt plan d)) (runsIn pool at end ring (countAt plan d)) (none (rest q d)) landed (st .leapt .made) (λ l. refl) (st .leapt .answers);
+    sum = one-sum before m (st .leapt .made) (initOf (groupsAt pool ts q d f) .seeks) (st .leapt .sum) e (answers-seeks (initOf (groupsAt pool ts q d f)) (wholesIn pool z ends ring (countAt plan d)) landed (st .leapt .made) (st .leapt .answers));
+    stood = answers-stood (initOf (groupsAt pool ts q d f)) (wholesIn pool z ends ring (countAt plan d)) (wholesIn pool z ends ring (countAt plan d)) (none (rest q d)) landed (st .leapt .made) (λ l. refl) (st .leapt .answers);
     enough = omega (arith, ap length (g .keys ∙ ap meet (sym (standings-runs (first q d) f (atomsOf pool ts q) (tables (b .accepted))))), meet-few (groupsAt pool ts q d f));
     cut = st .cut;
   }
 
   -- none is left
-  pub counts-none : {t₀ : Tally} {at end ring byAtom : List ℕ} {p : ℕ} {s : Progress} {seeks : ℕ} → Counts pool ts q plan n d f found t₀ at end ring byAtom (Nothing p) s seeks → Counted (walkOf n (first q d ∷ rest q d) (standings f (atomsOf pool ts q)) found t₀) s seeks
+  pub counts-none : {t₀ : Tally} {z : State} {ring byAtom : List ℕ} {p : ℕ} {s : Progress} {seeks : ℕ} → Counts pool ts q plan ends n d f found t₀ z ring byAtom (Nothing p) s seeks → Counted (walkOf n (first q d ∷ rest q d) (standings f (atomsOf pool ts q)) found t₀) s seeks
   counts-none {s = s} c =
       let e = c .same ∙ depth-out (belowOf n (first q d) (rest q d) (standings f (atomsOf pool ts q)) found) (none (rest q d)) (groupsAt pool ts q d f) (c .fuel) (c .went) (tally s (c .made)) (c .stood) in
       record { window = ap (λ (t : Tally). t .progress) e; count = c .sum ∙ ap (λ (t : Tally). capped (t .seeks)) (sym e) }
 
   -- a key is found, and the walk under it is done
-  module _ {t₀ : Tally} {at end ring byAtom : List ℕ} {x p : ℕ} {s u : Progress} {seeks seeks′ : ℕ} (c : Counts pool ts q plan n d f found t₀ at end ring byAtom (Key x p) s seeks) (b : Counted (belowOf n (first q d) (rest q d) (standings f (atomsOf pool ts q)) found x (tally s (c .made + c .went .seeks))) u seeks′) where
+  module _ {t₀ : Tally} {z : State} {ring byAtom : List ℕ} {x p : ℕ} {s u : Progress} {seeks seeks′ : ℕ} (c : Counts pool ts q plan ends n d f found t₀ z ring byAtom (Key x p) s seeks) (b : Counted (belowOf n (first q d) (rest q d) (standings f (atomsOf pool ts q)) found x (tally s (c .made + c .went .seeks))) u seeks′) where
     pub counts-full : u .full ≡ true → Counted (walkOf n (first q d ∷ rest q d) (standings f (atomsOf pool ts q)) found t₀) u seeks′
     counts-full h =
         let e = c .same ∙ depth-full (belowOf n (first q d) (rest q d) (standings f (atomsOf pool ts q)) found) (none (rest q d)) (groupsAt pool ts q d f) (c .fuel) (c .went) (tally s (c .made)) (c .stood .0) (ap (λ (v : Progress). v .full) (b .window) ∙ h) in
         record { window = ap (λ (t : Tally). t .progress) e ∙ b .window; count = b .count ∙ ap (λ (t : Tally). capped (t .seeks)) (sym e) }
 
-    pub counts-next : u .full ≡ false → Agreed pool at end byAtom (countAt plan d) x p → {at′ : List ℕ} {landed′ : Landed} {last : Bool} {seeks″ : ℕ} → none (rest q d) ≡ last → Steps pool end byAtom (countAt plan d) at at′ x landed′ → Leapt (nextOf (runsIn pool at end (pick last ring byAtom) (countAt plan d)) (pick last p 0)) (runsIn pool at′ end (pick last ring byAtom) (countAt plan d)) seeks′ landed′ seeks″ → Counts pool ts q plan n d f found t₀ at′ end ring byAtom landed′ u seeks″
-    counts-next h a {at′} {landed′} {last} l t k = record {
+    pub counts-next : u .full ≡ false → WholeAgreed pool z ends byAtom (countAt plan d) x p → {z′ : State} {landed′ : Landed} {last : Bool} {seeks″ : ℕ} → none (rest q d) ≡ last → Steps pool ends byAtom (countAt plan d) z z′ x landed′ → Leapt (nextOf (wholesIn pool z ends (pick last ring byAtom) (countAt plan d)) (pick last p 0)) (wholesIn pool z′ ends (pick last ring byAtom) (countAt plan d)) seeks′ landed′ seeks″ → Counts pool ts q plan ends n d f found t₀ z′ ring byAtom landed′ u seeks″
+    counts-next h a {z′} {landed′} {last} l t k = record {
       fuel = turn .0;
       went = onwardOf (none (rest q d)) (groupsAt pool ts q d f) (c .went) x;
       made = T .seeks;
@@ -128,10 +130,10 @@ module _ {pool : List ℕ} {ts : Tables} {q : Query} {plan : List ℕ} {n d : �
           ∙ (depth-on (belowOf n (first q d) (rest q d) (standings f (atomsOf pool ts q)) found) (none (rest q d)) (groupsAt pool ts q d f) (c .fuel) (c .went) (tally s (c .made)) (c .stood .0) (ap (λ (v : Progress). v .full) (b .window) ∙ h)
           ∙ (ap (λ (m : ℕ). depthOf (belowOf n (first q d) (rest q d) (standings f (atomsOf pool ts q)) found) (none (rest q d)) (groupsAt pool ts q d f) m (onwardOf (none (rest q d)) (groupsAt pool ts q d f) (c .went) x) T) (turn .1)
           ∙ ap (λ (v : Progress). depthOf (belowOf n (first q d) (rest q d) (standings f (atomsOf pool ts q)) found) (none (rest q d)) (groupsAt pool ts q d f) (suc (turn .0)) (onwardOf (none (rest q d)) (groupsAt pool ts q d f) (c .went) x) (tally v (T .seeks))) (b .window)));
-      sum = one-sum seeks′ (T .seeks) (k .made) (onwardOf (none (rest q d)) (groupsAt pool ts q d f) (c .went) x .seeks) (k .sum) (b .count) (ap (λ (w : Went). w .seeks) (goes (none (rest q d)) l (c .stood .1)) ∙ answers-seeks (nextOf (runsIn pool at end (pick last ring byAtom) (countAt plan d)) (pick last p 0)) (runsIn pool at′ end (pick last ring byAtom) (countAt plan d)) landed′ (k .made) (k .answers));
-      stood = answers-stood (onwardOf (none (rest q d)) (groupsAt pool ts q d f) (c .went) x) (runsIn pool at′ end (pick last ring byAtom) (countAt plan d)) (runsIn pool at′ end ring (countAt plan d)) (none (rest q d)) landed′ (k .made) (λ e. ap (λ (y : Bool). runsIn pool at′ end (pick y ring byAtom) (countAt plan d)) (sym l ∙ e)) (subst (λ (w : Went). Answers w (runsIn pool at′ end (pick last ring byAtom) (countAt plan d)) landed′ (k .made)) (sym (goes (none (rest q d)) l (c .stood .1))) (k .answers));
+      sum = one-sum seeks′ (T .seeks) (k .made) (onwardOf (none (rest q d)) (groupsAt pool ts q d f) (c .went) x .seeks) (k .sum) (b .count) (ap (λ (w : Went). w .seeks) (goes (none (rest q d)) l (c .stood .1)) ∙ answers-seeks (nextOf (wholesIn pool z ends (pick last ring byAtom) (countAt plan d)) (pick last p 0)) (wholesIn pool z′ ends (pick last ring byAtom) (countAt plan d)) landed′ (k .made) (k .answers));
+      stood = answers-stood (onwardOf (none (rest q d)) (groupsAt pool ts q d f) (c .went) x) (wholesIn pool z′ ends (pick last ring byAtom) (countAt plan d)) (wholesIn pool z′ ends ring (countAt plan d)) (none (rest q d)) landed′ (k .made) (λ e. ap (λ (y : Bool). wholesIn pool z′ ends (pick y ring byAtom) (countAt plan d)) (sym l ∙ e)) (subst (λ (w : Went). Answers w (wholesIn pool z′ ends (pick last ring byAtom) (countAt plan d)) landed′ (k .made)) (sym (goes (none (rest q d)) l (c .stood .1))) (k .answers));
       enough = omega (arith, ap length (t .keys), turn .1, c .enough);
-      cut = cuts landed′ (t .agreed) (t .keys);
+      cut = cuts landed′ (t .agreed) (t .keys) (t .cut);
     }
       where
         T : Tally
@@ -140,25 +142,25 @@ module _ {pool : List ℕ} {ts : Tables} {q : Query} {plan : List ℕ} {n d : �
         turn : (m : ℕ) × (c .fuel ≡ suc m)
         turn = grown (c .fuel) (omega (arith, ap length (t .keys), c .enough))
 
-        goes : (y : Bool) → y ≡ last → (y ≡ true → (c .went .runs ≡ runsIn pool at end ring (countAt plan d)) × (c .went .place ≡ p)) → onwardOf y (groupsAt pool ts q d f) (c .went) x ≡ nextOf (runsIn pool at end (pick last ring byAtom) (countAt plan d)) (pick last p 0)
-        goes true e o = ap₂ nextOf (o refl .0) (o refl .1) ∙ ap (λ (z : Bool). nextOf (runsIn pool at end (pick z ring byAtom) (countAt plan d)) (pick z p 0)) e
-        goes false e o = ap (λ (rs : List (List ℕ)). nextOf rs 0) (sym (c .cut)) ∙ ap (λ (z : Bool). nextOf (runsIn pool at end (pick z ring byAtom) (countAt plan d)) (pick z p 0)) e
+        goes : (y : Bool) → y ≡ last → (y ≡ true → (c .went .runs ≡ wholesIn pool z ends ring (countAt plan d)) × (c .went .place ≡ p)) → onwardOf y (groupsAt pool ts q d f) (c .went) x ≡ nextOf (wholesIn pool z ends (pick last ring byAtom) (countAt plan d)) (pick last p 0)
+        goes true e o = ap₂ nextOf (o refl .0) (o refl .1) ∙ ap (λ (y : Bool). nextOf (wholesIn pool z ends (pick y ring byAtom) (countAt plan d)) (pick y p 0)) e
+        goes false e o = ap (λ (rs : List (List ℕ)). nextOf rs 0) (sym (c .cut)) ∙ ap (λ (y : Bool). nextOf (wholesIn pool z ends (pick y ring byAtom) (countAt plan d)) (pick y p 0)) e
 
-        cuts : (landed : Landed) → AgreedAt pool at′ end byAtom (countAt plan d) landed → meet (runsIn pool at end byAtom (countAt plan d)) ≡ x ∷ leftOf (runsIn pool at′ end byAtom (countAt plan d)) landed → AtKey landed (λ (y : ℕ). runsIn pool at′ end byAtom (countAt plan d) ≡ map (from y) (groupsAt pool ts q d f))
-        cuts (Key y r) g e =
-            let m = ascends-head (subst (Ascends _<_) (e ∙ ap (λ (ks : List ℕ). x ∷ ks) (agreed-first g)) (meet-asc (runsIn pool at end byAtom (countAt plan d)) (ready-runs (a .ready)))) y (hd refl) in
-            agreed-from (a .ready) (t .moved) g ∙ (ap (map (from y)) (c .cut) ∙ map-from x y (omega arith) (groupsAt pool ts q d f))
-        cuts (Nothing r) g e = tt
+        cuts : (landed : Landed) → AgreedAt pool z′ ends byAtom (countAt plan d) landed → meet (wholesIn pool z ends byAtom (countAt plan d)) ≡ x ∷ leftOf (wholesIn pool z′ ends byAtom (countAt plan d)) landed → AtKey landed (λ (y : ℕ). wholesIn pool z′ ends byAtom (countAt plan d) ≡ map (from y) (wholesIn pool z ends byAtom (countAt plan d))) → AtKey landed (λ (y : ℕ). wholesIn pool z′ ends byAtom (countAt plan d) ≡ map (from y) (groupsAt pool ts q d f))
+        cuts (Key y r) g e k =
+            let m = ascends-head (subst (Ascends _<_) (e ∙ ap (λ (ks : List ℕ). x ∷ ks) (whole-first g)) (meet-asc (wholesIn pool z ends byAtom (countAt plan d)) (ready-wholes (whole-ready a)))) y (hd refl) in
+            k ∙ (ap (map (from y)) (c .cut) ∙ map-from x y (omega arith) (groupsAt pool ts q d f))
+        cuts (Nothing r) g e k = tt
 
 -- ---- the loop's invariant, and the ends of the loop: for every query
 
-pub record Counting (pool plan : List ℕ) (n d : ℕ) (at₀ end ring byAtom : List ℕ) (landed₀ : Landed) (found w₀ : List ℕ) (from before seeks₀ : ℕ) (w at : List ℕ) (landed : Landed) (rows seeks : ℕ) : Type 0 where
-  pub counts : (ts : Tables) (q : Query) (f : ℕ → Row) → Based pool ts q plan n d f → Begins pool ts q plan n d at₀ end byAtom f landed₀ → Starts pool ts q plan d at₀ end ring byAtom f before landed₀ seeks₀ → (m : ℕ) → before ≡ capped m → Counts pool ts q plan n d f found (tally (written w₀ from false) m) at end ring byAtom landed (written w rows false) seeks
+pub record Counting (pool plan ends : List ℕ) (n d : ℕ) (z₀ : State) (ring byAtom : List ℕ) (landed₀ : Landed) (found w₀ : List ℕ) (from before seeks₀ : ℕ) (w : List ℕ) (z : State) (landed : Landed) (rows seeks : ℕ) : Type 0 where
+  pub counts : (ts : Tables) (q : Query) (f : ℕ → Row) → Based pool ts q plan ends n d f → Begins pool ts q plan ends n d z₀ byAtom f landed₀ → Starts pool ts q plan ends d z₀ ring byAtom f before landed₀ seeks₀ → (m : ℕ) → before ≡ capped m → Counts pool ts q plan ends n d f found (tally (written w₀ from false) m) z ring byAtom landed (written w rows false) seeks
 
-pub counting-start : {pool plan : List ℕ} {n d : ℕ} {at₀ end ring byAtom : List ℕ} {landed₀ : Landed} {found w₀ : List ℕ} {from before seeks₀ : ℕ} → Counting pool plan n d at₀ end ring byAtom landed₀ found w₀ from before seeks₀ w₀ at₀ landed₀ from seeks₀
+pub counting-start : {pool plan ends : List ℕ} {n d : ℕ} {z₀ : State} {ring byAtom : List ℕ} {landed₀ : Landed} {found w₀ : List ℕ} {from before seeks₀ : ℕ} → Counting pool plan ends n d z₀ ring byAtom landed₀ found w₀ from before seeks₀ w₀ z₀ landed₀ from seeks₀
 counting-start = record { counts = λ ts q f b g st m e. counts-start b g st m e }
 
-pub completes-leaf : {pool plan : List ℕ} {n d : ℕ} {at : List ℕ} {found w₀ : List ℕ} {from before : ℕ} {w : List ℕ} {rows : ℕ} {full : Bool} → d ≡ n → written w rows full ≡ emit n (written w₀ from false) (take n found) → Completes pool plan n d at found w₀ from before w rows full before
+pub completes-leaf : {pool plan ends : List ℕ} {n d : ℕ} {at own : List ℕ} {found w₀ : List ℕ} {from before : ℕ} {w : List ℕ} {rows : ℕ} {full : Bool} → d ≡ n → written w rows full ≡ emit n (written w₀ from false) (take n found) → Completes pool plan ends n d at own found w₀ from before w rows full before
 completes-leaf {pool} {n = n} {d} {found = found} {w₀} {from} {before} {w} {rows} {full} e r = record {
   descended = descended-leaf e r;
   counts = λ ts q f s m h.
@@ -167,23 +169,23 @@ completes-leaf {pool} {n = n} {d} {found = found} {w₀} {from} {before} {w} {ro
       record { window = ap (λ (t : Tally). t .progress) t ∙ sym r; count = h ∙ ap (λ (t : Tally). capped (t .seeks)) (sym t) };
 }
 
-module _ {pool plan : List ℕ} {n d : ℕ} {above : List ℕ} {at₀ end ring byAtom : List ℕ} {before : ℕ} {r₀ : Searched} (b : Opening pool plan n d above at₀ end ring byAtom before r₀) (below : d < n) {found w₀ : List ℕ} {from : ℕ} {w at : List ℕ} {rows seeks : ℕ} {landed : Landed} (j : Counting pool plan n d at₀ end ring byAtom (r₀ .landed) found w₀ from before (r₀ .seeks) w at landed rows seeks) where
-  now : {landed′ : Landed} → landed ≡ landed′ → (ts : Tables) (q : Query) (f : ℕ → Row) → Stands pool ts q plan n d above f → (m : ℕ) → before ≡ capped m → Counts pool ts q plan n d f found (tally (written w₀ from false) m) at end ring byAtom landed′ (written w rows false) seeks
-  now e ts q f s m h = subst (λ (y : Landed). Counts pool ts q plan n d f found (tally (written w₀ from false) m) at end ring byAtom y (written w rows false) seeks) e (j .counts ts q f (s .based) (b .begun .begins ts q f s) (b .starts ts q f s) m h)
+module _ {pool plan ends : List ℕ} {n d : ℕ} {above owned : List ℕ} {z₀ : State} {ring byAtom : List ℕ} {before : ℕ} {r₀ : Searched} (b : Opening pool plan ends n d above owned z₀ ring byAtom before r₀) (below : d < n) {found w₀ : List ℕ} {from : ℕ} {w : List ℕ} {z : State} {rows seeks : ℕ} {landed : Landed} (j : Counting pool plan ends n d z₀ ring byAtom (r₀ .landed) found w₀ from before (r₀ .seeks) w z landed rows seeks) where
+  now : {landed′ : Landed} → landed ≡ landed′ → (ts : Tables) (q : Query) (f : ℕ → Row) → Stands pool ts q plan ends n d above owned f → (m : ℕ) → before ≡ capped m → Counts pool ts q plan ends n d f found (tally (written w₀ from false) m) z ring byAtom landed′ (written w rows false) seeks
+  now e ts q f s m h = subst (λ (y : Landed). Counts pool ts q plan ends n d f found (tally (written w₀ from false) m) z ring byAtom y (written w rows false) seeks) e (j .counts ts q f (s .based) (b .begun .begins ts q f s) (b .starts ts q f s) m h)
 
-  pub counting-none : {p : ℕ} → landed ≡ Nothing p → (ts : Tables) (q : Query) (f : ℕ → Row) → Stands pool ts q plan n d above f → (m : ℕ) → before ≡ capped m → Counted (walkOf n (drop d (orderOf q)) (standings f (atomsOf pool ts q)) found (tally (written w₀ from false) m)) (written w rows false) seeks
+  pub counting-none : {p : ℕ} → landed ≡ Nothing p → (ts : Tables) (q : Query) (f : ℕ → Row) → Stands pool ts q plan ends n d above owned f → (m : ℕ) → before ≡ capped m → Counted (walkOf n (drop d (orderOf q)) (standings f (atomsOf pool ts q)) found (tally (written w₀ from false) m)) (written w rows false) seeks
   counting-none e ts q f s m h =
       subst (λ (l : List ℕ). Counted (walkOf n l (standings f (atomsOf pool ts q)) found (tally (written w₀ from false) m)) (written w rows false) seeks) (sym (order-next (s .based) below))
       (counts-none (now e ts q f s m h))
 
   -- a key is found
-  module _ {row : List ℕ} {x p : ℕ} (e : landed ≡ Key x p) (i : Walk pool plan n d at₀ end ring byAtom (r₀ .landed) found w₀ from w at landed row rows) {w′ : List ℕ} {rows′ : ℕ} {full : Bool} {seeks′ : ℕ} (r : Completes pool plan n (d + 1) at (set row (variableAt plan d) x) w rows seeks w′ rows′ full seeks′) where
-    agreed : Agreed pool at end byAtom (countAt plan d) x p
-    agreed = subst (AgreedAt pool at end byAtom (countAt plan d)) e (i .agreed)
+  module _ {row : List ℕ} {x p : ℕ} (e : landed ≡ Key x p) (i : Walk pool plan ends n d z₀ ring byAtom (r₀ .landed) found w₀ from w z landed row rows) {w′ : List ℕ} {rows′ : ℕ} {full : Bool} {seeks′ : ℕ} (r : Completes pool plan ends n (d + 1) (z .at) (z .own) (set row (variableAt plan d) x) w rows seeks w′ rows′ full seeks′) where
+    agreed : WholeAgreed pool z ends byAtom (countAt plan d) x p
+    agreed = subst (AgreedAt pool z ends byAtom (countAt plan d)) e (i .agreed)
 
-    under : (ts : Tables) (q : Query) (f : ℕ → Row) → Based pool ts q plan n d f → Begins pool ts q plan n d at₀ end byAtom f (r₀ .landed) → (m : ℕ) → seeks ≡ capped m → Counted (belowOf n (first q d) (rest q d) (standings f (atomsOf pool ts q)) found x (tally (written w rows false) m)) (written w′ rows′ full) seeks′
+    under : (ts : Tables) (q : Query) (f : ℕ → Row) → Based pool ts q plan ends n d f → Begins pool ts q plan ends n d z₀ byAtom f (r₀ .landed) → (m : ℕ) → seeks ≡ capped m → Counted (belowOf n (first q d) (rest q d) (standings f (atomsOf pool ts q)) found x (tally (written w rows false) m)) (written w′ rows′ full) seeks′
     under ts q f s g₀ m h =
-        let g = subst (λ (y : Landed). Goes pool ts q plan n d f found (written w₀ from false) at end byAtom y (written w rows false)) e (i .goes ts q f s g₀) in
+        let g = subst (λ (y : Landed). Goes pool ts q plan ends n d f found (written w₀ from false) z byAtom y (written w rows false)) e (i .goes ts q f s g₀) in
         let o = g .opened in
         let t = tally (written w rows false) m in
         let row-is : set row (variableAt plan d) x ≡ set found (first q d) x = i .others x ∙ ap (λ (y : ℕ). set found y x) (variable-is (o .based) (o .below)) in
@@ -193,17 +195,17 @@ module _ {pool plan : List ℕ} {n d : ℕ} {above : List ℕ} {at₀ end ring b
         (subst (λ (k : ℕ). Counted (walkOf n (drop k (orderOf q)) (standings (gained q d f x) (atomsOf pool ts q)) (set row (variableAt plan d) x) t) (written w′ rows′ full) seeks′) (add-one d)
         (r .counts ts q (gained q d f x) (goes-below g agreed) m h)))
 
-    pub counting-full : full ≡ true → (ts : Tables) (q : Query) (f : ℕ → Row) → Stands pool ts q plan n d above f → (m : ℕ) → before ≡ capped m → Counted (walkOf n (drop d (orderOf q)) (standings f (atomsOf pool ts q)) found (tally (written w₀ from false) m)) (written w′ rows′ full) seeks′
+    pub counting-full : full ≡ true → (ts : Tables) (q : Query) (f : ℕ → Row) → Stands pool ts q plan ends n d above owned f → (m : ℕ) → before ≡ capped m → Counted (walkOf n (drop d (orderOf q)) (standings f (atomsOf pool ts q)) found (tally (written w₀ from false) m)) (written w′ rows′ full) seeks′
     counting-full t ts q f s m h =
         let c = now e ts q f s m h in
         subst (λ (l : List ℕ). Counted (walkOf n l (standings f (atomsOf pool ts q)) found (tally (written w₀ from false) m)) (written w′ rows′ full) seeks′) (sym (order-next (s .based) below))
         (counts-full c (under ts q f (s .based) (b .begun .begins ts q f s) (c .made + c .went .seeks) (c .sum)) t)
 
-    pub counting-next : full ≡ false → {at′ : List ℕ} {r′ : Searched} → Onward pool end ring byAtom (countAt plan d) p (eqb (d + 1) n) at at′ seeks′ r′ → Counting pool plan n d at₀ end ring byAtom (r₀ .landed) found w₀ from before (r₀ .seeks) w′ at′ (r′ .landed) rows′ (r′ .seeks)
-    counting-next t {at′} {r′} o = record {
+    pub counting-next : full ≡ false → {z′ : State} {r′ : Searched} → Onward pool ends ring byAtom (countAt plan d) p (eqb (d + 1) n) z z′ seeks′ r′ → Counting pool plan ends n d z₀ ring byAtom (r₀ .landed) found w₀ from before (r₀ .seeks) w′ z′ (r′ .landed) rows′ (r′ .seeks)
+    counting-next t {z′} {r′} o = record {
       counts = λ ts q f s g₀ st m h.
-          let c = subst (λ (y : Landed). Counts pool ts q plan n d f found (tally (written w₀ from false) m) at end ring byAtom y (written w rows false) seeks) e (j .counts ts q f s g₀ st m h) in
-          let here : keyAt pool at (getD byAtom 0 0) ≡ x = agreed-key agreed 0 (agreed .ready .positive) in
-          subst (λ (z : Bool). Counts pool ts q plan n d f found (tally (written w₀ from false) m) at′ end ring byAtom (r′ .landed) (written w′ rows′ z) (r′ .seeks)) t
-          (counts-next c (under ts q f s g₀ (c .made + c .went .seeks) (c .sum)) t agreed (last-is s below) (subst (λ (y : ℕ). Steps pool end byAtom (countAt plan d) at at′ y (r′ .landed)) here (o .steps)) (o .leapt));
+          let c = subst (λ (y : Landed). Counts pool ts q plan ends n d f found (tally (written w₀ from false) m) z ring byAtom y (written w rows false) seeks) e (j .counts ts q f s g₀ st m h) in
+          let here : keyAt pool (z .at) (getD byAtom 0 0) ≡ x = agreed-key (agreed .agreed) 0 (agreed .agreed .ready .positive) in
+          subst (λ (z : Bool). Counts pool ts q plan ends n d f found (tally (written w₀ from false) m) z′ ring byAtom (r′ .landed) (written w′ rows′ z) (r′ .seeks)) t
+          (counts-next c (under ts q f s g₀ (c .made + c .went .seeks) (c .sum)) t agreed (last-is s below) (subst (λ (y : ℕ). Steps pool ends byAtom (countAt plan d) z z′ y (r′ .landed)) here (o .steps)) (o .leapt));
     }

@@ -5,9 +5,10 @@ ghost use Rattle.join_depths.specs.Depth.{Standing};
 ghost use Rattle.leapfrog_triejoin.specs.Descent.{Completes};
 use join_depths::depth::onward;
 use join_depths::depth::open;
-use join_depths::plan::COUNT;
-use join_depths::plan::DEPTH_WORDS;
-use join_depths::plan::PLAN_WORDS;
+use join_plan::COUNT;
+use join_plan::DEPTH_WORDS;
+use join_plan::ENDS;
+use join_plan::PLAN_WORDS;
 use join_query::Query;
 use join_window::emit;
 use leapfrog_join::Landed;
@@ -21,23 +22,25 @@ pub struct Walked {
     pub seeks: u64,
 }
 
-// Writes the rows that complete `found`, from depth `depth` on, behind the first `from`, until the window is full. The cursors' places come by value, so
-// those of the caller are as they were when it returns.
+// Writes the rows that complete `found`, from depth `depth` on, behind the first `from`, until the window is full. The cursors' places come by value, with
+// the table that each is in, so those of the caller are as they were when it returns.
 pub fn descend(
     strategy: SeekStrategy,
     pool: &[u64],
     plan: &[usize; PLAN_WORDS],
+    ends: &[usize; ENDS],
     n: usize,
     depth: usize,
     above: [usize; MAX_ATOMS],
+    owned: [usize; MAX_ATOMS],
     found: [u64; Query::MAX_VARIABLES],
     window: &mut [u64],
     from: usize,
     before: u64,
 ) -> Walked
-    requires { ⌜ Standing (now pool) (now plan) n depth above ⌝ }
+    requires { ⌜ Standing (now pool) (now plan) (now ends) n depth above owned ⌝ }
     requires { ⌜ Fits n (length (now window)) from ⌝ }
-    ensures { λ r. ⌜ Completes (now (pool .entry)) (now (plan .entry)) n depth above found (now (window .entry)) from before (now (window .exit)) (r .rows) (r .full) (r .seeks) ⌝ }
+    ensures { λ r. ⌜ Completes (now (pool .entry)) (now (plan .entry)) (now (ends .entry)) n depth above owned found (now (window .entry)) from before (now (window .exit)) (r .rows) (r .full) (r .seeks) ⌝ }
 {
     if depth == n {
         let w = emit(window, found, n, from);
@@ -51,16 +54,21 @@ pub fn descend(
     let k = plan[DEPTH_WORDS * depth + COUNT];
     let mut at = above;
     let mut end = [0usize; MAX_ATOMS];
+    let mut own = owned;
+    let mut left = [0usize; MAX_ATOMS];
     let mut ring = [0usize; MAX_ATOMS];
     let mut by_atom = [0usize; MAX_ATOMS];
     let first = open(
         strategy,
         pool,
         plan,
+        ends,
         n,
         depth,
         &mut at,
         &mut end,
+        &mut own,
+        &mut left,
         &mut ring,
         &mut by_atom,
         before,
@@ -82,9 +90,11 @@ pub fn descend(
             strategy,
             pool,
             plan,
+            ends,
             n,
             depth + 1,
             at,
+            own,
             row,
             window,
             rows,
@@ -97,8 +107,11 @@ pub fn descend(
         let next = onward(
             strategy,
             pool,
+            ends,
             &mut at,
-            &end,
+            &mut end,
+            &mut own,
+            &mut left,
             &ring,
             &by_atom,
             k,

@@ -9,8 +9,10 @@ mod descent;
 ghost use Rattle.leapfrog_triejoin.specs.Outcome.{Joins};
 use crate::descent::descend;
 use join_checks::refusal;
-use join_depths::plan::PLAN_WORDS;
-use join_depths::plan::make_plan;
+use join_plan::ENDS;
+use join_plan::PLAN_WORDS;
+use join_plan::make_ends;
+use join_plan::make_plan;
 use join_query::Query;
 use join_query::Tables;
 use seek::SeekStrategy;
@@ -23,7 +25,7 @@ pub struct Joined {
 }
 
 // Joins the tables that the query's atoms name, and writes the rows into the window, by variable number, ascending as read in the query's order. Refuses by
-// 8, 9, 10, 11, 15, 16 and 6 in sequence; 12 says that more rows exist than fit the window, which then holds the first that do. The seeks are those of the leapfrogs,
+// 8, 9, 10, 11, 15, 16, 6 and 17 in sequence; 12 says that more rows exist than fit the window, which then holds the first that do. The seeks are those of the leapfrogs,
 // on 12 up to finding the first row that does not fit.
 pub fn join(
     strategy: SeekStrategy,
@@ -44,9 +46,24 @@ pub fn join(
     }
     let mut plan = [0usize; PLAN_WORDS];
     make_plan(&mut plan, tables, query);
+    let mut ends = [0usize; ENDS];
+    make_ends(&mut ends, tables, query);
     let at = [0usize; Query::MAX_ATOMS];
     let row = [0u64; Query::MAX_VARIABLES];
-    let written = descend(strategy, pool, &plan, query.n, 0, at, row, window, 0, 0);
+    let written = descend(
+        strategy,
+        pool,
+        &plan,
+        &ends,
+        query.n,
+        0,
+        at,
+        at,
+        row,
+        window,
+        0,
+        0,
+    );
     if written.full {
         return Joined {
             number: 12,

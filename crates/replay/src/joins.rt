@@ -89,6 +89,8 @@ fn atom_of(text: &[u8], from: usize) -> Named {
             table: table.word as usize,
             len: len.word as usize,
             variables: variables(list),
+            laid_over: false,
+            maker: 0,
         },
     }
 }
@@ -105,6 +107,8 @@ fn no_atoms() -> [Atom; Query::MAX_ATOMS] {
         table: 0,
         len: 0,
         variables,
+        laid_over: false,
+        maker: 0,
     };
     [atom; Query::MAX_ATOMS]
 }

@@ -25,7 +25,9 @@ use Rattle.query.specs.Window.{fit, windowed, emit}
 use Rattle.query.specs.Checks.{some, single, permutes, listed, covers}
 use Rattle.query.specs.Checks as checks
 use Rattle.query.specs.Outcome.{told, refused}
-use Rattle.join_query.specs.Query.{orderOk, namedOk, listedAt, named, soundAt, joinNumber}
+use Rattle.overlay.specs.Laid as overlay
+use Rattle.laid_over.specs.Shape.{sameShape}
+use Rattle.join_query.specs.Query.{rowsAt, orderOk, namedOk, listedAt, named, soundAt, joinNumber}
 use Rattle.leapfrog.specs.Search.{searchFrom, searchOf, goOn, nextOf, placeRun, sortedRuns, someNone, initOf}
 use Rattle.leapfrog.specs.Walk.{depthOf, walkOf, joinSeeks}
 use Rattle.join_query.specs.Outcome.{answered, outcome}
@@ -33,5 +35,5 @@ use Rattle.leapfrog_triejoin.specs.Outcome.{seeksAt}
 use Rattle.starred.specs.Cases.{comes, starred}
 
 pub every-starred-case-comes : map (λ l. comes (l .asked)) starred ≡ map (λ l. l .must) starred
-unfolding follows has inAll keep meet total from emit searchFrom searchOf goOn nextOf placeRun sortedRuns someNone initOf depthOf walkOf joinSeeks seeksAt flatMap beyond headed bind runs extend listing fit windowed some single permutes listed covers checks.every told refused orderOk namedOk listedAt named soundAt joinNumber answered outcome every before lies standsBelow opens child cut flat same place sort put asSet prefixes under keysUnder groupsAt joined starts layerAt layersFrom walk sound chain rooms layers.undamaged upto owner grow rowsFrom rowsOf halves scans gallops gallopingOf wordOf lay store spot reads undamaged buildNumber known insertNumber takesIn stands refusal remaining keyOf openOf owns risesIn upOf starred
+unfolding follows has inAll keep meet total from emit searchFrom searchOf goOn nextOf placeRun sortedRuns someNone initOf depthOf walkOf joinSeeks seeksAt flatMap beyond headed bind runs extend listing fit windowed some single permutes listed covers checks.every told refused orderOk namedOk listedAt named soundAt sameShape overlay.owns overlay.others overlay.laid rowsAt joinNumber answered outcome every before lies standsBelow opens child cut flat same place sort put asSet prefixes under keysUnder groupsAt joined starts layerAt layersFrom walk sound chain rooms layers.undamaged upto owner grow rowsFrom rowsOf halves scans gallops gallopingOf wordOf lay store spot reads undamaged buildNumber known insertNumber takesIn stands refusal remaining keyOf openOf owns risesIn upOf starred
 every-starred-case-comes = refl

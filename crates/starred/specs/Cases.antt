@@ -1,4 +1,4 @@
--- Of theorems: what document 01 stars under "Worked on the bench", and what document 02 says of kinds and windows: a table of what is asked and what must come. `comes` asks the definitions that the public calls' contracts cite.
+-- Of theorems: what document 01 stars under "Worked on the bench", and what document 02 says of kinds, windows and laid-over tables: a table of what is asked and what must come. `comes` asks the definitions that the public calls' contracts cite.
 use Prim.Native.Nat.{ℕ}
 use mathlib.Core.Bool.{Bool, false, true}
 use mathlib.Core.List.{List, [], _∷_, _++_}
@@ -111,11 +111,19 @@ triangle =
     1 ∷ 2 ∷ 0 ∷ 0 ∷ 0 ∷ 0 ∷ 1 ∷ 3 ∷ 1 ∷ 0 ∷ 2 ∷ 0 ∷
     []
 
+-- R, S and the table with this header
+abbrev threeWith : ColumnTrie → Tables
+threeWith t = record { count = 3; tables = table 0 2 3 ∷ table 12 2 2 ∷ t ∷ emptyTable 0 0 0 ∷ emptyTable 0 0 0 ∷ emptyTable 0 0 0 ∷ emptyTable 0 0 0 ∷ emptyTable 0 0 0 ∷ [] }
+
 abbrev three : Tables
-three = record { count = 3; tables = table 0 2 3 ∷ table 12 2 2 ∷ table 24 2 3 ∷ emptyTable 0 0 0 ∷ emptyTable 0 0 0 ∷ emptyTable 0 0 0 ∷ emptyTable 0 0 0 ∷ emptyTable 0 0 0 ∷ [] }
+three = threeWith (table 24 2 3)
 
 abbrev atom : ℕ → ℕ → ℕ → Atom
-atom t x y = record { table = t; len = 2; variables = x ∷ y ∷ 0 ∷ 0 ∷ 0 ∷ 0 ∷ 0 ∷ 0 ∷ [] }
+atom t x y = record { table = t; len = 2; variables = x ∷ y ∷ 0 ∷ 0 ∷ 0 ∷ 0 ∷ 0 ∷ 0 ∷ []; «laid_over» = false; maker = 0 }
+
+-- table s laid over table m
+abbrev over : ℕ → ℕ → ℕ → ℕ → Atom
+over s m x y = record { table = s; len = 2; variables = x ∷ y ∷ 0 ∷ 0 ∷ 0 ∷ 0 ∷ 0 ∷ 0 ∷ []; «laid_over» = true; maker = m }
 
 abbrev zeros : List ℕ
 zeros = 0 ∷ 0 ∷ 0 ∷ 0 ∷ 0 ∷ 0 ∷ 0 ∷ 0 ∷ []
@@ -128,6 +136,10 @@ query n order count atoms = record { n = n; order = take 8 (order ++ zeros); «a
 
 abbrev triangleQuery : Query
 triangleQuery = query 3 (0 ∷ 1 ∷ 2 ∷ []) 3 (atom 0 0 1 ∷ atom 1 1 2 ∷ atom 2 0 2 ∷ [])
+
+-- all rows of S laid over table m
+abbrev laidQuery : ℕ → Query
+laidQuery m = query 2 (0 ∷ 1 ∷ []) 1 (over 1 m 0 1 ∷ [])
 
 -- (5,9),(7,2), and (1,2),(2,3)
 abbrev pairs : List ℕ
@@ -174,6 +186,10 @@ starred =
     line (Join pairs single (query 2 (1 ∷ 0 ∷ []) 1 (atom 0 1 0 ∷ [])) (0 ∷ 0 ∷ 0 ∷ 0 ∷ [])) (Rows 0 2 (9 ∷ 5 ∷ 2 ∷ 7 ∷ []) 0) ∷
     line (Join chained single (query 3 (0 ∷ 1 ∷ 2 ∷ []) 2 (atom 0 0 1 ∷ atom 0 1 2 ∷ [])) (0 ∷ 0 ∷ 0 ∷ [])) (Rows 0 1 (1 ∷ 2 ∷ 3 ∷ []) 2) ∷
     line (Join chained (onlyTable (tableWith (gradeOnly 1) 0 2 2)) (query 3 (0 ∷ 1 ∷ 2 ∷ []) 2 (atom 0 0 1 ∷ atom 0 1 2 ∷ [])) (0 ∷ 0 ∷ 0 ∷ [])) (Rows 15 0 (0 ∷ 0 ∷ 0 ∷ []) 0) ∷
+    line (Join triangle three (laidQuery 2) (9 ∷ 9 ∷ 9 ∷ 9 ∷ 9 ∷ 9 ∷ 9 ∷ 9 ∷ 9 ∷ 9 ∷ [])) (Rows 0 4 (1 ∷ 1 ∷ 1 ∷ 3 ∷ 2 ∷ 3 ∷ 3 ∷ 1 ∷ 9 ∷ 9 ∷ []) 0) ∷
+    line (Join triangle three (laidQuery 3) (9 ∷ 9 ∷ [])) (Rows 9 0 (9 ∷ 9 ∷ []) 0) ∷
+    line (Join triangle (threeWith (tableWith (gradeOnly 1) 24 2 3)) (laidQuery 2) (9 ∷ 9 ∷ [])) (Rows 17 0 (9 ∷ 9 ∷ []) 0) ∷
+    line (Join triangle (threeWith (tableWith (gradeOnly 1) 24 2 4)) (laidQuery 2) (9 ∷ 9 ∷ [])) (Rows 6 0 (9 ∷ 9 ∷ []) 0) ∷
     line (Grade (pos 0)) (Word 9223372036854775808) ∷
     line (Grade (negsuc 0)) (Word 9223372036854775807) ∷
     line (Grade (pos 9223372036854775807)) (Word 18446744073709551615) ∷

@@ -2,9 +2,10 @@
 -- at depth d is that of the i-th beginning of d words, its group is the keys under that beginning, and the place of a key in the layer is the place
 -- of its longer beginning, so the interval of its children.
 use Prim.Native.Nat.{ℕ, zero, suc, _+_, _-_, _≤_, _<_}
-use mathlib.Core.Path.{_≡_, sym, ap, _∙_, subst}
+use mathlib.Core.Path.{_≡_, refl, sym, ap, _∙_, subst}
+use mathlib.Core.Logic.{⊎-elim}
 use mathlib.Core.Bool.{true, _&&_}
-use mathlib.Core.List.{List, [], _∷_, _++_}
+use mathlib.Core.List.{List, [], _∷_, _++_, map, append-nil}
 use native.Mathlib.Omega.{arith}
 use native.Mathlib.Decide.{decLt}
 use native.Mathlib.Nat.{le-of-eq}
@@ -15,14 +16,15 @@ use borrow.Author.Tests.{lt-ltb, le-leb}
 use Rattle.relation.specs.Tests.{every}
 use Rattle.relation.specs.Order.{Row}
 use Rattle.relation.specs.Rows.{Width}
-use Rattle.relation.specs.Layers.{Layer, layer, prefixes, keysUnder, layerAt}
+use Rattle.relation.specs.Lists.{_∈_, hd}
+use Rattle.relation.specs.Layers.{Layer, layer, prefixes, keysUnder, groupsAt, joined, starts, layerAt}
 use Rattle.relation.specs.Undamaged as layers
 use Rattle.relation.specs.Undamaged.{Ordered}
 use Rattle.relation.proofs.Tests.{and-left, and-true}
 use Rattle.relation.proofs.Lists.{getD-any}
 use Rattle.relation.proofs.Walks.{sound-ordered}
-use Rattle.relation.proofs.Intervals.{layer-is, keys-many, intervals-many, group-under, group-end, group-rises, group-many, group-key, group-child}
-use Rattle.relation.proofs.Relations.{between-prefixes}
+use Rattle.relation.proofs.Intervals.{layer-is, keys-many, intervals-many, group-under, group-end, group-rises, group-many, group-key, group-child, prefix-root, root-there}
+use Rattle.relation.proofs.Relations.{between-prefixes, roots}
 use Rattle.relation.proofs.Tables.{ranked-at, every-undamaged-table-is-what-a-build-of-its-own-rows-leaves}
 use Rattle.column_trie.specs.Limits.{maxArity}
 use Rattle.column_trie.specs.Groups.{groupFrom, groupTo, keysOf, lies}
@@ -163,3 +165,45 @@ module _ {pool : List ℕ} {t : ColumnTrie} {rows : List Row} (H : Layered pool 
   pub held-group : {i : ℕ} → i < length (prefixes d rows) → {p : Row} → getD (prefixes d rows) i [] ≡ p → GroupHolds (layerIn pool t d) rows d i p
   held-group {i} k {p} e =
       subst (λ (l : Layer). GroupHolds l rows d i p) (sym (H .layers d h)) (subst (GroupHolds (layerAt d rows) rows d i) e (group-here (H .width) d h i k))
+
+-- ---- layer 0: one group, that of the root
+
+first-group : (rows : List Row) → layerAt 0 rows .keys ≡ keysUnder [] rows
+unfolding layerAt groupsAt joined
+first-group [] = refl
+first-group (r ∷ rows) =
+    ⊎-elim (λ (e : prefixes 0 (r ∷ rows) ≡ []). absurd (omega (arith, ap length e, root-there {rows = r ∷ rows} {r = r} (hd refl))))
+    (λ (e : prefixes 0 (r ∷ rows) ≡ ([] ∷ [])). ap (λ (ps : List Row). joined (map (λ (p : Row). keysUnder p (r ∷ rows)) ps)) e ∙ append-nil (keysUnder [] (r ∷ rows))) (roots (r ∷ rows))
+
+pub no-firsts : length (keysUnder [] []) ≡ 0
+unfolding keysUnder
+no-firsts = refl
+
+starts-none : (gs : List (List ℕ)) → getD (starts 0 gs) 0 0 ≡ 0
+unfolding starts
+starts-none [] = refl
+starts-none (g ∷ gs) = refl
+
+first-start : (rows : List Row) → groupFrom (layerAt 0 rows) 0 ≡ 0
+unfolding layerAt
+first-start rows = starts-none (groupsAt 0 rows)
+
+module _ {pool : List ℕ} {t : ColumnTrie} {rows : List Row} (H : Layered pool t rows) (h : 0 < t .arity) where
+  -- its keys are the first keys of the rows
+  pub first-keys : layerIn pool t 0 .keys ≡ keysUnder [] rows
+  first-keys = ap (λ (l : Layer). l .keys) (H .layers 0 h) ∙ first-group rows
+
+  pub first-from : groupFrom (layerIn pool t 0) 0 ≡ 0
+  first-from = ap (λ (l : Layer). groupFrom l 0) (H .layers 0 h) ∙ first-start rows
+
+  -- and the place of a first key is the interval of its children
+  pub first-child : (o : ℕ) → o < length (keysUnder [] rows) → (o < length (prefixes 1 rows)) × (getD (prefixes 1 rows) o [] ≡ getD (keysUnder [] rows) o 0 ∷ [])
+  first-child o k = there rows refl
+    where
+      there : (rs : List Row) → rows ≡ rs → (o < length (prefixes 1 rows)) × (getD (prefixes 1 rows) o [] ≡ getD (keysUnder [] rows) o 0 ∷ [])
+      there [] e = absurd (omega (arith, k, ap (λ (rs : List Row). length (keysUnder [] rs)) e, no-firsts))
+      there (r ∷ rs) e =
+          let i : 0 < length (prefixes 0 rows) = root-there {rows = rows} {r = r} (subst (λ (xs : List Row). r ∈ xs) (sym e) (hd refl)) in
+          let c = held-group H h i (prefix-root rows) .child o k in
+          let z : groupFrom (layerIn pool t 0) 0 + o ≡ o = omega (arith, first-from) in
+          subst (λ (n : ℕ). (n < length (prefixes 1 rows)) × (getD (prefixes 1 rows) n [] ≡ getD (keysUnder [] rows) o 0 ∷ [])) z c

@@ -4,6 +4,8 @@
 // so are those of two tyres. That is how another row was once chosen; here a key is a 64-bit word on every machine. Beside each row stands the one that
 // cut keys would have chosen: the first that the same join lists over the same tables with every word cut.
 //
+// Then a school's own friction rows, laid over the maker's: what the school measured replaces all that the maker says about that surface.
+//
 // Then the lesson's slope, whose stretches list by grade, the steepest descent first. A grade that is joined to a tyre's key is refused, since a column
 // says of which kind it is.
 use column_trie::ColumnTrie;
@@ -151,6 +153,8 @@ fn atom(table: usize, len: usize, a: usize, b: usize) -> Atom {
         table,
         len,
         variables,
+        laid_over: false,
+        maker: 0,
     }
 }
 
@@ -177,6 +181,67 @@ fn joined(cut: bool, window: &mut [u64]) -> usize {
     let came = join(SeekStrategy::Galloping, &pool, given, lesson(), window);
     told(b"the join", came.number);
     came.rows
+}
+
+// ---- a school's own frictions
+
+// What a school measured itself: wet cobbles, up to 40 km/h. The tables of `tables` end before it.
+fn school_frictions(pool: &mut [u64]) -> ColumnTrie {
+    let mut rows = [
+        WET_COBBLES,
+        ALL_SEASON,
+        20,
+        500,
+        WET_COBBLES,
+        ALL_SEASON,
+        40,
+        450,
+    ];
+    let built = build(&mut rows, pool, 144, 4, 8, plain());
+    told(b"the school's frictions", built.number);
+    built.table
+}
+
+// As `lesson`, on any surface, and with the school's frictions, table 4, laid over the maker's, table 3.
+fn any_surface() -> Query {
+    let order = [0usize, 1, 2, 3, 4, 5, 6, 7];
+    let mut atoms = [atom(0, 0, 0, 0); Query::MAX_ATOMS];
+    atoms[0] = atom(1, 1, 1, 0);
+    atoms[1] = atom(2, 2, 0, 2);
+    atoms[2] = Atom {
+        table: 4,
+        len: 4,
+        variables: [0, 1, 2, 3, 0, 0, 0, 0],
+        laid_over: true,
+        maker: 3,
+    };
+    Query {
+        n: ROW,
+        order,
+        atom_count: 3,
+        atoms,
+    }
+}
+
+// Joins the lesson's tyre on any surface.
+fn school_joined(window: &mut [u64]) {
+    let mut pool = [0u64; 208];
+    let given = tables(false, &mut pool);
+    let own = school_frictions(&mut pool);
+    let mut all = given.tables;
+    all[4] = own;
+    let with_own = Tables {
+        count: 5,
+        tables: all,
+    };
+    let came = join(
+        SeekStrategy::Galloping,
+        &pool,
+        with_own,
+        any_surface(),
+        window,
+    );
+    told(b"the school's join", came.number);
 }
 
 // ---- the lesson's slope
@@ -271,15 +336,19 @@ fn thousandths(n: u64) {
     number(rest);
 }
 
-// A row, and the friction that cut keys would have chosen.
-fn line(surface: u64, tyre: u64, band: u64, right: u64, chosen: u64) {
+fn row(surface: u64, tyre: u64, band: u64, friction: u64) {
     surface_name(surface);
     text(b" | ");
     tyre_name(tyre);
     text(b" |         ");
     number(band);
     text(b" |    ");
-    thousandths(right);
+    thousandths(friction);
+}
+
+// A row, and the friction that cut keys would have chosen.
+fn line(surface: u64, tyre: u64, band: u64, right: u64, chosen: u64) {
+    row(surface, tyre, band, right);
     text(b" | ");
     thousandths(chosen);
     if chosen == right {
@@ -308,6 +377,23 @@ fn table(window: &[u64], rows: usize, over_cut: &[u64], rows_cut: usize) {
         at += ROW;
         i += 1;
     }
+}
+
+// The five rows over the school's frictions and the maker's.
+fn school_rows() {
+    text(b"\nA school's own frictions of wet cobbles over the maker's\n\n");
+    let mut window = [0u64; 20];
+    school_joined(&mut window);
+    row(window[0], window[1], window[2], window[3]);
+    text(b"\n");
+    row(window[4], window[5], window[6], window[7]);
+    text(b"\n");
+    row(window[8], window[9], window[10], window[11]);
+    text(b"\n");
+    row(window[12], window[13], window[14], window[15]);
+    text(b"\n");
+    row(window[16], window[17], window[18], window[19]);
+    text(b"\n");
 }
 
 // The grade of a word, with its sign: words ascend as grades do, so those below the word of 0 are downhill.
@@ -370,5 +456,6 @@ fn main() {
     text(b"; over cut keys: ");
     number(rows_cut as u64);
     text(b"\n");
+    school_rows();
     stretches();
 }

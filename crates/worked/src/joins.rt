@@ -63,6 +63,8 @@ fn atom_at(text: &[u8], from: usize) -> Named {
             table: table.word as usize,
             len: len.word as usize,
             variables,
+            laid_over: false,
+            maker: 0,
         },
     }
 }
@@ -79,6 +81,8 @@ fn no_atom() -> Atom {
         table: 0,
         len: 0,
         variables,
+        laid_over: false,
+        maker: 0,
     }
 }
 

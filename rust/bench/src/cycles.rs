@@ -37,6 +37,10 @@ impl Cycle {
     }
 }
 
+pub fn triangle_query() -> Query {
+    TRIANGLE.ours()
+}
+
 /// Rows for each atom, as the three sides hold them, and the counter if there is one.
 struct Given<'a> {
     cycle: &'a Cycle,

@@ -16,6 +16,8 @@ mod inserts;
 #[cfg(kermit)]
 mod merge;
 #[cfg(kermit)]
+mod overlay;
+#[cfg(kermit)]
 mod plain_files;
 #[cfg(kermit)]
 mod removals;
@@ -28,7 +30,7 @@ mod times;
 
 /// What a group is called, and what prints its table, given how often each side is timed.
 #[cfg(kermit)]
-const GROUPS: [(&str, fn(usize)); 9] = [
+const GROUPS: &[(&str, fn(usize))] = &[
     ("build", inserts::build),
     ("insert", inserts::insert),
     ("remove", removals::remove),
@@ -39,6 +41,7 @@ const GROUPS: [(&str, fn(usize)); 9] = [
     ("seeks", seeks::seeks),
     ("triangle", cycles::triangles),
     ("square", cycles::squares),
+    ("overlay", overlay::overlay),
 ];
 
 #[cfg(kermit)]

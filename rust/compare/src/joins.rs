@@ -41,7 +41,7 @@ pub struct Call {
 
 impl Joins {
     /// The tables one behind the other in a pool, of these kinds, and the query in the call's words.
-    fn call(&self, kinds: &[Kinds]) -> Call {
+    pub fn call(&self, kinds: &[Kinds]) -> Call {
         let mut call = Call { pool: vec![], tables: Tables::default(), query: Query::default() };
         for (i, (arity, rows)) in self.tables.iter().enumerate() {
             let (start, capacity) = (call.pool.len(), rows.len().max(1));
@@ -77,15 +77,14 @@ impl Joins {
         }
     }
 
-    /// The join that a call which passes the checks asks for; tables that no atom names are left without rows.
+    /// The join that a call which passes the checks asks for, with a table of its own for each atom.
     fn asked(call: &Call) -> Joins {
         let Call { pool, tables, query } = call;
         let numbers = |words: &[u64]| words.iter().map(|&word| word as usize).collect::<Vec<_>>();
-        let mut asked = Joins { order: numbers(&query.order[..query.n as usize]), tables: vec![(1, vec![]); 8], atoms: vec![] };
-        for atom in &query.atoms[..query.atom_count as usize] {
-            let table = tables.tables[atom.table as usize];
-            asked.tables[atom.table as usize] = (table.arity as usize, model::rows_of(pool, table));
-            asked.atoms.push((atom.table as usize, numbers(&atom.variables[..atom.len as usize])));
+        let mut asked = Joins { order: numbers(&query.order[..query.n as usize]), tables: vec![], atoms: vec![] };
+        for (i, atom) in query.atoms[..query.atom_count as usize].iter().enumerate() {
+            asked.tables.push((atom.len as usize, model::atom_rows(pool, tables, atom)));
+            asked.atoms.push((i, numbers(&atom.variables[..atom.len as usize])));
         }
         asked
     }
@@ -122,7 +121,7 @@ fn written(n: usize, found: &kermit::Found, window: &mut [u64]) -> Joined {
 
 impl Joins {
     /// Runs a call of this join, which passes the checks where the window is whole rows.
-    fn run_call(&self, call: &Call, tally: &mut Tally) -> Result<(), String> {
+    pub fn run_call(&self, call: &Call, tally: &mut Tally) -> Result<(), String> {
         let n = self.order.len();
         tally.same(model::join_number(&call.pool, &call.tables, &call.query, 0), 0, || "the query passes the checks".into())?;
         // The definition tries every row.
@@ -313,7 +312,7 @@ impl fmt::Display for Changed {
 }
 
 /// The words of a join's arguments, one by one.
-fn words(call: &mut Call) -> Vec<&mut u64> {
+pub fn words(call: &mut Call) -> Vec<&mut u64> {
     let Call { pool, tables, query } = call;
     let mut all = vec![&mut query.n, &mut query.atom_count, &mut tables.count];
     all.extend(&mut query.order);
@@ -321,6 +320,7 @@ fn words(call: &mut Call) -> Vec<&mut u64> {
         all.push(&mut atom.table);
         all.push(&mut atom.len);
         all.extend(&mut atom.variables);
+        all.push(&mut atom.maker);
     }
     all.extend(tables.tables.iter_mut().flat_map(crate::damage::header_words));
     all.extend(pool);
@@ -386,7 +386,7 @@ pub fn no_variables() -> impl Iterator<Item = Changed> {
 }
 
 /// How many words a query and the tables' count have.
-const QUERY: usize = 3 + 8 + 8 * 10;
+pub const QUERY: usize = 3 + 8 + 8 * 11;
 
 pub fn changed(rng: &mut Rng) -> Changed {
     let base = graded(rng);

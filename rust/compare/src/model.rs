@@ -2,6 +2,7 @@
 //!
 //! It is plain and slow. Lists are vectors, a relation is a sorted vector of rows, and the join tries every row. Where document 01 leaves a choice to
 //! kermit, the runs against kermit decide, not this file.
+use crate::model_overlay::{counting, same_shape};
 use ducatbriar::calls::*;
 
 pub const MAX: usize = 8;
@@ -102,7 +103,7 @@ fn ascends(list: &[u64]) -> bool {
 }
 
 /// Group i of a layer, as start and end; none where interval or group is outside its list.
-fn group(layer: &Layer, i: u64) -> Option<(u64, u64)> {
+pub fn group(layer: &Layer, i: u64) -> Option<(u64, u64)> {
     let i = usize::try_from(i).ok()?;
     let start = *layer.interval.get(i)?;
     let end = *layer.interval.get(i + 1).unwrap_or(&(layer.data.len() as u64));
@@ -422,7 +423,7 @@ pub fn join_number(pool: &[u64], tables: &Tables, query: &Query, window: usize) 
         return 9;
     }
     let atoms = &query.atoms[..query.atom_count as usize];
-    if atoms.iter().any(|atom| atom.table >= tables.count) {
+    if atoms.iter().any(|atom| atom.table >= tables.count || (atom.laid_over && atom.maker >= tables.count)) {
         return 9;
     }
     let place = |v: u64| order.iter().position(|&w| w == v);
@@ -450,18 +451,32 @@ pub fn join_number(pool: &[u64], tables: &Tables, query: &Query, window: usize) 
     if n > 0 && window as u64 % n != 0 {
         return 16;
     }
-    if atoms.iter().any(|atom| !undamaged(pool, tables.tables[atom.table as usize])) {
+    let table = |i: u64| tables.tables[i as usize];
+    let makers = || atoms.iter().filter(|atom| atom.laid_over);
+    if atoms.iter().any(|atom| !undamaged(pool, table(atom.table))) || makers().any(|atom| !undamaged(pool, table(atom.maker))) {
         return 6;
+    }
+    if makers().any(|atom| !same_shape(table(atom.table), table(atom.maker))) {
+        return 17;
     }
     0
 }
 
-/// The assignments whose part for each atom is a stored row, ascending as read in the order: found atom by atom, then sorted.
+/// The rows that an atom's part is to be one of: those stored in its table, or the rows that count of its two.
+pub fn atom_rows(pool: &[u64], tables: &Tables, atom: &Atom) -> Vec<Row> {
+    let rows = |i: u64| rows_of(pool, tables.tables[i as usize]);
+    if atom.laid_over {
+        return counting(&rows(atom.table), &rows(atom.maker));
+    }
+    rows(atom.table)
+}
+
+/// The assignments whose part for each atom is a stored row, or a row that counts, ascending as read in the order: found atom by atom, then sorted.
 pub fn answers(pool: &[u64], tables: &Tables, query: &Query) -> Vec<Row> {
     let n = query.n as usize;
     let mut partial: Vec<Vec<Option<u64>>> = vec![vec![None; n]];
     for atom in &query.atoms[..query.atom_count as usize] {
-        let rows = rows_of(pool, tables.tables[atom.table as usize]);
+        let rows = atom_rows(pool, tables, atom);
         let mut extended = vec![];
         for assignment in &partial {
             for row in &rows {

@@ -1,9 +1,9 @@
 //! The runs by name: what is exhaustive, then so many random cases.
 use crate::case::{check, Case, Tally};
 use crate::rng::Rng;
-use crate::{changes, cursors, damage, files, joins, seeks, tables};
+use crate::{changes, cursors, damage, files, joins, overlay, overlay_joins, seeks, tables};
 
-pub const NAMES: [&str; 7] = ["seeks", "tables", "changes", "files", "cursors", "joins", "damage"];
+pub const NAMES: [&str; 9] = ["seeks", "tables", "changes", "files", "cursors", "joins", "overlay", "overlay_joins", "damage"];
 
 fn all<C: Case>(tally: &mut Tally, cases: impl IntoIterator<Item = C>) -> Result<(), String> {
     cases.into_iter().try_for_each(|case| check(case, tally))
@@ -63,6 +63,19 @@ pub fn run(name: &str, seed: u64, rounds: usize) -> Result<Tally, String> {
             all(t, large.then(|| joins::large(rng)).into_iter().flatten())?;
             some(t, rng, rounds, joins::graded)?;
             some(t, rng, 4 * rounds, joins::changed)?;
+        }
+        "overlay" => {
+            all(t, overlay::exhaustive())?;
+            all(t, large.then(|| overlay::large(rng)).into_iter().flatten())?;
+            some(t, rng, 2 * rounds, overlay::random)?;
+            some(t, rng, 4 * rounds, overlay::damaged)?;
+        }
+        "overlay_joins" => {
+            all(t, overlay_joins::exhaustive())?;
+            all(t, overlay_joins::every_number())?;
+            all(t, large.then(|| overlay_joins::large(rng)).into_iter().flatten())?;
+            some(t, rng, rounds, overlay_joins::random)?;
+            some(t, rng, 4 * rounds, overlay_joins::changed)?;
         }
         "damage" => {
             all(t, damage::exhaustive())?;

@@ -37,6 +37,16 @@ mod short {
     }
 
     #[test]
+    fn overlay() {
+        run("overlay");
+    }
+
+    #[test]
+    fn overlay_joins() {
+        run("overlay_joins");
+    }
+
+    #[test]
     fn damage() {
         run("damage");
     }

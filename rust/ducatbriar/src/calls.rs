@@ -65,8 +65,21 @@ c_struct!(EndAnswer { number: u64, at_end: bool });
 c_struct!(OpenAnswer { number: u64, opened: bool, iter: ColumnTrieIter });
 c_struct!(UpAnswer { number: u64, risen: bool, iter: ColumnTrieIter });
 c_struct!(
-    /// The number of the table that an atom reads, and its list, `len` variables long.
-    Atom { table: u64, len: u64, variables: [u64; MAX_ARITY] }
+    /// Where a run of sibling keys lies: `len` words from place `from` of the school's pool, or of the maker's.
+    LookedUp { number: u64, from_school: bool, from: u64, len: u64 }
+);
+c_struct!(
+    /// A cursor over a table laid over another: one on each.
+    LaidIter { school: ColumnTrieIter, maker: ColumnTrieIter }
+);
+c_struct!(LaidNextAnswer { number: u64, found: bool, key: u64, iter: LaidIter });
+c_struct!(LaidSeekAnswer { number: u64, found: bool, hit: bool, probes: u64, iter: LaidIter });
+c_struct!(LaidOpenAnswer { number: u64, opened: bool, iter: LaidIter });
+c_struct!(LaidUpAnswer { number: u64, risen: bool, iter: LaidIter });
+c_struct!(
+    /// The number of the table that an atom reads, and its list, `len` variables long. Where it is laid over, the table is the school's, and `maker` the
+    /// number of the maker's; else `maker` is not looked at.
+    Atom { table: u64, len: u64, variables: [u64; MAX_ARITY], laid_over: bool, maker: u64 }
 );
 c_struct!(
     /// The order, `n` variables long, and `atom_count` atoms.
@@ -124,6 +137,71 @@ mod c {
         pub fn ducatbriar_at_end(pool: *const u64, len: u64, table: ColumnTrie, iter: ColumnTrieIter) -> EndAnswer;
         pub fn ducatbriar_open(pool: *const u64, len: u64, table: ColumnTrie, iter: ColumnTrieIter) -> OpenAnswer;
         pub fn ducatbriar_up(pool: *const u64, len: u64, table: ColumnTrie, iter: ColumnTrieIter) -> UpAnswer;
+        pub fn ducatbriar_lookup(
+            school_pool: *const u64,
+            school_len: u64,
+            school: ColumnTrie,
+            maker_pool: *const u64,
+            maker_len: u64,
+            maker: ColumnTrie,
+            key: u64,
+        ) -> LookedUp;
+        pub fn ducatbriar_laid_key(
+            school_pool: *const u64,
+            school_len: u64,
+            school: ColumnTrie,
+            maker_pool: *const u64,
+            maker_len: u64,
+            maker: ColumnTrie,
+            iter: LaidIter,
+        ) -> KeyAnswer;
+        pub fn ducatbriar_laid_next(
+            school_pool: *const u64,
+            school_len: u64,
+            school: ColumnTrie,
+            maker_pool: *const u64,
+            maker_len: u64,
+            maker: ColumnTrie,
+            iter: LaidIter,
+        ) -> LaidNextAnswer;
+        pub fn ducatbriar_laid_seek(
+            school_pool: *const u64,
+            school_len: u64,
+            school: ColumnTrie,
+            maker_pool: *const u64,
+            maker_len: u64,
+            maker: ColumnTrie,
+            iter: LaidIter,
+            strategy: u64,
+            target: u64,
+        ) -> LaidSeekAnswer;
+        pub fn ducatbriar_laid_at_end(
+            school_pool: *const u64,
+            school_len: u64,
+            school: ColumnTrie,
+            maker_pool: *const u64,
+            maker_len: u64,
+            maker: ColumnTrie,
+            iter: LaidIter,
+        ) -> EndAnswer;
+        pub fn ducatbriar_laid_open(
+            school_pool: *const u64,
+            school_len: u64,
+            school: ColumnTrie,
+            maker_pool: *const u64,
+            maker_len: u64,
+            maker: ColumnTrie,
+            iter: LaidIter,
+        ) -> LaidOpenAnswer;
+        pub fn ducatbriar_laid_up(
+            school_pool: *const u64,
+            school_len: u64,
+            school: ColumnTrie,
+            maker_pool: *const u64,
+            maker_len: u64,
+            maker: ColumnTrie,
+            iter: LaidIter,
+        ) -> LaidUpAnswer;
         pub fn ducatbriar_join(
             strategy: u64,
             pool: *const u64,
@@ -220,7 +298,48 @@ pub fn read(bytes: &[u8], pool: &mut [u64], start: u64, capacity: u64) -> Built 
     unsafe { c::ducatbriar_read(bytes.as_ptr(), bytes_len, pool.as_mut_ptr(), pool_len, start, capacity) }
 }
 
-/// The rows of the query, written into the window by variable number. Refusals 8, 9, 10, 11, 15, 16, 6, 12.
+/// A table and the pool that its words lie in, as a table laid over another is handed over.
+#[derive(Clone, Copy, Debug)]
+pub struct Lent<'a> {
+    pub pool: &'a [u64],
+    pub table: ColumnTrie,
+}
+
+/// Calls with the pools and headers of a school's table and a maker's.
+macro_rules! laid {
+    ($call:ident, $school:expr, $maker:expr, $($more:expr),+) => {
+        unsafe {
+            c::$call(
+                $school.pool.as_ptr(),
+                $school.pool.len() as u64,
+                $school.table,
+                $maker.pool.as_ptr(),
+                $maker.pool.len() as u64,
+                $maker.table,
+                $($more),+
+            )
+        }
+    };
+}
+
+/// Where the sibling keys under a first key lie: in the school's pool if the school has the key, else in the maker's. Refusals 6, 17, 1.
+pub fn lookup(school: Lent, maker: Lent, key: u64) -> LookedUp {
+    laid!(ducatbriar_lookup, school, maker, key)
+}
+
+impl LookedUp {
+    /// The run itself, of an answer for these pools.
+    ///
+    /// # Panics
+    ///
+    /// Where it does not lie in the pool.
+    pub fn run<'a>(&self, school_pool: &'a [u64], maker_pool: &'a [u64]) -> &'a [u64] {
+        let pool = if self.from_school { school_pool } else { maker_pool };
+        &pool[self.from as usize..][..self.len as usize]
+    }
+}
+
+/// The rows of the query, written into the window by variable number. Refusals 8, 9, 10, 11, 15, 16, 6, 17, 12.
 pub fn join(strategy: SeekStrategy, pool: &[u64], tables: Tables, query: Query, window: &mut [u64]) -> Joined {
     unsafe {
         c::ducatbriar_join(
@@ -270,5 +389,43 @@ impl ColumnTrieIter {
     /// Back to the key that was opened.
     pub fn up(self, pool: &[u64], table: ColumnTrie) -> UpAnswer {
         unsafe { c::ducatbriar_up(pool.as_ptr(), pool.len() as u64, table, self) }
+    }
+}
+
+/// The cursor's calls over a school's table laid over a maker's. Refusals 6 in either, 17 and 7.
+impl LaidIter {
+    /// At the root.
+    pub fn new() -> Self {
+        Self::default()
+    }
+
+    /// The key at the cursor, if it stands on one.
+    pub fn key(self, school: Lent, maker: Lent) -> KeyAnswer {
+        laid!(ducatbriar_laid_key, school, maker, self)
+    }
+
+    /// To the key behind, which it gives.
+    pub fn next(self, school: Lent, maker: Lent) -> LaidNextAnswer {
+        laid!(ducatbriar_laid_next, school, maker, self)
+    }
+
+    /// To the first sibling not yet passed that is not below the target; the probes of both are added up.
+    pub fn seek(self, school: Lent, maker: Lent, strategy: SeekStrategy, target: u64) -> LaidSeekAnswer {
+        laid!(ducatbriar_laid_seek, school, maker, self, strategy as u64, target)
+    }
+
+    /// Whether no sibling is left.
+    pub fn at_end(self, school: Lent, maker: Lent) -> EndAnswer {
+        laid!(ducatbriar_laid_at_end, school, maker, self)
+    }
+
+    /// To the first of the present key's children, or of the root's.
+    pub fn open(self, school: Lent, maker: Lent) -> LaidOpenAnswer {
+        laid!(ducatbriar_laid_open, school, maker, self)
+    }
+
+    /// Back to the key that was opened.
+    pub fn up(self, school: Lent, maker: Lent) -> LaidUpAnswer {
+        laid!(ducatbriar_laid_up, school, maker, self)
     }
 }

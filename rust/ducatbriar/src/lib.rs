@@ -2,7 +2,8 @@
 //!
 //! The work is done by Ducatbriar's proved calls, which this crate links as a static library. [`Pool`] and [`Table`] are what most callers want: a pool
 //! owns the words of its tables and lends them to cursors and joins, and a table goes to another machine as a file ([`Table::to_bytes`], [`Pool::read`]).
-//! [`calls`] has the calls themselves, one function each, for callers who keep their own words.
+//! A school's table can be laid over a maker's: [`Query::laid_over`], and [`Laid`] for lookups and cursors. [`calls`] has the calls themselves, one function
+//! each, for callers who keep their own words.
 //!
 //! ```
 //! use ducatbriar::{Pool, Query, SeekStrategy};
@@ -25,6 +26,7 @@
 //! # }
 //! ```
 mod kind;
+mod laid;
 mod pool;
 mod query;
 mod refusal;
@@ -34,6 +36,7 @@ pub mod limits;
 
 pub use calls::{grade_of, word_of, SeekStrategy, Sought};
 pub use kind::{Cell, Kind};
+pub use laid::{Laid, LaidCursor};
 pub use pool::{Cursor, Filled, Pool, Rows, RowsIter, Table};
 pub use query::Query;
 pub use refusal::Refusal;

@@ -22,8 +22,31 @@ impl Query {
     }
 
     /// Adds an atom over the table of this number in the list that the join is given.
-    pub fn atom(mut self, table: usize, variables: &[usize]) -> Query {
-        let mut atom = calls::Atom { table: table as u64, len: variables.len() as u64, ..Default::default() };
+    pub fn atom(self, table: usize, variables: &[usize]) -> Query {
+        self.with(calls::Atom { table: table as u64, ..Default::default() }, variables)
+    }
+
+    /// Adds an atom over the rows that count of two tables of that list, a school's laid over a maker's: all rows of the school's, and those of the maker's
+    /// whose first key the school's lacks.
+    ///
+    /// ```
+    /// # fn main() -> Result<(), ducatbriar::Refusal> {
+    /// use ducatbriar::{Pool, Query, SeekStrategy};
+    /// let mut pool = Pool::new();
+    /// let maker = pool.build(2, 4, &[[7, 470], [8, 900], [8, 910]])?;
+    /// let school = pool.build(2, 4, &[[8, 850], [9, 160]])?;
+    /// let query = Query::new(&[0, 1]).laid_over(0, 1, &[0, 1]);
+    /// let rows = pool.join(SeekStrategy::Galloping, &[&school, &maker], &query)?;
+    /// assert_eq!(rows.iter().collect::<Vec<_>>(), [[7, 470], [8, 850], [9, 160]]);
+    /// # Ok(())
+    /// # }
+    /// ```
+    pub fn laid_over(self, school: usize, maker: usize, variables: &[usize]) -> Query {
+        self.with(calls::Atom { table: school as u64, laid_over: true, maker: maker as u64, ..Default::default() }, variables)
+    }
+
+    fn with(mut self, mut atom: calls::Atom, variables: &[usize]) -> Query {
+        atom.len = variables.len() as u64;
         leading(&mut atom.variables, variables.iter().map(|&v| v as u64));
         if let Some(place) = self.query.atoms.get_mut(self.query.atom_count as usize) {
             *place = atom;
@@ -32,7 +55,7 @@ impl Query {
         self
     }
 
-    /// The table and the variables of each atom, of a query that passed the checks.
+    /// The table and the variables of each atom, of a query that passed the checks; of one that is laid over the school's table, whose kinds the maker's has.
     pub(crate) fn atoms(&self) -> impl Iterator<Item = (usize, impl Iterator<Item = usize> + '_)> + '_ {
         let atoms = &self.query.atoms[..self.query.atom_count as usize];
         atoms.iter().map(|atom| (atom.table as usize, atom.variables[..atom.len as usize].iter().map(|&v| v as usize)))

@@ -34,7 +34,7 @@ macro_rules! refusals {
 }
 
 refusals!(
-    /// By a build.
+    /// By a build, or a lookup in tables of one column.
     BadArity = 1,
     /// By a build or a read.
     BadCapacity = 2,
@@ -44,7 +44,7 @@ refusals!(
     BadLength = 4,
     /// By a build, an insert or a read.
     NoRoom = 5,
-    /// By an insert, a removal, a listing, a write, a cursor or a join.
+    /// By an insert, a removal, a listing, a write, a cursor, a lookup or a join.
     Damaged = 6,
     /// By a cursor.
     BadCursor = 7,
@@ -66,6 +66,8 @@ refusals!(
     MixedKinds = 15,
     /// By a join whose window is not whole rows; never by [`Pool::join`](crate::Pool::join), whose own window is.
     PartRows = 16,
+    /// By a join, a lookup or a cursor over two tables, one laid over the other, that are not of the same arity and kinds.
+    OtherShape = 17,
 );
 
 impl Refusal {
@@ -113,6 +115,7 @@ impl Refusal {
             Refusal::LongText => "the text or file is longer than its destination",
             Refusal::MixedKinds => "some variable binds columns of both kinds, plain and grade",
             Refusal::PartRows => "the window's length is no whole number of rows",
+            Refusal::OtherShape => "two tables laid over one another are not of the same arity and kinds",
             Refusal::BadArity | Refusal::BadCapacity | Refusal::BadOrder | Refusal::BadAtoms => "",
         }
     }

@@ -1,6 +1,6 @@
 //! Each number of refusal that the owned types can meet, and what the pool holds behind it.
 use ducatbriar::limits::MAX_CAPACITY;
-use ducatbriar::{calls, Cell, Kind, Pool, Query, Refusal, SeekStrategy, Table};
+use ducatbriar::{calls, Cell, Kind, Laid, Pool, Query, Refusal, SeekStrategy, Table};
 
 const HEADER: &str = include_str!("../../../include/ducatbriar.h");
 
@@ -22,7 +22,7 @@ fn names_numbers_and_texts_are_the_header_s() {
     }
     // One more is for what is done.
     assert_eq!(HEADER.matches("    case DUCATBRIAR_").count(), Refusal::ALL.len() + 1);
-    assert_eq!([0, 17].map(Refusal::of), [None; 2]);
+    assert_eq!([0, 18].map(Refusal::of), [None; 2]);
 }
 
 const NO_ROWS: &[[u64; 2]] = &[];
@@ -222,4 +222,52 @@ fn windows_of_whole_rows() {
     // Without variables every window is whole rows.
     let empty_row = pool.join_into(SeekStrategy::Linear, &[], &Query::new(&[]), &mut window).unwrap();
     assert_eq!((empty_row.rows, empty_row.full), (1, false));
+}
+
+/// 17 stands behind 6 and before 12; a plain atom's maker is not looked at; 10 and 15 read the school's table alone.
+#[test]
+fn laid_over() {
+    let mut pool = Pool::new();
+    let school = pool.build(2, 4, &[[1, 2], [2, 3]]).unwrap();
+    let maker = pool.build(2, 4, &[[2, 9], [3, 9]]).unwrap();
+    let three = pool.build(3, 4, &[[1, 2, 3]]).unwrap();
+    let slope = pool.build_with_kinds(&[Kind::Grade, Kind::Plain], 2, &[[Cell::Grade(1), Cell::Plain(2)]]).unwrap();
+    let tables = [&school, &maker, &three, &slope];
+    let over = |school: usize, maker: usize| Query::new(&[0, 1]).laid_over(school, maker, &[0, 1]);
+    let join = |query: &Query| pool.join(SeekStrategy::Binary, &tables, query).map(|rows| rows.into_iter().collect::<Vec<_>>());
+    assert_eq!(join(&over(0, 1)).unwrap(), [[1, 2], [2, 3], [3, 9]]);
+    assert_eq!(join(&over(1, 0)).unwrap(), [[1, 2], [2, 9], [3, 9]]);
+    assert_eq!(join(&over(0, 0)).unwrap(), [[1, 2], [2, 3]]);
+    assert_eq!(number(join(&over(0, 4))), 9);
+    assert_eq!(number(join(&over(2, 0))), 10);
+    assert_eq!([number(join(&over(0, 2))), number(join(&over(0, 3))), number(join(&over(3, 0)))], [17; 3]);
+    // A grade of the maker's alone is no matter of 15's.
+    assert_eq!(number(join(&over(0, 3).atom(1, &[0, 1]))), 17);
+    assert_eq!(number(join(&over(3, 3).atom(1, &[0, 1]))), 15);
+    let none = &mut [];
+    assert_eq!(number(pool.join_into(SeekStrategy::Linear, &tables, &over(0, 2), none)), 17);
+    assert!(pool.join_into(SeekStrategy::Linear, &tables, &over(0, 1), none).unwrap().full);
+    assert_eq!(number(Pool::new().join(SeekStrategy::Linear, &tables, &over(0, 2))), 6);
+}
+
+#[test]
+fn lookups_and_laid_over_cursors() {
+    let mut pool = Pool::new();
+    let school = pool.build(2, 4, &[[1, 2]]).unwrap();
+    let one = pool.build(1, 4, &[[1]]).unwrap();
+    let other = Pool::new();
+    let laid = |school: &Table, maker: &Table| Laid::new((&pool, school), (&pool, maker)).lookup(1).map(<[u64]>::to_vec);
+    assert_eq!(laid(&school, &school), Ok(vec![2]));
+    assert_eq!(number(laid(&school, &one)), 17);
+    assert_eq!(number(laid(&one, &one)), 1);
+    let elsewhere = Laid::new((&pool, &school), (&other, &one));
+    assert_eq!(number(elsewhere.lookup(1)), 6);
+    assert_eq!(number(elsewhere.cursor(SeekStrategy::Linear).open()), 6);
+    assert_eq!(number(Laid::new((&pool, &school), (&pool, &one)).cursor(SeekStrategy::Linear).open()), 17);
+    // Both at the root or neither, where both tables have rows.
+    let lent = calls::Lent { pool: pool.words(), table: school.header() };
+    let at_top = calls::LaidIter::new().open(lent, lent).iter;
+    assert_eq!(at_top.key(lent, lent), calls::KeyAnswer { number: 0, found: true, key: 1 });
+    let half = calls::LaidIter { maker: Default::default(), ..at_top };
+    assert_eq!(half.key(lent, lent).number, 7);
 }

@@ -11,7 +11,7 @@ use std::collections::{BTreeMap, BTreeSet};
 type Made<T> = Result<T, Refused>;
 
 /// What a join needs, as portable/test measures it.
-const STACK: &str = "12 KB";
+const STACK: &str = "16 KB";
 
 const HELPERS: &str = "
 /* The place so many bytes behind p, which may be null where that is none. */

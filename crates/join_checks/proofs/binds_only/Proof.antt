@@ -41,7 +41,7 @@ columns-ok-requires c κs = c .before .before .before .before .pre .1 .short (c 
 returns : tie.Need-returns Inv-loop μ-loop
 returns c =
     let a = c .before .before .before .before .before .before .args in
-    sym (every-fails (columnsOk (a .t1) (a .t2) (a .v) (a .grade)) (a .t2 .«atom_count») (c .before .before .before .before .before .loop .i) (omega arith) (failed (c .before .columns-ok .ensures) (c .if1 .taken)))
+    sym (every-fails (columnsOk (a .t1) (a .t2) (a .v) (a .grade)) (a .t2 .«atom_count») (c .before .before .before .before .before .loop .i) (omega arith) (failed {t = columnsOk (a .t1) (a .t2) (a .v) (a .grade) (c .before .before .before .before .before .loop .i)} (c .before .columns-ok .ensures) (c .if1 .taken)))
 
 add-i : tie.Need-add-i Inv-loop μ-loop
 add-i c = omega (arith, told (c .before .before .before .before .before .before))
@@ -53,7 +53,7 @@ loop-again : tie.Need-loop-again Inv-loop μ-loop
 loop-again c =
     let a = c .before .before .before .before .before .before .args in
     let l = c .before .before .before .before .before .loop in
-    (omega arith, every-more (columnsOk (a .t1) (a .t2) (a .v) (a .grade)) (l .i) (l .inv .1) (passed (c .before .columns-ok .ensures) (c .if1 .left)))
+    (omega arith, every-more (columnsOk (a .t1) (a .t2) (a .v) (a .grade)) (l .i) (l .inv .1) (passed {t = columnsOk (a .t1) (a .t2) (a .v) (a .grade) (l .i)} (c .before .columns-ok .ensures) (c .if1 .left)))
 
 returns-2 : tie.Need-returns-2 Inv-loop μ-loop
 returns-2 c =

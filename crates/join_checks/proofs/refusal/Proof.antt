@@ -4,8 +4,8 @@ use mathlib.Core.Bool.{true}
 use Rattle.relation.specs.Tests.{every}
 use Rattle.relation.proofs.Tests.{passed, failed}
 use Rattle.query.specs.Checks.{covers}
-use Rattle.join_query.specs.Query.{orderOk, namedOk, listOk, listsOf, oneKind, wholeRows}
-use Rattle.join_query.proofs.Lists.{lists-told, number-8, number-9, number-10, number-11, number-15, number-16, number-6, number-0}
+use Rattle.join_query.specs.Query.{orderOk, namedOk, listOk, listsOf, oneKind, wholeRows, soundAt}
+use Rattle.join_query.proofs.Lists.{lists-told, number-8, number-9, number-10, number-11, number-15, number-16, number-6, number-17, number-0}
 use Rattle.join_checks.proofs.refusal.Statement.{statement}
 use Rattle.join_checks.proofs.refusal.Tie as tie
 
@@ -27,6 +27,9 @@ of-one-kind c = passed (c .before .kinds-ok .ensures) (c .if5 .left)
 
 whole : (c : tie.Else6) → let a = c .before .before .before .before .before .before .before .before .before .before .before .before .before .args in wholeRows (a .q .n) (a .len) ≡ true
 whole c = passed (c .before .rows-ok .ensures) (c .if6 .left)
+
+sound : (c : tie.Else7) → let a = c .before .before .before .before .before .before .before .before .before .before .before .before .before .before .before .args in every (a .ts .count) (soundAt (a .pool .now) (a .ts) (a .q)) ≡ true
+sound c = passed (c .before .tables-ok .ensures) (c .if7 .left)
 
 order-ok-requires : tie.Need-order-ok-requires
 order-ok-requires c κs = tt
@@ -82,10 +85,18 @@ returns-7 c =
     let a = c .before .before .before .before .before .before .before .before .before .before .before .before .before .before .before .args in
     number-6 (a .pool .now) (a .ts) (a .q) (a .len) (ordered (c .before .before .before .before .before .before .before .before .before .before .before .before)) (named (c .before .before .before .before .before .before .before .before .before .before)) (listed (c .before .before .before .before .before .before .before .before)) (covered (c .before .before .before .before .before .before)) (of-one-kind (c .before .before .before .before)) (whole (c .before .before)) (failed (c .before .tables-ok .ensures) (c .if7 .taken))
 
+shapes-ok-requires : tie.Need-shapes-ok-requires
+shapes-ok-requires c κs = (named (c .before .before .before .before .before .before .before .before .before .before), listed (c .before .before .before .before .before .before .before .before))
+
 returns-8 : tie.Need-returns-8
 returns-8 c =
-    let a = c .before .before .before .before .before .before .before .before .before .before .before .before .before .before .before .args in
-    number-0 (a .pool .now) (a .ts) (a .q) (a .len) (ordered (c .before .before .before .before .before .before .before .before .before .before .before .before)) (named (c .before .before .before .before .before .before .before .before .before .before)) (listed (c .before .before .before .before .before .before .before .before)) (covered (c .before .before .before .before .before .before)) (of-one-kind (c .before .before .before .before)) (whole (c .before .before)) (passed (c .before .tables-ok .ensures) (c .if7 .left))
+    let a = c .before .before .before .before .before .before .before .before .before .before .before .before .before .before .before .before .before .args in
+    number-17 (a .pool .now) (a .ts) (a .q) (a .len) (ordered (c .before .before .before .before .before .before .before .before .before .before .before .before .before .before)) (named (c .before .before .before .before .before .before .before .before .before .before .before .before)) (listed (c .before .before .before .before .before .before .before .before .before .before)) (covered (c .before .before .before .before .before .before .before .before)) (of-one-kind (c .before .before .before .before .before .before)) (whole (c .before .before .before .before)) (sound (c .before .before)) (failed (c .before .shapes-ok .ensures) (c .if8 .taken))
+
+returns-9 : tie.Need-returns-9
+returns-9 c =
+    let a = c .before .before .before .before .before .before .before .before .before .before .before .before .before .before .before .before .before .args in
+    number-0 (a .pool .now) (a .ts) (a .q) (a .len) (ordered (c .before .before .before .before .before .before .before .before .before .before .before .before .before .before)) (named (c .before .before .before .before .before .before .before .before .before .before .before .before)) (listed (c .before .before .before .before .before .before .before .before .before .before)) (covered (c .before .before .before .before .before .before .before .before)) (of-one-kind (c .before .before .before .before .before .before)) (whole (c .before .before .before .before)) (sound (c .before .before)) (passed (c .before .shapes-ok .ensures) (c .if8 .left))
 
 pub refusal-spec : {M : Type 1} → statement M
 refusal-spec =
@@ -105,4 +116,6 @@ refusal-spec =
     returns-6
     tables-ok-requires
     returns-7
-    returns-8)
+    shapes-ok-requires
+    returns-8
+    returns-9)

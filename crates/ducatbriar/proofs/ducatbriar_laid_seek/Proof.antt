@@ -1,0 +1,16 @@
+-- `ducatbriar::ducatbriar_laid_seek` is `overlay_iter::seek` under the strategy that the number stands for.
+use borrow.Author.Needs.{needs}
+use Rattle.ducatbriar.proofs.ducatbriar_laid_seek.Statement.{statement}
+use Rattle.ducatbriar.proofs.ducatbriar_laid_seek.Tie as tie
+
+strategy-of-requires : tie.Need-strategy-of-requires
+strategy-of-requires c κs = search needs
+
+seek-requires : tie.Need-seek-requires
+seek-requires c κs = search needs
+
+returns : tie.Need-returns
+returns c = cc
+
+pub ducatbriar-laid-seek-spec : {M : Type 1} → statement M
+ducatbriar-laid-seek-spec = tie.close (tie.spec strategy-of-requires seek-requires returns)

@@ -1,0 +1,3 @@
+pub mod Found
+pub mod Laws
+pub mod Exactly

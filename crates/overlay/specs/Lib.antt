@@ -1,0 +1,3 @@
+-- Merge: two runs of keys as one. Laid: the rows that count.
+pub mod Merge
+pub mod Laid

@@ -1,0 +1,2 @@
+pub mod Pair
+pub mod Walk
