@@ -3,8 +3,8 @@
  *     selftest [ROUNDS [FOLDER]]
  *
  * It replays the recorded answers in FOLDER (crates/replay/data), if there is one, printing the lines of crates/replay/stdout. Then it makes calls on
- * drawn words, sound and damaged ones, and prints how often each number of refusal came and one checksum over every number and word that came back: it is
- * the same for each build and machine. Compiled with -DSELFTEST_SMALL it has no replay, no tables of 65,536 rows and fewer rounds, and so other numbers:
+ * drawn words, sound and damaged ones, and prints how often each number of refusal came, on how many joins the two engines differ, and one checksum over
+ * every number and word that came back: it is the same for each build and machine. Compiled with -DSELFTEST_SMALL it has no replay, no tables of 65,536 rows and fewer rounds, and so other numbers:
  * it needs 0.1 MB of memory, and the whole one 4.6 MB.
  *
  * Each draw stands in a statement of its own or behind a sequence point, so that no compiler may exchange two. */
@@ -146,7 +146,7 @@ static void cursors(void)
 
 static void joins(void)
 {
-    static uint64_t pool[4096], rows[1024], window[1024];
+    static uint64_t pool[4096], rows[1024], window[1024], again[1024];
     const uint64_t mark = UINT64_C(1234567890123456789);
     ducatbriar_tables ts = {0};
     ducatbriar_query q = {0};
@@ -176,6 +176,10 @@ static void joins(void)
             for (size_t i = 0; i < COUNT(window); i++)
                 holds = holds && window[i] == (i < written ? rows[i] : mark);
             same(holds);
+            for (size_t i = 0; i < COUNT(window); i++)
+                again[i] = mark;
+            ducatbriar_plain_joined p = ducatbriar_plain_join(pool, COUNT(pool), ts, q, again, size);
+            same(p.number == j.number && p.rows == j.rows && memcmp(again, window, sizeof window) == 0);
         }
 }
 
@@ -205,6 +209,7 @@ static void replay(const char *folder, const char *name, void (*one)(void))
 /* ---- drawn calls */
 
 static uint64_t state = UINT64_C(88172645463325252), sum = UINT64_C(14695981039346656037), calls, refusals[18];
+static uint64_t both, differ; /* joins asked of both engines, and those that the two answered differently */
 
 static uint64_t draw(uint64_t below)
 {
@@ -413,9 +418,17 @@ static ducatbriar_query query_over(const ducatbriar_tables *ts)
     return q;
 }
 
+/* The plain engine's answer beside the join's, counted where it is another one, or its window has other words. */
+static void both_engines(ducatbriar_joined j, ducatbriar_plain_joined p, bool same_words)
+{
+    add_number(p.number), add(p.rows), add(same_words);
+    both++;
+    differ += p.number != j.number || p.rows != j.rows || !same_words;
+}
+
 static void query(const uint64_t *pool, uint64_t len, ducatbriar_tables ts)
 {
-    uint64_t window[256];
+    uint64_t window[256], again[256];
     ducatbriar_query q = query_over(&ts);
     uint64_t word = key(), where = draw(8);
     if (draw(12) == 0)
@@ -442,6 +455,10 @@ static void query(const uint64_t *pool, uint64_t len, ducatbriar_tables ts)
     ducatbriar_joined j = ducatbriar_join(strategy, pool, len, ts, q, window, size);
     add_number(j.number), add(j.rows), add(j.seeks);
     add_words(window, COUNT(window));
+    for (size_t i = 0; i < COUNT(again); i++)
+        again[i] = i;
+    ducatbriar_plain_joined p = ducatbriar_plain_join(pool, len, ts, q, again, size);
+    both_engines(j, p, memcmp(again, window, sizeof window) == 0);
 }
 
 /* Plain for the most part, so that most joins pass 15. */
@@ -661,7 +678,7 @@ static void file_at_limit(ducatbriar_table t, uint64_t *pool, uint64_t len)
 
 static void limits(void)
 {
-    static uint64_t rows[2 * 65536], pool[4 * 65536], window[63];
+    static uint64_t rows[2 * 65536], pool[4 * 65536], window[63], again[63];
     for (uint64_t i = 0; i < COUNT(rows); i++)
         rows[i] = i % 2 ? draw(UINT64_C(1) << 40) : draw(300);
     ducatbriar_built over = ducatbriar_build(rows, COUNT(rows), pool, COUNT(pool), 0, 2, 65537, plain);
@@ -689,6 +706,9 @@ static void limits(void)
         uint64_t from = draw(1000), target = draw(UINT64_C(1) << 40);
         ducatbriar_joined j = ducatbriar_join(strategy, pool, COUNT(pool), ts, q, window, COUNT(window));
         add_number(j.number), add(j.rows), add(j.seeks), add_words(window, COUNT(window));
+        memset(again, 0, sizeof again);
+        ducatbriar_plain_joined p = ducatbriar_plain_join(pool, COUNT(pool), ts, q, again, COUNT(again));
+        both_engines(j, p, memcmp(again, window, sizeof window) == 0);
         ducatbriar_sought s = ducatbriar_partition_point(strategy, pool + from, COUNT(pool) - from, target);
         add(s.offset), add(s.probes), add(s.hit);
     }
@@ -716,6 +736,7 @@ int main(int argc, char **argv)
     printf("refusals:");
     for (size_t i = 1; i < COUNT(refusals); i++)
         printf(" %" PRIu64, refusals[i]);
+    printf("\nboth engines: %" PRIu64 " joins, %" PRIu64 " differ", both, differ);
     printf("\n%ld rounds, %" PRIu64 " calls, checksum %016" PRIx64 "\n", rounds, calls, sum);
     return 0;
 }

@@ -26,6 +26,11 @@ static void join(void)
     ducatbriar_join(2, pool, 4096, ts, q, window, 4096);
 }
 
+static void join_plainly(void)
+{
+    ducatbriar_plain_join(pool, 4096, ts, q, window, 4096);
+}
+
 static void build(void)
 {
     for (size_t i = 0; i < 256; i++)
@@ -110,6 +115,7 @@ int main(void)
     }
     file_len = ducatbriar_write(pool, 4096, ts.tables[0], file, sizeof file).len;
     measure("join", join);
+    measure("plain_join", join_plainly);
     measure("build", build);
     measure("insert", insert);
     measure("remove", take_out);

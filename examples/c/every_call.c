@@ -1,5 +1,5 @@
 /* Uses every call once or more, over keys that need more than 32 bits: a lesson's stretches of road and their grades, walked by a cursor, joined with the
- * friction of their surfaces into a window that is too small, and then into one that isn't; the grades go to another unit as a file; a school's own friction is
+ * friction of their surfaces into a window that is too small, and then into one that isn't, by both engines; the grades go to another unit as a file; a school's own friction is
  * laid over the maker's, and at the end a stretch is taken out.
  *
  * Road: (surface, stretch). Grades: (grade, stretch), a grade as its word. Friction: (surface, thousandths). Each check that fails ends the program. */
@@ -147,6 +147,15 @@ static void walk(ducatbriar_table table)
     printf("a cursor that is none: %s\n", ducatbriar_meaning(ducatbriar_key(pool, COUNT(pool), table, nowhere).number));
 }
 
+/* Whether the plain engine gives the same answer and the same words, of a window of `len` words. */
+static void join_plainly(ducatbriar_tables tables, ducatbriar_query query, ducatbriar_joined answer, const uint64_t *window, uint64_t len)
+{
+    uint64_t again[4 * STRETCHES];
+    ducatbriar_plain_joined plainly = ducatbriar_plain_join(pool, COUNT(pool), tables, query, again, len);
+    bool same = plainly.number == answer.number && plainly.rows == answer.rows && memcmp(again, window, query.n * answer.rows * sizeof again[0]) == 0;
+    printf("by the plain engine: %" PRIu64 " rows, %s\n", plainly.rows, same ? "the same" : "others");
+}
+
 /* Variables: 0 grade, 1 stretch, 2 surface, 3 friction, bound as 2 0 1 3: by surface, then by grade. */
 static void join(ducatbriar_tables tables)
 {
@@ -168,6 +177,7 @@ static void join(ducatbriar_tables tables)
         printf("surface %" PRIu64 ", grade %" PRId64 ", stretch %" PRIu64 ": 0.%03" PRIu64 "\n", row[2], ducatbriar_grade_of(row[0]), row[1], row[3]);
     }
     printf("seeks: %" PRIu64 "\n", answer.seeks);
+    join_plainly(tables, query, answer, window, COUNT(window));
 }
 
 /* Takes the road's last stretch out, and once more, when it is there no longer. Its surface has no other stretch, so that key goes too. */
@@ -254,6 +264,7 @@ static void join_both(ducatbriar_tables tables)
     for (uint64_t i = 0; i < answer.rows; i++) {
         printf("surface %" PRIu64 ", stretch %" PRIu64 ": 0.%03" PRIu64 "\n", window[3 * i], window[3 * i + 1], window[3 * i + 2]);
     }
+    join_plainly(tables, query, answer, window, COUNT(window));
     query.atoms[1].maker = 1;
     answer = ducatbriar_join(DUCATBRIAR_GALLOPING, pool, COUNT(pool), tables, query, window, COUNT(window));
     printf("frictions over grades: %s\n", ducatbriar_meaning(answer.number));

@@ -13,6 +13,7 @@ use Rattle.removal_laws.proofs.Laws as removals
 use Rattle.column_trie_listing.proofs.Lists as lists
 use Rattle.file_write.proofs.Files as writes
 use Rattle.leapfrog_triejoin.proofs.Determined as joins
+use Rattle.plain_join.proofs.Determined as plain-joins
 use Rattle.ducatbriar.proofs.ducatbriar_partition_point.Reads as partition-point-reads
 use Rattle.ducatbriar.proofs.ducatbriar_word_of.Reads as word-of-reads
 use Rattle.ducatbriar.proofs.ducatbriar_grade_of.Reads as grade-of-reads
@@ -38,6 +39,7 @@ use Rattle.ducatbriar.proofs.ducatbriar_laid_at_end.Reads as laid-at-en
 use Rattle.ducatbriar.proofs.ducatbriar_laid_open.Reads as laid-open-reads
 use Rattle.ducatbriar.proofs.ducatbriar_laid_up.Reads as laid-up-reads
 use Rattle.ducatbriar.proofs.ducatbriar_join.Reads as join-reads
+use Rattle.ducatbriar.proofs.ducatbriar_plain_join.Reads as plain-join-reads
 
 -- ---- calls that write nothing: one answer for each list of arguments
 
@@ -133,3 +135,6 @@ list κs args r₁ r₂ e₁ e₂ p q = lists.determined p q
 -- the window
 pub join : (κs : Lfts 2) → OneOutcome (join-reads.Post κs) (λ e. now (e .1 .1 .1 .1 .0))
 join κs args r₁ r₂ e₁ e₂ p q = (joins.one-answer p q, joins.one-window p q)
+
+pub plain-join : (κs : Lfts 2) → OneOutcome (plain-join-reads.Post κs) (λ e. now (e .1 .1 .1 .0))
+plain-join κs args r₁ r₂ e₁ e₂ p q = (plain-joins.one-answer p q, plain-joins.one-window p q)

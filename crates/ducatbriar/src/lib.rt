@@ -17,6 +17,7 @@ ghost use Rattle.column_trie_iter.specs.Cursor.{keyOf, nextOf, soughtOf, endOf,
 ghost use Rattle.overlay_lookup.specs.Lookup.{lookedUp};
 ghost use Rattle.overlay_iter.specs.Calls.{laidKeyOf, laidNextOf, laidSoughtOf, laidEndOf, laidOpenOf, laidUpOf};
 ghost use Rattle.leapfrog_triejoin.specs.Outcome.{Joins};
+ghost use Rattle.plain_join.specs.Outcome.{PlainJoins};
 ghost use Rattle.ducatbriar.specs.Strategy.{strategyOf};
 use column_trie::ColumnTrie;
 use column_trie_insert::Inserted;
@@ -40,6 +41,7 @@ use overlay_iter::LaidSeekAnswer;
 use overlay_iter::LaidUpAnswer;
 use overlay_lookup::LookedUp;
 use overlay_place::LaidIter;
+use plain_join::PlainJoined;
 use seek::SeekStrategy;
 use seek::Sought;
 
@@ -327,4 +329,16 @@ pub extern "C" fn ducatbriar_join(
     ensures { λ r. ⌜ Joins (now (pool .entry)) tables query (now (window .entry)) r (now (window .exit)) ⌝ }
 {
     leapfrog_triejoin::join(strategy_of(strategy), pool, tables, query, window)
+}
+
+#[no_mangle]
+pub extern "C" fn ducatbriar_plain_join(
+    pool: &[u64],
+    tables: Tables,
+    query: Query,
+    window: &mut [u64],
+) -> PlainJoined
+    ensures { λ r. ⌜ PlainJoins (now (pool .entry)) tables query (now (window .entry)) r (now (window .exit)) ⌝ }
+{
+    plain_join::plain_join(pool, tables, query, window)
 }

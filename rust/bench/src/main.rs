@@ -10,6 +10,8 @@ mod cycles;
 #[cfg(kermit)]
 mod data;
 #[cfg(kermit)]
+mod engines;
+#[cfg(kermit)]
 mod files;
 #[cfg(kermit)]
 mod inserts;
@@ -42,6 +44,7 @@ const GROUPS: &[(&str, fn(usize))] = &[
     ("triangle", cycles::triangles),
     ("square", cycles::squares),
     ("overlay", overlay::overlay),
+    ("plain", engines::plain),
 ];
 
 #[cfg(kermit)]

@@ -1,5 +1,6 @@
-//! Joins: rows and seeks under all strategies and in windows of every size around full against kermit, and refusals against document 01's table. kermit
-//! knows no kinds and no window: where a query passes the checks kinds change nothing, and a window that is not whole rows gets nothing.
+//! Joins: rows and seeks under all strategies and in windows of every size around full against kermit, and refusals against document 01's table. The plain
+//! engine, which has no strategy, is held to the same in each of these windows, and so to the other engine. kermit knows no kinds and no window: where a
+//! query passes the checks kinds change nothing, and a window that is not whole rows gets nothing.
 use crate::case::{shorter, show_rows, smaller_rows, Case, Tally};
 use crate::kermit;
 use crate::model::{self, Row};
@@ -99,6 +100,36 @@ impl Call {
             _ => joined,
         }
     }
+
+    /// The leapfrogs under a strategy, held to the answer and the words that are expected of a window.
+    fn leapt(&self, strategy: SeekStrategy, answer: Joined, words: &[u64], tally: &mut Tally) -> Result<(), String> {
+        let mut window = marked(words.len());
+        let ours = join(strategy, &self.pool, self.tables, self.query, &mut window);
+        tally.same(ours, answer, || format!("{strategy:?}, window of {}, answer", words.len()))?;
+        tally.same(&window[..], words, || format!("{strategy:?}, window of {}, words", words.len()))
+    }
+
+    /// The plain engine held to the same, and so to the leapfrogs. It makes no seeks.
+    fn plainly(&self, answer: Joined, words: &[u64], tally: &mut Tally) -> Result<(), String> {
+        let mut window = marked(words.len());
+        let ours = plain_join(&self.pool, self.tables, self.query, &mut window);
+        let answer = PlainJoined { number: answer.number, rows: answer.rows };
+        tally.same(ours, answer, || format!("the plain engine, window of {}, answer", words.len()))?;
+        tally.same(&window[..], words, || format!("the plain engine, window of {}, words", words.len()))
+    }
+
+    /// Both engines, all strategies, into a window of so many words, by document 01.
+    pub fn run(&self, size: usize, tally: &mut Tally) -> Result<(), String> {
+        for strategy in SeekStrategy::ALL {
+            let mut words = marked(size);
+            let answer = self.expected(strategy, &mut words);
+            self.leapt(strategy, answer, &words, tally)?;
+            if strategy == SeekStrategy::default() {
+                self.plainly(answer, &words, tally)?;
+            }
+        }
+        Ok(())
+    }
 }
 
 /// Every size from two rows and a word short of full to a row and a word over it, and from none to a row and a word.
@@ -134,11 +165,12 @@ impl Joins {
                 tally.same(by_definition, rows, || format!("{strategy:?}, rows by the definition and kermit's"))?;
             }
             for size in windows(n, rows.len()) {
-                let mut window = marked(size);
-                let mut expected = window.clone();
-                let answer = join(strategy, &call.pool, call.tables, call.query, &mut window);
-                tally.same(answer, written(n, &found, &mut expected), || format!("{strategy:?}, window of {size}, answer"))?;
-                tally.same(window, expected, || format!("{strategy:?}, window of {size}, words"))?;
+                let mut words = marked(size);
+                let answer = written(n, &found, &mut words);
+                call.leapt(strategy, answer, &words, tally)?;
+                if strategy == SeekStrategy::default() {
+                    call.plainly(answer, &words, tally)?;
+                }
             }
         }
         Ok(())
@@ -336,14 +368,7 @@ impl Case for Changed {
             let len = all.len();
             *all[i % len] = word;
         }
-        for strategy in SeekStrategy::ALL {
-            let mut window = marked(self.window);
-            let mut expected = window.clone();
-            let answer = join(strategy, &call.pool, call.tables, call.query, &mut window);
-            tally.same(answer, call.expected(strategy, &mut expected), || format!("{strategy:?}, answer"))?;
-            tally.same(window, expected, || format!("{strategy:?}, words"))?;
-        }
-        Ok(())
+        call.run(self.window, tally)
     }
 
     fn smaller(&self) -> Vec<Self> {

@@ -1,4 +1,5 @@
-//! Joins over atoms that are laid over: rows, numbers, window words and seeks against kermit's join over tables that it builds afresh from the rows that count.
+//! Joins over atoms that are laid over: rows, numbers, window words and seeks against kermit's join over tables that it builds afresh from the rows that count;
+//! of both engines, as in joins.rs.
 use crate::case::{shorter, show_rows, smaller_rows, Case, Tally};
 use crate::cursors::subsets;
 use crate::joins::{self, words, Call, Joins, QUERY};
@@ -6,7 +7,7 @@ use crate::model::{self, Row};
 use crate::model_overlay::counting;
 use crate::overlay::{dealt, front, front_header};
 use crate::rng::Rng;
-use crate::tables::{all_rows, distinct, marked, MOST};
+use crate::tables::{all_rows, distinct, MOST};
 use ducatbriar::calls::*;
 use std::fmt;
 
@@ -293,14 +294,7 @@ impl Case for LaidChanged {
             let len = all.len();
             *all[i % len] = word;
         }
-        for strategy in SeekStrategy::ALL {
-            let mut window = marked(self.window);
-            let mut expected = window.clone();
-            let answer = join(strategy, &call.pool, call.tables, call.query, &mut window);
-            tally.same(answer, call.expected(strategy, &mut expected), || format!("{strategy:?}, answer"))?;
-            tally.same(window, expected, || format!("{strategy:?}, words"))?;
-        }
-        Ok(())
+        call.run(self.window, tally)
     }
 
     fn smaller(&self) -> Vec<Self> {

@@ -93,6 +93,10 @@ c_struct!(
     /// The rows written, and the seeks that the leapfrogs made: 2^64 - 1 stands for that and all above; on 12 those up to the first row that does not fit.
     Joined { number: u64, rows: u64, seeks: u64 }
 );
+c_struct!(
+    /// The rows written by the plain engine.
+    PlainJoined { number: u64, rows: u64 }
+);
 
 mod c {
     use super::*;
@@ -211,6 +215,14 @@ mod c {
             window: *mut u64,
             window_len: u64,
         ) -> Joined;
+        pub fn ducatbriar_plain_join(
+            pool: *const u64,
+            len: u64,
+            tables: Tables,
+            query: Query,
+            window: *mut u64,
+            window_len: u64,
+        ) -> PlainJoined;
     }
 }
 
@@ -352,6 +364,11 @@ pub fn join(strategy: SeekStrategy, pool: &[u64], tables: Tables, query: Query, 
             window.len() as u64,
         )
     }
+}
+
+/// The same by the plain engine, which has no strategy and no seeks: number, rows and window words are those of [`join`] on every input. Slower by design.
+pub fn plain_join(pool: &[u64], tables: Tables, query: Query, window: &mut [u64]) -> PlainJoined {
+    unsafe { c::ducatbriar_plain_join(pool.as_ptr(), pool.len() as u64, tables, query, window.as_mut_ptr(), window.len() as u64) }
 }
 
 /// The cursor's calls. Refusals 6 and 7.

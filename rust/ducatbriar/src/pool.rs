@@ -418,23 +418,62 @@ impl Pool {
         window: &mut [u64],
     ) -> Result<Filled, Refusal> {
         let joined = calls::join(strategy, &self.words, Self::tables(tables), query.query, window);
-        let full = joined.number == Refusal::Full.number();
-        if !full {
-            Refusal::check(joined.number)?;
-        }
+        let full = Self::filled(joined.number)?;
         Ok(Filled { rows: joined.rows as usize, full, seeks: joined.seeks })
+    }
+
+    /// Whether the window was too small for all rows (number 12), of a join that isn't refused otherwise.
+    fn filled(number: u64) -> Result<bool, Refusal> {
+        let full = number == Refusal::Full.number();
+        if !full {
+            Refusal::check(number)?;
+        }
+        Ok(full)
     }
 
     /// All rows of the query, each by variable number, ascending as read in the query's order.
     pub fn join(&self, strategy: SeekStrategy, tables: &[&Table], query: &Query) -> Result<Rows, Refusal> {
+        Self::all_rows(tables, query, |window| {
+            self.join_into(strategy, tables, query, window).map(|filled| (filled.rows, filled.full))
+        })
+    }
+
+    /// The same rows, or the same refusal, by the plain engine: for someone who examines the other one (docs/EXAMINER.md). Slower by design.
+    ///
+    /// ```
+    /// # fn main() -> Result<(), ducatbriar::Refusal> {
+    /// use ducatbriar::{Pool, Query, SeekStrategy};
+    /// let mut pool = Pool::new();
+    /// let r = pool.build(2, 4, &[[1, 2], [1, 3], [2, 3]])?;
+    /// // R(0, 1), R(1, 2)
+    /// let query = Query::new(&[0, 1, 2]).atom(0, &[0, 1]).atom(0, &[1, 2]);
+    /// let rows = pool.plain_join(&[&r], &query)?;
+    /// assert_eq!(rows.iter().collect::<Vec<_>>(), [[1, 2, 3]]);
+    /// assert_eq!(rows, pool.join(SeekStrategy::Galloping, &[&r], &query)?);
+    /// # Ok(())
+    /// # }
+    /// ```
+    pub fn plain_join(&self, tables: &[&Table], query: &Query) -> Result<Rows, Refusal> {
+        Self::all_rows(tables, query, |window| {
+            let joined = calls::plain_join(&self.words, Self::tables(tables), query.query, window);
+            Ok((joined.rows as usize, Self::filled(joined.number)?))
+        })
+    }
+
+    /// What an engine, which says how many rows it wrote and whether more exist, writes into a window that grows until it holds all.
+    fn all_rows(
+        tables: &[&Table],
+        query: &Query,
+        engine: impl Fn(&mut [u64]) -> Result<(usize, bool), Refusal>,
+    ) -> Result<Rows, Refusal> {
         let width = query.variables();
         // Whole rows, and so are four times as many.
         let mut words = vec![0; 256 * width.min(MAX_VARIABLES)];
         loop {
-            let filled = self.join_into(strategy, tables, query, &mut words)?;
-            if !filled.full {
-                words.truncate(filled.rows * width);
-                return Ok(Rows { kinds: Self::kinds(tables, query), count: filled.rows, words });
+            let (count, full) = engine(&mut words)?;
+            if !full {
+                words.truncate(count * width);
+                return Ok(Rows { kinds: Self::kinds(tables, query), count, words });
             }
             words.resize(4 * words.len(), 0);
         }

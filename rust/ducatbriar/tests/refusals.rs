@@ -1,6 +1,6 @@
 //! Each number of refusal that the owned types can meet, and what the pool holds behind it.
 use ducatbriar::limits::MAX_CAPACITY;
-use ducatbriar::{calls, Cell, Kind, Laid, Pool, Query, Refusal, SeekStrategy, Table};
+use ducatbriar::{calls, Cell, Kind, Laid, Pool, Query, Refusal, Rows, SeekStrategy, Table};
 
 const HEADER: &str = include_str!("../../../include/ducatbriar.h");
 
@@ -38,9 +38,16 @@ fn pairs() -> (Pool, Table) {
     (pool, table)
 }
 
+/// What both engines answer.
+fn joined(pool: &Pool, tables: &[&Table], query: &Query) -> Result<Rows, Refusal> {
+    let rows = pool.join(SeekStrategy::Galloping, tables, query);
+    assert_eq!(pool.plain_join(tables, query), rows, "the plain engine's");
+    rows
+}
+
 fn join(query: &Query) -> Result<usize, Refusal> {
     let (pool, table) = pairs();
-    pool.join(SeekStrategy::Galloping, &[&table], query).map(|rows| rows.len())
+    joined(&pool, &[&table], query).map(|rows| rows.len())
 }
 
 #[test]
@@ -139,7 +146,7 @@ fn kinds() {
     let slope = [[Cell::Grade(-60), Cell::Plain(1)], [Cell::Grade(0), Cell::Plain(2)]];
     let slope = pool.build_with_kinds(&[Kind::Grade, Kind::Plain], 2, &slope).unwrap();
     let plain = pool.build(2, 2, &[[1, 2], [2, 3]]).unwrap();
-    let join = |query: &Query| pool.join(SeekStrategy::Galloping, &[&slope, &plain], query).map(|rows| rows.len());
+    let join = |query: &Query| joined(&pool, &[&slope, &plain], query).map(|rows| rows.len());
     assert_eq!(join(&Query::new(&[0, 1]).atom(0, &[0, 1]).atom(0, &[0, 1])), Ok(2));
     assert_eq!(join(&Query::new(&[0, 1, 2]).atom(0, &[0, 1]).atom(1, &[1, 2])), Ok(2));
     assert_eq!(number(join(&Query::new(&[0, 1]).atom(0, &[0, 1]).atom(1, &[0, 1]))), 15);
@@ -200,6 +207,23 @@ fn small_windows() {
     assert_eq!((calls::list(pool.words(), table.header(), &mut text).number, text), (14, [7; 5]));
 }
 
+/// The plain engine's answer and words in windows of every length up to two rows and a word.
+#[test]
+fn windows_of_the_plain_engine() {
+    let (pool, table) = pairs();
+    let tables = calls::Tables { count: 1, tables: [table.header(); 8] };
+    let mut query = calls::Query { n: 2, atom_count: 1, ..Default::default() };
+    query.order[1] = 1;
+    query.atoms[0] = calls::Atom { len: 2, variables: query.order, ..Default::default() };
+    let expected =
+        [(12, 0, [7; 5]), (16, 0, [7; 5]), (12, 1, [1, 2, 7, 7, 7]), (16, 0, [7; 5]), (0, 2, [1, 2, 2, 3, 7]), (16, 0, [7; 5])];
+    for (len, expected) in expected.into_iter().enumerate() {
+        let mut window = [7; 5];
+        let answer = calls::plain_join(pool.words(), tables, query, &mut window[..len]);
+        assert_eq!((answer.number, answer.rows, window), expected, "{len} words");
+    }
+}
+
 #[test]
 fn windows_of_whole_rows() {
     let (pool, table) = pairs();
@@ -234,7 +258,7 @@ fn laid_over() {
     let slope = pool.build_with_kinds(&[Kind::Grade, Kind::Plain], 2, &[[Cell::Grade(1), Cell::Plain(2)]]).unwrap();
     let tables = [&school, &maker, &three, &slope];
     let over = |school: usize, maker: usize| Query::new(&[0, 1]).laid_over(school, maker, &[0, 1]);
-    let join = |query: &Query| pool.join(SeekStrategy::Binary, &tables, query).map(|rows| rows.into_iter().collect::<Vec<_>>());
+    let join = |query: &Query| joined(&pool, &tables, query).map(|rows| rows.into_iter().collect::<Vec<_>>());
     assert_eq!(join(&over(0, 1)).unwrap(), [[1, 2], [2, 3], [3, 9]]);
     assert_eq!(join(&over(1, 0)).unwrap(), [[1, 2], [2, 9], [3, 9]]);
     assert_eq!(join(&over(0, 0)).unwrap(), [[1, 2], [2, 3]]);

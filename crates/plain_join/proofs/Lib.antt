@@ -1,0 +1,3 @@
+mod Trying
+mod Joining
+pub mod Determined

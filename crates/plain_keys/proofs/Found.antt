@@ -1,0 +1,68 @@
+-- What the place found by halves says of the keys: from it on they are the run from the key sought on, so its word is the first of these, and the key sought is one of
+-- them exactly where it is that word.
+use Prim.Native.Nat.{ℕ, suc, _+_, _-_, _≤_, _<_}
+use native.Mathlib.Omega.{arith}
+use mathlib.Core.Path.{_≡_, sym, subst, ap, _∙_}
+use mathlib.Core.Bool.{true, false}
+use mathlib.Core.List.{List, [], _∷_, _++_, append-assoc}
+use lib.ListN.{length, getD, take, drop}
+use lib.Seq.{slice, slice-empty, slice-cons, length-slice, drop-drop, split-at, take-take, getD-take, length-take-le}
+use Rattle.relation.specs.Order.{Row}
+use Rattle.relation.specs.Lists.{_∈_, not-in-nil, Ascends}
+use Rattle.relation.specs.Rows.{Width}
+use Rattle.relation.specs.Layers.{keysUnder}
+use Rattle.relation.specs.Runs.{from}
+use Rattle.relation.proofs.Runs.{from-in, from-ascends, from-drop, head-least}
+use Rattle.query.proofs.Meet.{none-left}
+use Rattle.query.proofs.Beyond.{in-keys, keys-in, keys-ascend}
+use Rattle.column_trie.specs.Table.{rowsIn}
+use Rattle.column_trie.specs.declared.ColumnTrie.{ColumnTrie}
+use Rattle.plain_keys.specs.Keys.{Least, Under, headOf}
+use Rattle.plain_keys.proofs.Descent.{slice-at}
+
+module _ {pool : List ℕ} {t : ColumnTrie} {p : Row} {f e : ℕ} (u : Under pool t p f e) {key r : ℕ} (l : Least pool f e key r) where
+  cut : from key (keysUnder p (rowsIn pool t)) ≡ slice r e pool
+  cut =
+      let n = length-slice f e pool (u .rising .inside) in
+      let z : f + (r - f) ≡ r = omega (arith, l .low) in
+      ap (from key) (sym (u .run))
+      ∙ from-drop key (slice f e pool) (r - f) (omega (arith, n, l .low, l .high))
+      (λ i h.
+      let w : f + i - f ≡ i = omega arith in
+      let x = slice-at pool f e (f + i) (omega arith) (omega (arith, l .low, l .high)) in
+      let y = l .below (f + i) (omega arith) (omega (arith, l .low)) in
+      rw (← w) (rw x y))
+      (λ h. rw (slice-at pool f e r (l .low) (omega (arith, h, n, l .low))) (l .reached (omega (arith, h, n, l .low))))
+      ∙ drop-drop (r - f) f (take e pool)
+      ∙ ap (λ (x : ℕ). slice x e pool) z
+
+  pub head-none : r ≡ e → record { found = false; key = 0 } ≡ headOf (from key (keysUnder p (rowsIn pool t)))
+  unfolding headOf
+  head-none d = ap headOf (sym (cut ∙ ap (λ (x : ℕ). slice x e pool) d ∙ slice-empty e pool))
+
+  here : r < e → from key (keysUnder p (rowsIn pool t)) ≡ getD pool r 0 ∷ slice (suc r) e pool
+  here h = cut ∙ slice-cons r e pool 0 h (u .rising .inside)
+
+  pub head-some : r < e → record { found = true; key = getD pool r 0 } ≡ headOf (from key (keysUnder p (rowsIn pool t)))
+  unfolding headOf
+  head-some h = ap headOf (sym (here h))
+
+  pub not-there : r ≡ e → key ∈ keysUnder p (rowsIn pool t) → ⊥
+  not-there d m = not-in-nil (subst (λ (x : List ℕ). key ∈ x) (cut ∙ ap (λ (x : ℕ). slice x e pool) d ∙ slice-empty e pool) (from-in key (keysUnder p (rowsIn pool t)) (omega arith) m))
+
+  pub not-it : {a : ℕ} → Width a (rowsIn pool t) → length p < a → r < e → (getD pool r 0 ≡ key → ⊥) → key ∈ keysUnder p (rowsIn pool t) → ⊥
+  not-it w b h n m =
+      let k : key ∈ (getD pool r 0 ∷ slice (suc r) e pool) = subst (λ (x : List ℕ). key ∈ x) (here h) (from-in key (keysUnder p (rowsIn pool t)) (omega arith) m) in
+      let s : Ascends _<_ (getD pool r 0 ∷ slice (suc r) e pool) = subst (Ascends _<_) (here h) (from-ascends key (keys-ascend p w b)) in
+      n (omega (arith, head-least s key k, l .reached h))
+
+-- words that no row begins with have no keys behind them
+pub missing : (words : List ℕ) (d len : ℕ) {a : ℕ} {rows : List Row} → Width a rows → d < len → len ≤ length words → len < a → (getD words d 0 ∈ keysUnder (take d words) rows → ⊥) → keysUnder (take len words) rows ≡ []
+missing words d len {a} {rows} w h l b n =
+    none-left (keysUnder (take len words) rows) (λ x m.
+    let q = take len words in
+    let e : q ≡ take d words ++ getD words d 0 ∷ drop (suc d) q =
+    split-at q d 0 (omega (arith, length-take-le len words l)) ∙ ap (λ (y : List ℕ). y ++ getD q d 0 ∷ drop (suc d) q) (take-take d len words (omega arith)) ∙ ap (λ (y : ℕ). take d words ++ y ∷ drop (suc d) q) (getD-take len words d 0 h) in
+    let t = in-keys q w (omega (arith, length-take-le len words l)) m in
+    n (keys-in (take d words) w (omega (arith, length-take-le d words (omega arith))) (drop (suc d) q ++ x ∷ t .0)
+    (subst (λ (y : Row). y ∈ rows) (ap (λ (y : Row). y ++ x ∷ t .0) e ∙ append-assoc (take d words) (getD words d 0 ∷ drop (suc d) q) (x ∷ t .0)) (t .1))))

@@ -1,0 +1,5 @@
+mod Halves
+mod Descent
+mod Found
+mod Heads
+pub mod Owners

@@ -1,0 +1,57 @@
+-- Internal: contracts of the search for keys: places of the pool whose words ascend, the first key of a run, and what a search may rely on.
+use Prim.Native.Nat.{ℕ, suc, _≤_, _<_}
+use mathlib.Core.Path.{_≡_}
+use mathlib.Core.Bool.{Bool, true, false}
+use mathlib.Core.List.{List, [], _∷_}
+use lib.ListN.{length, getD}
+use lib.Seq.{slice}
+use lib.Dec.{ltb}
+use Rattle.relation.specs.Order.{Row, pick}
+use Rattle.relation.specs.Layers.{keysUnder}
+use Rattle.column_trie.specs.Table.{rowsIn, Undamaged}
+use Rattle.laid_over.specs.Shape.{SameShape}
+use Rattle.join_query.specs.Query.{maxTables, tableAt}
+use Rattle.join_query.specs.declared.Atom.{Atom}
+use Rattle.join_query.specs.declared.Tables.{Tables}
+use Rattle.column_trie.specs.declared.ColumnTrie.{ColumnTrie}
+use Rattle.plain_keys.specs.declared.Next.{Next}
+
+-- the least key that is sought: one from `key` on, or above it
+abbrev pub bound : Bool → ℕ → ℕ
+bound above key = pick above (suc key) key
+
+-- the words from place `from` up to place `to` of the pool ascend
+pub record Rising (pool : List ℕ) (from to : ℕ) : Type 0 where
+  pub forward : from ≤ to
+  pub inside : to ≤ length pool
+  pub rises : (i j : ℕ) → from ≤ i → i < j → j < to → getD pool i 0 < getD pool j 0
+
+-- r is the first of these places whose word is not below the key, or their end
+pub record Least (pool : List ℕ) (from to key r : ℕ) : Type 0 where
+  pub low : from ≤ r
+  pub high : r ≤ to
+  pub below : (i : ℕ) → from ≤ i → i < r → getD pool i 0 < key
+  pub reached : r < to → key ≤ getD pool r 0
+
+-- these places hold the keys that follow p in the table's rows
+pub record Under (pool : List ℕ) (t : ColumnTrie) (p : Row) (from to : ℕ) : Type 0 where
+  pub rising : Rising pool from to
+  pub run : slice from to pool ≡ keysUnder p (rowsIn pool t)
+
+-- the first key of a run, if it has one
+unfoldable pub headOf : List ℕ → Next
+headOf [] = record { found = false; key = 0 }
+headOf (k ∷ ks) = record { found = true; key = k }
+
+-- the lesser of two, or the only one
+unfoldable pub lesser : Next → Next → Next
+lesser a b = pick (a .found) (pick (b .found) (pick (ltb (b .key) (a .key)) b a) a) b
+
+-- an atom whose rows can be searched for the keys behind len words: its table, and where it is laid over its maker's of the same shape, lie undamaged in the pool
+pub record Readable (pool : List ℕ) (ts : Tables) (a : Atom) (len : ℕ) : Type 0 where
+  pub names : a .table < maxTables
+  pub sound : Undamaged pool (tableAt ts (a .table))
+  pub short : len < tableAt ts (a .table) .arity
+  pub makes : a .«laid_over» ≡ true → a .maker < maxTables
+  pub made : a .«laid_over» ≡ true → Undamaged pool (tableAt ts (a .maker))
+  pub shape : a .«laid_over» ≡ true → SameShape (tableAt ts (a .table)) (tableAt ts (a .maker))
