@@ -1,14 +1,13 @@
--- Where a loop finds a variable in an atom's list, and the words that a loop puts together for it.
-use Prim.Native.Nat.{ℕ, zero, suc, _+_, _≤_, _<_}
+-- Where a loop finds a variable in an atom's list, and the words that a row has for the variables before it.
+use Prim.Native.Nat.{ℕ, zero, suc, _≤_, _<_}
 use native.Mathlib.Omega.{arith}
-use native.Mathlib.Numerals.{add-one}
-use mathlib.Core.Path.{_≡_, refl, sym, ap, _∙_}
+use mathlib.Core.Path.{_≡_, refl, ap, _∙_}
 use mathlib.Core.Bool.{Bool, true, false}
-use mathlib.Core.List.{List, [], _∷_, _++_, map-append}
+use mathlib.Core.List.{List, [], _∷_}
 use lib.ListN.{length, getD, set, take}
-use lib.Seq.{take-suc, take-suc-set}
+use lib.Seq.{getD-set-other}
 use lib.Dec.{eqb}
-use borrow.Author.Tests.{eq-eqb, ne-eqb}
+use borrow.Author.Tests.{eqb-true, eqb-false, eq-eqb, ne-eqb}
 use Rattle.relation.specs.Order.{Row, pick}
 use Rattle.query.specs.Meaning.{part}
 use Rattle.plain.specs.Plain.{column}
@@ -39,12 +38,26 @@ column-none (x ∷ l) (suc n) v h f =
     ap (λ (b : Bool). pick b 0 (suc (column v (take n l)))) (ne-eqb x v (f 0 (omega arith)))
     ∙ ap suc (column-none l n v (omega arith) (λ i m. f (suc i) (omega arith)))
 
--- one word more of the part
-pub part-more : (xs : List ℕ) (row words : Row) (j : ℕ) → j < length xs → j < length words → take j words ≡ part (take j xs) row → take (j + 1) (set words j (getD row (getD xs j 0) 0)) ≡ part (take (j + 1) xs) row
-part-more xs row words j h k e =
-    let w = getD row (getD xs j 0) 0 in
-    ap (λ (n : ℕ). take n (set words j w)) (add-one j)
-    ∙ take-suc-set words j w k
-    ∙ ap (λ (p : Row). p ++ w ∷ []) e
-    ∙ sym (map-append (λ (x : ℕ). getD row x 0) (take j xs) (getD xs j 0 ∷ []))
-    ∙ ap (λ (l : List ℕ). part l row) (sym (take-suc xs j 0 h) ∙ ap (λ (n : ℕ). take n xs) (sym (add-one j)))
+pub column-var : (v : ℕ) (xs : List ℕ) → column v xs < length xs → getD xs (column v xs) 0 ≡ v
+unfolding column
+column-var v [] h = absurd (omega arith)
+column-var v (x ∷ xs) h = go (eqb x v) refl (column-var v xs) h
+  where
+    go : (b : Bool) → eqb x v ≡ b → (column v xs < length xs → getD xs (column v xs) 0 ≡ v) → pick b 0 (suc (column v xs)) < suc (length xs) → getD (x ∷ xs) (pick b 0 (suc (column v xs))) 0 ≡ v
+    go true e ih h = eqb-true x v e
+    go false e ih h = ih (omega arith)
+
+-- the words before v's are the same, whatever the row has for v
+pub part-before : (v : ℕ) (xs : List ℕ) (row : Row) (k : ℕ) → take (column v xs) (part xs (set row v k)) ≡ take (column v xs) (part xs row)
+unfolding column
+part-before v [] row k = refl
+part-before v (x ∷ xs) row k = go (eqb x v) refl (part-before v xs row k)
+  where
+    go : (b : Bool) → eqb x v ≡ b → take (column v xs) (part xs (set row v k)) ≡ take (column v xs) (part xs row) → take (pick b 0 (suc (column v xs))) (part (x ∷ xs) (set row v k)) ≡ take (pick b 0 (suc (column v xs))) (part (x ∷ xs) row)
+    go true e ih = refl
+    go false e ih = ap (λ (y : ℕ). y ∷ take (column v xs) (part xs (set row v k))) (getD-set-other row v x k 0 (eqb-false x v e)) ∙ ap (λ (l : List ℕ). getD row x 0 ∷ l) ih
+
+pub take-part : (n : ℕ) (xs : List ℕ) (row : Row) → take n (part xs row) ≡ part (take n xs) row
+take-part zero xs row = refl
+take-part (suc n) [] row = refl
+take-part (suc n) (x ∷ xs) row = ap (λ (l : List ℕ). getD row x 0 ∷ l) (take-part n xs row)

@@ -4,14 +4,14 @@ use Prim.Native.Nat.{ℕ, suc, _≤_, _<_}
 use native.Mathlib.Omega.{arith}
 use native.Mathlib.Decide.{decLt}
 use mathlib.Core.Path.{_≡_, refl, sym, subst, ap, _∙_}
-use mathlib.Core.Bool.{Bool, true, false, false≢true}
+use mathlib.Core.Bool.{Bool, true, false}
 use mathlib.Core.List.{List}
 use lib.ListN.{length, getD, take, length-take, List·getD-eq-default}
-use lib.Seq.{take-take, getD-take, length-take-le}
-use lib.Dec.{eqb, ltb}
-use borrow.Author.Tests.{eqb-true, eq-eqb, ne-eqb, ltb-true, lt-ltb}
+use lib.Seq.{take-take, getD-take}
+use lib.Dec.{eqb}
+use borrow.Author.Tests.{eq-eqb, ne-eqb}
 use Rattle.relation.specs.Order.{Row, pick}
-use Rattle.relation.specs.Lists.{_∈_, Ascends}
+use Rattle.relation.specs.Lists.{Ascends}
 use Rattle.relation.specs.Layers.{keysUnder}
 use Rattle.relation.specs.Runs.{from}
 use Rattle.relation.specs.Tests.{every}
@@ -22,46 +22,35 @@ use Rattle.query.specs.Meaning as meaning
 use Rattle.query.specs.Descend.{nobody}
 use Rattle.query.specs.Meet.{has}
 use Rattle.query.proofs.Beyond.{keys-ascend}
-use Rattle.query.proofs.Meet.{has-in, in-has}
 use Rattle.query.proofs.Solved.{follow-in}
-use Rattle.column_trie.specs.Limits.{maxArity}
 use Rattle.join_query.specs.Query.{maxVariables, orderOf, varsOf, varAt, atomAt, rowsAt, atomOf, atomsOf, Accepted}
-use Rattle.join_query.specs.Checking.{Listed}
 use Rattle.join_query.specs.declared.Atom.{Atom}
 use Rattle.join_query.specs.declared.Query.{Query}
 use Rattle.join_query.specs.declared.Tables.{Tables}
 use Rattle.join_query.proofs.Accepted.{sized, names, lists, sound, sound-maker, shapes, atoms-length, atoms-at, passes}
 use Rattle.plain.specs.Plain.{column, holder, keysAt, tried, holds, allHold}
-use Rattle.plain.proofs.Columns.{holder-in, holder-is}
-use Rattle.plain_keys.specs.Keys.{headOf}
+use Rattle.plain.proofs.Columns.{Holds, holder-in, holder-is}
+use Rattle.plain_keys.specs.Keys.{words, bound, headOf}
 use Rattle.plain_keys.specs.declared.Next.{Next}
-use Rattle.plain_keys.proofs.Owners.{Hit, hit-in, in-hit, readable-wide}
-use Rattle.plain_atoms.specs.Atoms.{binds, First, Searched}
-
-pub vars-long : (a : Atom) → length (a .variables) ≡ maxArity → a .len ≤ maxArity → length (varsOf a) ≡ a .len
-vars-long a e h = length-take-le (a .len) (a .variables) (omega arith)
-
-module _ (v : ℕ) (a : Atom) where
-  pub binds-told : binds v a ≡ true → column v (varsOf a) < length (varsOf a)
-  unfolding binds
-  binds-told e = ltb-true (column v (varsOf a)) (length (varsOf a)) e
-
-  pub told-binds : column v (varsOf a) < length (varsOf a) → binds v a ≡ true
-  unfolding binds
-  told-binds h = lt-ltb (column v (varsOf a)) (length (varsOf a)) h
-
-  pub binds-is : {c : ℕ} → c ≡ column v (varsOf a) → length (varsOf a) ≡ a .len → ltb c (a .len) ≡ binds v a
-  unfolding binds
-  binds-is {c} e d = ap (λ (x : ℕ). ltb x (a .len)) e ∙ ap (ltb (column v (varsOf a))) (sym d)
+use Rattle.plain_keys.proofs.Owners.{found-has, none-has, readable-wide}
+use Rattle.plain_keys.proofs.Found.{words-at}
+use Rattle.plain_atoms.specs.Atoms.{Searched}
+use Rattle.plain_atoms.proofs.Places.{column-var, take-part}
 
 -- ---- one atom
 
 module _ (pool : List ℕ) (ts : Tables) (a : Atom) (v : ℕ) (row : Row) where
-  -- the keys behind the words put together
-  pub keys-are : (c : ℕ) (words : List ℕ) → c ≡ column v (varsOf a) → c ≤ a .len → take (a .len) words ≡ part (varsOf a) row → keysUnder (take c words) (rowsAt pool ts a) ≡ keysAt v row (atomOf pool ts a)
+  -- what a search of the atom's rows finds, in a row that has the words of `row` for the variables before v, and for v the key to start from
+  pub asked : (above : Bool) (key : ℕ) (r : Row) {c : ℕ} {x : Next} → c ≡ column v (varsOf a) → c < length (varsOf a) → getD r v 0 ≡ key → take (column v (varsOf a)) (part (varsOf a) r) ≡ take (column v (varsOf a)) (part (varsOf a) row) → x ≡ headOf (from (bound above (getD (words a r) c 0)) (keysUnder (take c (words a r)) (rowsAt pool ts a))) → x ≡ headOf (from (bound above key) (keysAt v row (atomOf pool ts a)))
   unfolding keysAt
-  keys-are c words e h p =
-      ap (λ (w : Row). keysUnder w (rowsAt pool ts a)) (sym (take-take c (a .len) words h) ∙ ap (take c) p ∙ ap (λ (n : ℕ). take n (part (varsOf a) row)) e)
+  asked above key r {c} e h k t p =
+      let l : c < length (a .variables) = omega (arith, length-take (a .len) (a .variables)) in
+      let n : c < a .len = omega (arith, length-take (a .len) (a .variables)) in
+      let w : getD (words a r) c 0 ≡ key =
+      words-at (a .variables) r c l ∙ ap (λ (x : ℕ). getD r x 0) (sym (getD-take (a .len) (a .variables) c 0 n) ∙ ap (λ (i : ℕ). getD (varsOf a) i 0) e ∙ column-var v (varsOf a) (omega arith)) ∙ k in
+      let q : take c (words a r) ≡ take (column v (varsOf a)) (part (varsOf a) row) =
+      sym (take-take c (a .len) (words a r) (omega arith)) ∙ ap (take c) (take-part (a .len) (a .variables) r) ∙ ap (λ (i : ℕ). take i (part (varsOf a) r)) e ∙ t in
+      p ∙ ap (λ (y : ℕ). headOf (from (bound above y) (keysUnder (take c (words a r)) (rowsAt pool ts a)))) w ∙ ap (λ (y : Row). headOf (from (bound above key) (keysUnder y (rowsAt pool ts a)))) q
 
   pub holds-skip : (suc (column v (varsOf a)) ≡ length (varsOf a) → ⊥) → true ≡ holds v row (atomOf pool ts a)
   unfolding holds
@@ -83,31 +72,16 @@ module _ (pool : List ℕ) (ts : Tables) (a : Atom) (v : ℕ) (row : Row) where
         (omega (arith, r .short, length-take (column v (varsOf a)) (part (varsOf a) row)))
 
     module _ {x : Next} (p : x ≡ headOf (from (getD row v 0) keys)) where
-      hit : getD row v 0 ∈ keys → Hit (getD row v 0) x
-      hit m = subst (Hit (getD row v 0)) (sym p) (in-hit (getD row v 0) keys rise m)
-
       -- a key is found: it is the word, or the word is not among them
       pub holds-found : x .found ≡ true → eqb (x .key) (getD row v 0) ≡ holds v row (atomOf pool ts a)
-      holds-found f = go (eqb (x .key) (getD row v 0)) refl (has keys (getD row v 0)) refl ∙ sym complete
-        where
-          go : (b : Bool) → eqb (x .key) (getD row v 0) ≡ b → (c : Bool) → has keys (getD row v 0) ≡ c → b ≡ has keys (getD row v 0)
-          go true d c g = sym (in-has (hit-in (getD row v 0) keys (subst (Hit (getD row v 0)) p (record { found = f; same = eqb-true (x .key) (getD row v 0) d }))))
-          go false d false g = sym g
-          go false d true g = absurd (false≢true (sym d ∙ eq-eqb (x .key) (getD row v 0) (hit (has-in keys (getD row v 0) g) .same)))
+      holds-found f = found-has (getD row v 0) keys rise p f ∙ sym complete
 
       pub holds-none : x .found ≡ false → x .found ≡ holds v row (atomOf pool ts a)
-      holds-none f = f ∙ go (has keys (getD row v 0)) refl ∙ sym complete
-        where
-          go : (c : Bool) → has keys (getD row v 0) ≡ c → false ≡ has keys (getD row v 0)
-          go false g = sym g
-          go true g = absurd (false≢true (sym f ∙ hit (has-in keys (getD row v 0) g) .found))
+      holds-none f = none-has (getD row v 0) keys rise p f ∙ sym complete
 
 -- ---- a query that passed
 
 module _ {pool : List ℕ} {ts : Tables} {q : Query} {len : ℕ} (z : Accepted pool ts q len) where
-  pub listed : Listed q
-  listed = record { few = names z .few; short = λ i h. lists z i h .short }
-
   module _ (i : ℕ) (h : i < q .«atom_count») where
     low : (j : ℕ) → j < atomAt q i .len → varAt (atomAt q i) j < maxVariables
     low j k = go (decLt j (length (varsOf (atomAt q i))))
@@ -127,6 +101,7 @@ module _ {pool : List ℕ} {ts : Tables} {q : Query} {len : ℕ} (z : Accepted p
       reads = λ c k. record {
         names = omega (arith, names z .each i h, names z .bounded);
         sound = sound z i h;
+        named = λ d l. low d (omega (arith, k, length-take (atomAt q i .len) (atomAt q i .variables)));
         short = omega (arith, k, lists z i h .exact);
         makes = λ e. omega (arith, names z .maker i h e, names z .bounded);
         made = sound-maker z i h;
@@ -135,35 +110,28 @@ module _ {pool : List ℕ} {ts : Tables} {q : Query} {len : ℕ} (z : Accepted p
     }
 
   module _ (v : ℕ) where
-    -- an atom's column, by number
-    bound-at : (i : ℕ) → i < q .«atom_count» → column v (getD (atomsOf pool ts q) i nobody .vars) < length (getD (atomsOf pool ts q) i nobody .vars) → binds v (atomAt q i) ≡ true
-    bound-at i h k = told-binds v (atomAt q i) (subst (λ (a : meaning.Atom). column v (a .vars) < length (a .vars)) (atoms-at z i h) k)
+    -- an atom by its number
+    pub held : (i : ℕ) → i < q .«atom_count» → column v (varsOf (atomAt q i)) < length (varsOf (atomAt q i)) → Holds v (atomsOf pool ts q) i
+    held i h k = subst (λ (a : meaning.Atom). column v (a .vars) < length (a .vars)) (sym (atoms-at z i h)) k
 
-    -- the atom found is the one whose keys are tried
-    module _ {r : ℕ} (f : First v q r) (l : v < q .n) where
-      first-in : r < q .«atom_count»
-      first-in = go (decLt r (q .«atom_count»))
+    pub not-held : (i : ℕ) → i < q .«atom_count» → length (varsOf (atomAt q i)) ≤ column v (varsOf (atomAt q i)) → Holds v (atomsOf pool ts q) i → ⊥
+    not-held i h k m = omega (arith, k, subst (λ (a : meaning.Atom). column v (a .vars) < length (a .vars)) (atoms-at z i h) m)
+
+    -- the first atom that holds v, where none before it does, is the one whose keys are tried
+    module _ (r : ℕ) (none : (j : ℕ) → j < r → Holds v (atomsOf pool ts q) j → ⊥) where
+      pub still : v < q .n → r < q .«atom_count»
+      still l = go (decLt r (q .«atom_count»))
         where
           go : Dec (r < q .«atom_count») → r < q .«atom_count»
           go (yes h) = h
           go (no n) =
               let t = passes z .covered v l in
               let o = holder-in v (atomsOf pool ts q) (t .1) (t .2) in
-              let h : holder v (atomsOf pool ts q) < q .«atom_count» = omega (arith, o .0, atoms-length z) in
-              absurd (false≢true (sym (f .none (holder v (atomsOf pool ts q)) (omega arith)) ∙ bound-at (holder v (atomsOf pool ts q)) h (o .1)))
+              absurd (none (holder v (atomsOf pool ts q)) (omega (arith, o .0, atoms-length z)) (o .1))
 
-      holder-found : holder v (atomsOf pool ts q) ≡ r
-      holder-found =
-          holder-is v (atomsOf pool ts q) r (omega (arith, first-in, atoms-length z))
-          (subst (λ (a : meaning.Atom). column v (a .vars) < length (a .vars)) (sym (atoms-at z r first-in)) (binds-told v (atomAt q r) (f .some first-in)))
-          (λ j h k. false≢true (sym (f .none j h) ∙ bound-at j (omega (arith, first-in)) k))
-
-      pub found-first : (r < q .«atom_count») × (binds v (atomAt q r) ≡ true)
-      found-first = (first-in, f .some first-in)
-
-      pub tried-is : (row : Row) → keysAt v row (atomOf pool ts (atomAt q r)) ≡ tried v row (atomsOf pool ts q)
+      pub tried-is : r < q .«atom_count» → Holds v (atomsOf pool ts q) r → (row : Row) → keysAt v row (atomOf pool ts (atomAt q r)) ≡ tried v row (atomsOf pool ts q)
       unfolding tried
-      tried-is row = ap (keysAt v row) (sym (atoms-at z r first-in)) ∙ ap (λ (i : ℕ). keysAt v row (getD (atomsOf pool ts q) i nobody)) (sym holder-found)
+      tried-is h m row = ap (keysAt v row) (sym (atoms-at z r h)) ∙ ap (λ (i : ℕ). keysAt v row (getD (atomsOf pool ts q) i nobody)) (sym (holder-is v (atomsOf pool ts q) r (omega (arith, h, atoms-length z)) m none))
 
     -- the test of all, atom by atom
     module _ (row : Row) where

@@ -25,6 +25,7 @@ use join_window::Written;
 use join_window::emit;
 use plain_atoms::all_hold;
 use plain_atoms::next_tried;
+use plain_keys::Row;
 
 // Writes the rows that complete `found` by words for the last `left` variables of the order, behind the first `from` rows of the window, until it is full.
 fn search(
@@ -32,7 +33,7 @@ fn search(
     tables: Tables,
     query: Query,
     left: usize,
-    found: [u64; Query::MAX_VARIABLES],
+    found: Row,
     window: &mut [u64],
     from: usize,
 ) -> Written
@@ -79,14 +80,9 @@ pub fn plain_join(pool: &[u64], tables: Tables, query: Query, window: &mut [u64]
     }
     let row = [0u64; Query::MAX_VARIABLES];
     let written = search(pool, tables, query, query.n, row, window, 0);
+    let rows = written.rows;
     if written.full {
-        return PlainJoined {
-            number: 12,
-            rows: written.rows,
-        };
+        return PlainJoined { number: 12, rows };
     }
-    PlainJoined {
-        number: 0,
-        rows: written.rows,
-    }
+    PlainJoined { number, rows }
 }

@@ -27,7 +27,7 @@ use Rattle.column_trie.proofs.Layers.{Whole}
 use Rattle.column_trie.proofs.Stored.{in-pool}
 use Rattle.column_trie.proofs.Tables.{holds}
 use Rattle.column_trie.proofs.Words.{layer-is, part-at}
-use Rattle.plain_keys.specs.Keys.{Rising, Under}
+use Rattle.plain_keys.specs.Keys.{Rising}
 
 -- ---- parts of the pool
 
@@ -59,9 +59,10 @@ rising pool from to f l s = record {
       omega (arith, m, slice-at pool from to i a (omega arith), slice-at pool from to j (omega arith) b);
 }
 
--- no place
-pub none-under : {pool : List ℕ} {t : ColumnTrie} (p : Row) → keysUnder p (rowsIn pool t) ≡ [] → Under pool t p 0 0
-none-under p e = record { rising = record { forward = omega arith; inside = omega arith; rises = λ i j a h b. absurd (omega arith) }; run = sym e }
+-- these places hold the keys that follow p in the table's rows
+pub record Under (pool : List ℕ) (t : ColumnTrie) (p : Row) (from to : ℕ) : Type 0 where
+  pub rising : Rising pool from to
+  pub run : slice from to pool ≡ keysUnder p (rowsIn pool t)
 
 -- ---- a table
 

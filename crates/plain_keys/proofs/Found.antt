@@ -1,9 +1,10 @@
 -- What the place found by halves says of the keys: from it on they are the run from the key sought on, so its word is the first of these, and the key sought is one of
 -- them exactly where it is that word.
-use Prim.Native.Nat.{ℕ, suc, _+_, _-_, _≤_, _<_}
+use Prim.Native.Nat.{ℕ, zero, suc, _+_, _-_, _≤_, _<_}
 use native.Mathlib.Omega.{arith}
-use mathlib.Core.Path.{_≡_, sym, subst, ap, _∙_}
-use mathlib.Core.Bool.{true, false}
+use native.Mathlib.Decide.{decLt}
+use mathlib.Core.Path.{_≡_, refl, sym, subst, ap, _∙_}
+use mathlib.Core.Bool.{Bool, true, false}
 use mathlib.Core.List.{List, [], _∷_, _++_, append-assoc}
 use lib.ListN.{length, getD, take, drop}
 use lib.Seq.{slice, slice-empty, slice-cons, length-slice, drop-drop, split-at, take-take, getD-take, length-take-le}
@@ -13,12 +14,13 @@ use Rattle.relation.specs.Rows.{Width}
 use Rattle.relation.specs.Layers.{keysUnder}
 use Rattle.relation.specs.Runs.{from}
 use Rattle.relation.proofs.Runs.{from-in, from-ascends, from-drop, head-least}
+use Rattle.query.specs.Meaning.{part}
 use Rattle.query.proofs.Meet.{none-left}
 use Rattle.query.proofs.Beyond.{in-keys, keys-in, keys-ascend}
 use Rattle.column_trie.specs.Table.{rowsIn}
 use Rattle.column_trie.specs.declared.ColumnTrie.{ColumnTrie}
-use Rattle.plain_keys.specs.Keys.{Least, Under, headOf}
-use Rattle.plain_keys.proofs.Descent.{slice-at}
+use Rattle.plain_keys.specs.Keys.{bound, Least, headOf}
+use Rattle.plain_keys.proofs.Descent.{Under, slice-at}
 
 module _ {pool : List ℕ} {t : ColumnTrie} {p : Row} {f e : ℕ} (u : Under pool t p f e) {key r : ℕ} (l : Least pool f e key r) where
   cut : from key (keysUnder p (rowsIn pool t)) ≡ slice r e pool
@@ -66,3 +68,45 @@ missing words d len {a} {rows} w h l b n =
     let t = in-keys q w (omega (arith, length-take-le len words l)) m in
     n (keys-in (take d words) w (omega (arith, length-take-le d words (omega arith))) (drop (suc d) q ++ x ∷ t .0)
     (subst (λ (y : Row). y ∈ rows) (ap (λ (y : Row). y ++ x ∷ t .0) e ∙ append-assoc (take d words) (getD words d 0 ∷ drop (suc d) q) (x ∷ t .0)) (t .1))))
+
+-- the words of a row, column by column
+pub words-at : (xs : List ℕ) (row : Row) (d : ℕ) → d < length xs → getD (part xs row) d 0 ≡ getD row (getD xs d 0) 0
+words-at [] row d h = absurd (omega arith)
+words-at (x ∷ xs) row zero h = refl
+words-at (x ∷ xs) row (suc d) h = words-at xs row d (omega arith)
+
+-- column d is searched: the last one for the bound that is sought, one before it for the word itself
+pub record Looked (pool : List ℕ) (t : ColumnTrie) (words : Row) (len : ℕ) (above : Bool) (d f e at : ℕ) : Type 0 where
+  pub under : Under pool t (take d words) f e
+  pub flag : Bool
+  pub least : Least pool f e (bound flag (getD words d 0)) at
+  pub last : d ≡ len → flag ≡ above
+  pub before : (d ≡ len → ⊥) → flag ≡ false
+
+module _ {pool : List ℕ} {t : ColumnTrie} {words : Row} {len : ℕ} {above : Bool} {d f e at : ℕ} (k : Looked pool t words len above d f e at) where
+  at-last : d ≡ len → Under pool t (take len words) f e × Least pool f e (bound above (getD words len 0)) at
+  at-last g = (
+    subst (λ (n : ℕ). Under pool t (take n words) f e) g (k .under),
+    subst (λ (n : ℕ). Least pool f e (bound above (getD words n 0)) at) g (subst (λ (b : Bool). Least pool f e (bound b (getD words d 0)) at) (k .last g) (k .least)),
+  )
+
+  pub looked-some : d ≡ len → at < e → record { found = true; key = getD pool at 0 } ≡ headOf (from (bound above (getD words len 0)) (keysUnder (take len words) (rowsIn pool t)))
+  looked-some g h = let z = at-last g in head-some (z .0) (z .1) h
+
+  -- no key, or not the word, in a column before the last
+  pub looked-none : {a : ℕ} → Width a (rowsIn pool t) → len < a → len ≤ length words → d ≤ len → (at < e → (d ≡ len → ⊥) × (getD pool at 0 ≡ getD words d 0 → ⊥)) → record { found = false; key = 0 } ≡ headOf (from (bound above (getD words len 0)) (keysUnder (take len words) (rowsIn pool t)))
+  unfolding headOf from
+  looked-none {a} w b n h g = go (decLt d len)
+    where
+      top : (at < e → ⊥) → at ≡ e
+      top z = omega (arith, k .least .high, z)
+
+      gone : Least pool f e (getD words d 0) at → d < len → Dec (at < e) → getD words d 0 ∈ keysUnder (take d words) (rowsIn pool t) → ⊥
+      gone l j (yes i) = not-it (k .under) l w (omega (arith, length-take-le d words (omega arith))) i (g i .1)
+      gone l j (no i) = not-there (k .under) l (top i)
+
+      go : Dec (d < len) → record { found = false; key = 0 } ≡ headOf (from (bound above (getD words len 0)) (keysUnder (take len words) (rowsIn pool t)))
+      go (yes j) =
+          let l = subst (λ (x : Bool). Least pool f e (bound x (getD words d 0)) at) (k .before (λ z. omega arith)) (k .least) in
+          ap (λ (ks : List ℕ). headOf (from (bound above (getD words len 0)) ks)) (sym (missing words d len w j n b (gone l j (decLt at e))))
+      go (no j) = let q : d ≡ len = omega arith in let z = at-last q in head-none (z .0) (z .1) (top (λ i. g i .0 q))

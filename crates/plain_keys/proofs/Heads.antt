@@ -13,8 +13,12 @@ use Rattle.relation.specs.Runs.{from}
 use Rattle.relation.proofs.Runs.{from-ascends}
 use Rattle.overlay.specs.Merge.{merge}
 use Rattle.overlay.proofs.Merge.{merge-none, merge-from, merge-less, merge-more, merge-same}
-use Rattle.plain_keys.specs.Keys.{headOf, lesser}
+use Rattle.plain_keys.specs.Keys.{headOf}
 use Rattle.plain_keys.specs.declared.Next.{Next}
+
+-- the lesser of two, or the only one
+unfoldable pub lesser : Next → Next → Next
+lesser a b = pick (a .found) (pick (b .found) (pick (ltb (b .key) (a .key)) b a) a) b
 
 module _ (a b : Next) where
   pub lesser-second : a .found ≡ false → b ≡ lesser a b

@@ -1,5 +1,5 @@
 mod Halves
 mod Descent
-mod Found
+pub mod Found
 mod Heads
 pub mod Owners

@@ -4,13 +4,11 @@ use mathlib.Core.Path.{_≡_}
 use mathlib.Core.Bool.{Bool, true, false}
 use mathlib.Core.List.{List, [], _∷_}
 use lib.ListN.{length, getD}
-use lib.Seq.{slice}
-use lib.Dec.{ltb}
 use Rattle.relation.specs.Order.{Row, pick}
-use Rattle.relation.specs.Layers.{keysUnder}
-use Rattle.column_trie.specs.Table.{rowsIn, Undamaged}
+use Rattle.query.specs.Meaning.{part}
+use Rattle.column_trie.specs.Table.{Undamaged}
 use Rattle.laid_over.specs.Shape.{SameShape}
-use Rattle.join_query.specs.Query.{maxTables, tableAt}
+use Rattle.join_query.specs.Query.{maxTables, maxVariables, tableAt, varAt}
 use Rattle.join_query.specs.declared.Atom.{Atom}
 use Rattle.join_query.specs.declared.Tables.{Tables}
 use Rattle.column_trie.specs.declared.ColumnTrie.{ColumnTrie}
@@ -33,24 +31,24 @@ pub record Least (pool : List ℕ) (from to key r : ℕ) : Type 0 where
   pub below : (i : ℕ) → from ≤ i → i < r → getD pool i 0 < key
   pub reached : r < to → key ≤ getD pool r 0
 
--- these places hold the keys that follow p in the table's rows
-pub record Under (pool : List ℕ) (t : ColumnTrie) (p : Row) (from to : ℕ) : Type 0 where
-  pub rising : Rising pool from to
-  pub run : slice from to pool ≡ keysUnder p (rowsIn pool t)
-
 -- the first key of a run, if it has one
 unfoldable pub headOf : List ℕ → Next
 headOf [] = record { found = false; key = 0 }
 headOf (k ∷ ks) = record { found = true; key = k }
 
--- the lesser of two, or the only one
-unfoldable pub lesser : Next → Next → Next
-lesser a b = pick (a .found) (pick (b .found) (pick (ltb (b .key) (a .key)) b a) a) b
+-- the words that a row has for an atom's variables, column by column
+abbrev pub words : Atom → Row → Row
+words a row = part (a .variables) row
 
--- an atom whose rows can be searched for the keys behind len words: its table, and where it is laid over its maker's of the same shape, lie undamaged in the pool
+-- a row has words for the variables of the columns up to `len`
+abbrev pub Named : Atom → ℕ → Type 0
+Named a len = (d : ℕ) → d ≤ len → varAt a d < maxVariables
+
+-- an atom whose rows can be searched for the keys behind a row's first len words: its variables are numbers of words, and its table, and where it is laid over its maker's of the same shape, lie undamaged in the pool
 pub record Readable (pool : List ℕ) (ts : Tables) (a : Atom) (len : ℕ) : Type 0 where
   pub names : a .table < maxTables
   pub sound : Undamaged pool (tableAt ts (a .table))
+  pub named : Named a len
   pub short : len < tableAt ts (a .table) .arity
   pub makes : a .«laid_over» ≡ true → a .maker < maxTables
   pub made : a .«laid_over» ≡ true → Undamaged pool (tableAt ts (a .maker))

@@ -3,10 +3,11 @@ use Prim.Native.Nat.{ℕ, _-_, _≤_, _<_}
 use native.Mathlib.Omega.{arith}
 use mathlib.Core.Path.{_≡_, sym, _∙_}
 use lib.ListN.{length, getD}
+use lib.Seq.{length-take-le}
 use borrow.Author.Count.{below-more}
 use borrow.Author.Needs.{needs}
 use Rattle.column_trie.specs.Limits.{maxArity}
-use Rattle.plain.specs.Plain.{column}
+use Rattle.join_query.specs.Query.{varsOf}
 use Rattle.plain_atoms.proofs.Places.{column-at, column-none}
 use Rattle.plain_atoms.proofs.column.Statement.{statement}
 use Rattle.plain_atoms.proofs.column.Tie as tie
@@ -23,6 +24,9 @@ short s = s .pre
 long : (s : tie.Start Inv-loop μ-loop) → length (s .args .t1 .variables) ≡ maxArity
 long s = search needs
 
+listed : (s : tie.Start Inv-loop μ-loop) → length (varsOf (s .args .t1)) ≡ s .args .t1 .len
+listed s = length-take-le (s .args .t1 .len) (s .args .t1 .variables) (omega (arith, short s, long s))
+
 loop-holds : tie.Need-loop-holds Inv-loop μ-loop
 loop-holds c = (omega arith, λ k h e. omega arith)
 
@@ -36,7 +40,7 @@ returns : tie.Need-returns Inv-loop μ-loop
 returns c =
     let l = c .before .before .before in
     let s = l .before in
-    sym (column-at (s .args .t1 .variables) (s .args .t1 .len) (l .loop .j) (s .args .v) (omega (arith, short s, long s)) (omega arith) (c .if1 .taken) (l .loop .inv .1))
+    (sym (column-at (s .args .t1 .variables) (s .args .t1 .len) (l .loop .j) (s .args .v) (omega (arith, short s, long s)) (omega arith) (c .if1 .taken) (l .loop .inv .1)), listed s)
 
 add-j : tie.Need-add-j Inv-loop μ-loop
 add-j c = omega (arith, short (c .before .before .before .before))
@@ -52,7 +56,7 @@ returns-2 c =
     let l = c .before in
     let s = l .before in
     let e : l .loop .j ≡ s .args .t1 .len = omega (arith, l .loop .inv .0) in
-    e ∙ sym (column-none (s .args .t1 .variables) (s .args .t1 .len) (s .args .v) (omega (arith, short s, long s)) (λ i h. l .loop .inv .1 i (omega arith)))
+    (e ∙ sym (column-none (s .args .t1 .variables) (s .args .t1 .len) (s .args .v) (omega (arith, short s, long s)) (λ i h. l .loop .inv .1 i (omega arith))), listed s)
 
 pub column-spec : {M : Type 1} → statement M
 column-spec =

@@ -1,42 +1,108 @@
--- `next_key` meets its contract: what each table gives is what the atom's rows give (Owners.antt).
+-- `next_key` meets its contract: what each table gives, and the lesser of both, is what the atom's rows give (Owners.antt).
 use Prim.Native.Nat.{ℕ, _≤_, _<_}
 use native.Mathlib.Omega.{arith}
-use mathlib.Core.Path.{_≡_, sym, subst, ap, _∙_}
-use mathlib.Core.Bool.{true, false≢true}
-use mathlib.Core.Logic.{⊎-elim}
-use mathlib.Core.List.{List}
-use lib.ListN.{length, getD, take}
+use native.Mathlib.Decide.{decLt}
+use mathlib.Core.Path.{_≡_, sym, ap, _∙_}
+use mathlib.Core.Bool.{true, false, false≢true}
+use mathlib.Core.Logic.{inl, inr, ⊎-elim}
+use mathlib.Core.List.{List, []}
+use lib.ListN.{length, getD, take, length-map}
 use borrow.Author.Needs.{needs}
-use borrow.Author.Tests.{eqb-true, eqb-false, not-true, not-false}
+use borrow.Author.Tests.{leb-true, leb-false, le-ltb, not-true, not-false}
+use Rattle.relation.specs.Order.{Row}
 use Rattle.relation.specs.Runs.{from}
 use Rattle.relation.specs.Layers.{keysUnder}
+use Rattle.query.specs.Meet.{has}
 use Rattle.column_trie.specs.Limits.{maxArity}
+use Rattle.column_trie.specs.Table.{rowsIn}
 use Rattle.join_query.specs.Query.{tableAt, rowsAt}
 use Rattle.join_query.proofs.Accepted.{rows-plain}
-use Rattle.plain_keys.specs.Keys.{bound, headOf, Readable}
+use Rattle.plain_keys.specs.Keys.{words, bound, headOf, Readable}
 use Rattle.plain_keys.specs.declared.Next.{Next}
-use Rattle.plain_keys.proofs.Owners.{Hit, first-heads, school-owns, maker-owns}
+use Rattle.plain_keys.proofs.Heads.{lesser, lesser-second, lesser-below, lesser-first}
+use Rattle.plain_keys.proofs.Owners.{first-heads, school-owns, maker-owns, school-found}
 use Rattle.plain_keys.proofs.next_key.Statement.{statement}
 use Rattle.plain_keys.proofs.next_key.Tie as tie
 
 readable : (s : tie.Start) → Readable (s .args .pool .now) (s .args .t2) (s .args .a) (s .args .len)
 readable s = s .pre
 
-long : (s : tie.Start) → length (s .args .t4) ≡ maxArity
-long s = search needs
+-- the row's words for the atom's variables
+abbrev given : tie.Start → Row
+given s = words (s .args .a) (s .args .row)
+
+short : (s : tie.Start) → s .args .len ≤ length (given s)
+short s =
+    let w : length (s .args .a .variables) ≡ maxArity = search needs in
+    omega (arith, readable s .short, readable s .sound .arity, length-map (s .args .a .variables) (λ (x : ℕ). getD (s .args .row) x 0))
+
+-- where the search starts
+abbrev sought : tie.Start → ℕ
+sought s = bound (s .args .above) (getD (given s) (s .args .len) 0)
+
+abbrev school : tie.Start → List Row
+school s = rowsIn (s .args .pool .now) (tableAt (s .args .t2) (s .args .a .table))
+
+abbrev rows : tie.Start → List Row
+rows s = rowsAt (s .args .pool .now) (s .args .t2) (s .args .a)
+
+-- the first key, where the atom's rows have the keys of one table
+by-keys : (s : tie.Start) {ks : List ℕ} {x : Next} → x ≡ headOf (from (sought s) ks) → ks ≡ keysUnder (take (s .args .len) (given s)) (rows s) → x ≡ headOf (from (sought s) (keysUnder (take (s .args .len) (given s)) (rows s)))
+by-keys s p q = p ∙ ap (λ (l : List ℕ). headOf (from (sought s) l)) q
 
 abbrev start : tie.Else1 → tie.Start
-start e = e .before .before .before .before
+start e = e .before .before .before .before .before
 
 laid : (e : tie.Else1) → start e .args .a .«laid_over» ≡ true
 laid e = not-false (start e .args .a .«laid_over») (e .if1 .left)
 
-same : (e : tie.Else1) → tableAt (start e .args .t2) (start e .args .a .table) .arity ≡ tableAt (start e .args .t2) (start e .args .a .maker) .arity
-same e = readable (start e) .shape (laid e) .arity
+-- ---- the school's table alone
 
--- the run of the result, where the atom's rows have the keys of one table
-by-keys : (s : tie.Start) {ks ls : List ℕ} {x : Next} → x ≡ headOf (from (bound (s .args .above) (s .args .key)) ks) → ks ≡ ls → x ≡ headOf (from (bound (s .args .above) (s .args .key)) ls)
-by-keys s p q = p ∙ ap (λ (l : List ℕ). headOf (from (bound (s .args .above) (s .args .key)) l)) q
+owned : (j : tie.Joined2) → let s = start (j .before) in j .if2 .if4 ≡ true → (0 < s .args .len) × (has (keysUnder [] (school s)) (getD (given s) 0 0) ≡ true)
+owned j t =
+    let e = j .before in
+    let s = start e in
+    ⊎-elim (λ x. (x .0 .taken, school-found (readable s) (laid e) (given s) (x .0 .taken) (short s) (sought s) (e .before .before .next-in .ensures) (x .1 .taken)))
+    (⊎-elim (λ x. (x .0 .taken, sym (x .2 .ensures) ∙ sym (x .3) ∙ t))
+    (λ x. absurd (false≢true (sym (le-ltb 0 (s .args .len) (x .0 .left)) ∙ sym (x .1) ∙ t))))
+    (j .if2 .came)
+
+-- ---- both
+
+abbrev Both : Type 0
+Both = tie.Else4
+
+abbrev begun : Both → tie.Start
+begun e = start (e .before .before)
+
+other : (e : Both) → let s = begun e in 0 < s .args .len → (e .before .before .before .before .next-in .result .found ≡ false) × (has (keysUnder [] (school s)) (getD (given s) 0 0) ≡ false)
+other e h =
+    let s = begun e in
+    ⊎-elim (λ x. absurd (false≢true (sym (e .if4 .left) ∙ x .2 ∙ x .1 .taken)))
+    (⊎-elim (λ x. (x .1 .left, sym (x .2 .ensures) ∙ sym (x .3) ∙ e .if4 .left))
+    (λ x. absurd (omega (arith, x .0 .left, h))))
+    (e .before .if2 .came)
+
+abbrev Joint : tie.After-next-in2 → Type 0
+Joint c = let e = c .before .before in let s = begun e in lesser (e .before .before .before .before .next-in .result) (c .next-in2 .result) ≡ headOf (from (sought s) (keysUnder (take (s .args .len) (given s)) (rows s)))
+
+both-at : (c : tie.After-next-in2) → Dec (0 < begun (c .before .before) .args .len) → Joint c
+both-at c (yes h) =
+    let e = c .before .before in
+    let s = begun e in
+    let o = other e h in
+    sym (lesser-second (e .before .before .before .before .next-in .result) (c .next-in2 .result) (o .0)) ∙ by-keys s (c .next-in2 .ensures) (maker-owns (readable s) (laid (e .before .before)) (given s) h (short s) (o .1))
+both-at c (no n) =
+    let e = c .before .before in
+    let s = begun e in
+    let z : s .args .len ≡ 0 = omega arith in
+    first-heads (readable s) (laid (e .before .before)) (sought s)
+    (e .before .before .before .before .next-in .ensures ∙ ap (λ (k : ℕ). headOf (from (sought s) (keysUnder (take k (given s)) (school s)))) z)
+    (c .next-in2 .ensures ∙ ap (λ (k : ℕ). headOf (from (sought s) (keysUnder (take k (given s)) (rowsIn (s .args .pool .now) (tableAt (s .args .t2) (s .args .a .maker)))))) z)
+    ∙ ap (λ (k : ℕ). headOf (from (sought s) (keysUnder (take k (given s)) (rows s)))) (sym z)
+
+both : (c : tie.After-next-in2) → Joint c
+both c = both-at c (decLt 0 (begun (c .before .before) .args .len))
 
 mul-school : tie.Need-mul-school
 mul-school c = search needs
@@ -45,78 +111,67 @@ element-copy-out-school : tie.Need-element-copy-out-school
 element-copy-out-school c = search needs
 
 next-in-requires : tie.Need-next-in-requires
-next-in-requires c κs = search needs
+next-in-requires c κs = let r = readable (c .before .before) in (r .sound, r .short, r .named)
+
+owns-requires : tie.Need-owns-requires
+owns-requires c κs = let r = readable (start (c .before .before)) in (r .sound, λ d h. r .named d (omega arith))
 
 returns : tie.Need-returns
 returns c =
-    let s = c .before .before .before .before .before in
-    by-keys s (c .next-in .ensures)
-    (ap (keysUnder (take (s .args .len) (s .args .t4))) (sym (rows-plain (s .args .pool .now) (s .args .t2) (s .args .a) (not-true (s .args .a .«laid_over») (c .before .if1 .taken)))))
+    let n = c .before .before in
+    let s = n .before .before .before in
+    ⊎-elim
+    (λ x. by-keys s (n .next-in .ensures) (ap (keysUnder (take (s .args .len) (given s))) (sym (rows-plain (s .args .pool .now) (s .args .t2) (s .args .a) (not-true (s .args .a .«laid_over») (x .taken))))))
+    (λ x.
+    let e : tie.Else1 = record { before = c .before; if1 = x .0 } in
+    let o = owned (record { before = e; if2 = x .1 }) (x .2 .taken) in
+    by-keys s (n .next-in .ensures) (school-owns (readable s) (laid e) (given s) (o .0) (short s) (o .1)))
+    (c .if1 .came)
 
 mul-maker : tie.Need-mul-maker
-mul-maker c = omega (arith, readable (start c) .makes (laid c))
+mul-maker c = omega (arith, readable (begun c) .makes (laid (c .before .before)))
 
 element-copy-out-maker : tie.Need-element-copy-out-maker
-element-copy-out-maker c = readable (start c) .makes (laid c)
+element-copy-out-maker c = readable (begun c) .makes (laid (c .before .before))
 
 next-in-requires-2 : tie.Need-next-in-requires-2
-next-in-requires-2 c κs = search needs
-
-next-in-requires-3 : tie.Need-next-in-requires-3
-next-in-requires-3 c κs = let e = c .before .before .before in (readable (start e) .made (laid e), omega (arith, readable (start e) .short, same e))
-
-lesser-requires : tie.Need-lesser-requires
-lesser-requires c κs = search needs
-
--- some words are given, and they are no more than there are columns
-positive : (e : tie.Else2) → 0 < start (e .before .before) .args .len
-positive e = omega (arith, e .if2 .left)
-
-short : (s : tie.Start) → s .args .len ≤ length (s .args .t4)
-short s = omega (arith, readable s .short, readable s .sound .arity, long s)
+next-in-requires-2 c κs =
+    let e = c .before in
+    let r = readable (begun e) in
+    let l = laid (e .before .before) in
+    (r .made l, omega (arith, r .short, r .shape l .arity), r .named)
 
 returns-2 : tie.Need-returns-2
 returns-2 c =
-    let e = c .before .before .before .before .before in
-    let s = start e in
-    c .lesser .ensures
-    ∙ first-heads (readable s) (laid e) (bound (s .args .above) (s .args .key)) (c .before .before .next-in2 .ensures) (c .before .next-in3 .ensures)
-    ∙ ap (λ (n : ℕ). headOf (from (bound (s .args .above) (s .args .key)) (keysUnder (take n (s .args .t4)) (rowsAt (s .args .pool .now) (s .args .t2) (s .args .a))))) (sym (c .before .before .before .if2 .taken))
+    let j = c .before in
+    let t = j .before .before in
+    let m = t .before in
+    let own = m .before .before .before .before .before .before .next-in .result in
+    lesser-first own (m .next-in2 .result) (t .if5 .taken)
+    (⊎-elim (λ x. inl (not-true (m .next-in2 .result .found) (x .0 .taken))) (λ x. inr (leb-true (own .key) (m .next-in2 .result .key) (sym (x .3) ∙ c .if7 .taken))) (j .if6 .came))
+    ∙ both m
 
-array-read-next-in : tie.Need-array-read-next-in
-array-read-next-in c = search needs
-
-next-in-requires-4 : tie.Need-next-in-requires-4
-next-in-requires-4 c κs = search needs
-
-array-read-if4 : tie.Need-array-read-if4
-array-read-if4 c = search needs
-
-next-in-requires-5 : tie.Need-next-in-requires-5
-next-in-requires-5 c κs = search needs
+-- the maker's is below the school's
+below : (j : tie.Joined6) → j .if6 .if7 ≡ false → let m = j .before .before .before in let own = m .before .before .before .before .before .before .next-in .result in (m .next-in2 .result .found ≡ true) × (m .next-in2 .result .key < own .key)
+below j f =
+    let m = j .before .before .before in
+    let own = m .before .before .before .before .before .before .next-in .result in
+    ⊎-elim (λ x. absurd (false≢true (sym f ∙ x .1 ∙ x .0 .taken)))
+    (λ x. (not-false (m .next-in2 .result .found) (x .0 .left), leb-false (own .key) (m .next-in2 .result .key) (sym (x .3) ∙ f)))
+    (j .if6 .came)
 
 returns-3 : tie.Need-returns-3
 returns-3 c =
-    let o = c .before .before .before .before in
-    let e = o .before .before .before in
-    let s = start e in
-    by-keys s (c .next-in5 .ensures)
-    (school-owns (readable s) (laid e) (s .args .t4) (positive (o .before)) (short s)
-    (subst (Hit (getD (s .args .t4) 0 0)) (o .next-in4 .ensures) (record { found = c .before .before .before .if3 .taken; same = eqb-true (o .next-in4 .result .key) (getD (s .args .t4) 0 0) (c .before .if4 .taken) })))
-
-next-in-requires-6 : tie.Need-next-in-requires-6
-next-in-requires-6 c κs = let e = c .before .before .before .before in (readable (start e) .made (laid e), omega (arith, readable (start e) .short, same e))
-
-returns-4 : tie.Need-returns-4
-returns-4 c =
-    let o = c .before .before in
-    let e = o .before .before .before in
-    let s = start e in
-    by-keys s (c .next-in6 .ensures)
-    (maker-owns (readable s) (laid e) (s .args .t4) (positive (o .before)) (short s)
-    (λ h.
-    let g : Hit (getD (s .args .t4) 0 0) (o .next-in4 .result) = subst (Hit (getD (s .args .t4) 0 0)) (sym (o .next-in4 .ensures)) h in
-    ⊎-elim {C = ⊥} (λ w. eqb-false (o .next-in4 .result .key) (getD (s .args .t4) 0 0) (w .2 .left) (g .same)) (λ w. false≢true (sym (w .left) ∙ g .found)) (c .before .if3 .came)))
+    let m = c .before in
+    let own = m .before .before .before .before .before .before .next-in .result in
+    ⊎-elim
+    (λ x.
+    let t : tie.Then5 = record { before = m; if5 = x .0 } in
+    let b = below (record { before = record { before = t; struct-known2 = x .1 }; if6 = x .2 }) (x .3 .left) in
+    lesser-below own (m .next-in2 .result) (x .0 .taken) (b .0) (b .1))
+    (λ x. lesser-second own (m .next-in2 .result) (x .left))
+    (c .if5 .came)
+    ∙ both m
 
 pub next-key-spec : {M : Type 1} → statement M
 next-key-spec =
@@ -125,17 +180,10 @@ next-key-spec =
     mul-school
     element-copy-out-school
     next-in-requires
+    owns-requires
     returns
     mul-maker
     element-copy-out-maker
     next-in-requires-2
-    next-in-requires-3
-    lesser-requires
     returns-2
-    array-read-next-in
-    next-in-requires-4
-    array-read-if4
-    next-in-requires-5
-    returns-3
-    next-in-requires-6
-    returns-4)
+    returns-3)
