@@ -2,7 +2,7 @@
 //
 // Each function here is a public call under another name: it passes its arguments on, and its contract is the call's own. None asks anything of
 // its caller by a `requires`, since nothing checks a C caller. Headers, cursors and answers cross by value, as C lays them out. A strategy crosses
-// as a number (specs/Strategy.antt), since an enum from C could hold a number that is none of its cases.
+// as a number (crates/strategy_word), since an enum from C could hold a number that is none of its cases.
 ghost use mathlib.Core.Path.{_≡_};
 ghost use Rattle.seek.specs.Seek.{seekOf};
 ghost use Rattle.grade.specs.Word.{wordOf, gradeOf};
@@ -18,7 +18,7 @@ ghost use Rattle.overlay_lookup.specs.Lookup.{lookedUp};
 ghost use Rattle.overlay_iter.specs.Calls.{laidKeyOf, laidNextOf, laidSoughtOf, laidEndOf, laidOpenOf, laidUpOf};
 ghost use Rattle.leapfrog_triejoin.specs.Outcome.{Joins};
 ghost use Rattle.plain_join.specs.Outcome.{PlainJoins};
-ghost use Rattle.ducatbriar.specs.Strategy.{strategyOf};
+ghost use Rattle.strategy_word.specs.Strategy.{strategyOf};
 use column_trie::ColumnTrie;
 use column_trie_insert::Inserted;
 use column_trie_iter::EndAnswer;
@@ -42,20 +42,8 @@ use overlay_iter::LaidUpAnswer;
 use overlay_lookup::LookedUp;
 use overlay_place::LaidIter;
 use plain_join::PlainJoined;
-use seek::SeekStrategy;
 use seek::Sought;
-
-fn strategy_of(word: u64) -> SeekStrategy
-    ensures { λ r. ⌜ r ≡ strategyOf word ⌝ }
-{
-    if word == 0 {
-        return SeekStrategy::Linear;
-    }
-    if word == 1 {
-        return SeekStrategy::Binary;
-    }
-    SeekStrategy::Galloping
-}
+use strategy_word::strategy_of;
 
 #[no_mangle]
 pub extern "C" fn ducatbriar_partition_point(

@@ -36,6 +36,7 @@ use Rattle.join_query.specs.Query.{orderOf, atomsOf}
 use Rattle.join_window.specs.Window.{written}
 use Rattle.join_depths.specs.Depth.{countAt, Based, Stands, AgreedAt, AtKey, Answers, Leapt, groupsAt, Starts, Begins, Steps, Opening, Onward, variableAt}
 use Rattle.leapfrog_triejoin.specs.Descent.{Counted, Completes}
+use Rattle.leapfrog_triejoin.specs.declared.descent.Walked.{Walked}
 use Rattle.join_query.specs.declared.Query.{Query}
 use Rattle.join_query.specs.declared.Tables.{Tables}
 use Rattle.join_query.proofs.Accepted.{sized, tables}
@@ -160,14 +161,21 @@ pub record Counting (pool plan ends : List ℕ) (n d : ℕ) (z₀ : State) (ring
 pub counting-start : {pool plan ends : List ℕ} {n d : ℕ} {z₀ : State} {ring byAtom : List ℕ} {landed₀ : Landed} {found w₀ : List ℕ} {from before seeks₀ : ℕ} → Counting pool plan ends n d z₀ ring byAtom landed₀ found w₀ from before seeks₀ w₀ z₀ landed₀ from seeks₀
 counting-start = record { counts = λ ts q f b g st m e. counts-start b g st m e }
 
-pub completes-leaf : {pool plan ends : List ℕ} {n d : ℕ} {at own : List ℕ} {found w₀ : List ℕ} {from before : ℕ} {w : List ℕ} {rows : ℕ} {full : Bool} → d ≡ n → written w rows full ≡ emit n (written w₀ from false) (take n found) → Completes pool plan ends n d at own found w₀ from before w rows full before
-completes-leaf {pool} {n = n} {d} {found = found} {w₀} {from} {before} {w} {rows} {full} e r = record {
-  descended = descended-leaf e r;
+-- no variable is left: the row is written, and nothing is sought
+pub completes-leaf : {pool plan ends : List ℕ} {n d : ℕ} {at own : List ℕ} {found w₀ : List ℕ} {from before : ℕ} {w : List ℕ} {r : Walked} → d ≡ n → (written w (r .rows) (r .full) ≡ emit n (written w₀ from false) (take n found)) × (r .seeks ≡ before) → Completes pool plan ends n d at own found w₀ from before w (r .rows) (r .full) (r .seeks)
+completes-leaf {pool} {n = n} {d} {found = found} {w₀} {from} e r = record {
+  descended = descended-leaf e (r .0);
   counts = λ ts q f s m h.
       let none : drop d (orderOf q) ≡ [] = drop-of-length-le (orderOf q) (let l : length (orderOf q) ≤ d = omega (arith, sized (s .based .accepted) .permutation .size, s .based .size) in l) in
       let t = ap (λ (l : List ℕ). walkOf n l (standings f (atomsOf pool ts q)) found (tally (written w₀ from false) m)) none ∙ walk-leaf n (standings f (atomsOf pool ts q)) found (tally (written w₀ from false) m) in
-      record { window = ap (λ (t : Tally). t .progress) t ∙ sym r; count = h ∙ ap (λ (t : Tally). capped (t .seeks)) (sym t) };
+      record { window = ap (λ (t : Tally). t .progress) t ∙ sym (r .0); count = r .1 ∙ (h ∙ ap (λ (t : Tally). capped (t .seeks)) (sym t)) };
 }
+
+-- where two ways to complete a row meet, its window and its answer are those of the way that was gone
+pub completes-came : {pool plan ends : List ℕ} {n d : ℕ} {at own : List ℕ} {found w₀ : List ℕ} {from before : ℕ} {w w′ : List ℕ} {r r′ : Walked} → w ≡ w′ → r ≡ r′ → Completes pool plan ends n d at own found w₀ from before w′ (r′ .rows) (r′ .full) (r′ .seeks) → Completes pool plan ends n d at own found w₀ from before w (r .rows) (r .full) (r .seeks)
+completes-came {pool} {plan} {ends} {n} {d} {at} {own} {found} {w₀} {from} {before} {w} {r′ = r′} e h c =
+    subst (λ (y : Walked). Completes pool plan ends n d at own found w₀ from before w (y .rows) (y .full) (y .seeks)) (sym h)
+    (subst (λ (y : List ℕ). Completes pool plan ends n d at own found w₀ from before y (r′ .rows) (r′ .full) (r′ .seeks)) (sym e) c)
 
 module _ {pool plan ends : List ℕ} {n d : ℕ} {above owned : List ℕ} {z₀ : State} {ring byAtom : List ℕ} {before : ℕ} {r₀ : Searched} (b : Opening pool plan ends n d above owned z₀ ring byAtom before r₀) (below : d < n) {found w₀ : List ℕ} {from : ℕ} {w : List ℕ} {z : State} {rows seeks : ℕ} {landed : Landed} (j : Counting pool plan ends n d z₀ ring byAtom (r₀ .landed) found w₀ from before (r₀ .seeks) w z landed rows seeks) where
   now : {landed′ : Landed} → landed ≡ landed′ → (ts : Tables) (q : Query) (f : ℕ → Row) → Stands pool ts q plan ends n d above owned f → (m : ℕ) → before ≡ capped m → Counts pool ts q plan ends n d f found (tally (written w₀ from false) m) z ring byAtom landed′ (written w rows false) seeks

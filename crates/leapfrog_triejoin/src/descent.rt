@@ -1,6 +1,11 @@
 // Internal: the descent of a join whose query passed the checks, by the depths of crates/join_depths.
-ghost use lib.ListN.{length};
-ghost use Rattle.join_window.specs.Window.{Fits};
+ghost use mathlib.Core.Path.{_≡_};
+ghost use mathlib.Core.Bool.{false};
+ghost use Prim.Native.Nat.{_≤_};
+ghost use lib.ListN.{length, take};
+ghost use Rattle.query.specs.Window.{emit};
+ghost use Rattle.join_query.specs.Query.{maxVariables};
+ghost use Rattle.join_window.specs.Window.{written, Fits};
 ghost use Rattle.join_depths.specs.Depth.{Standing};
 ghost use Rattle.leapfrog_triejoin.specs.Descent.{Completes};
 use join_depths::depth::onward;
@@ -22,11 +27,33 @@ pub struct Walked {
     pub seeks: u64,
 }
 
+// Writes a row that has all its words; nothing is sought for it.
+fn complete(
+    window: &mut [u64],
+    row: [u64; Query::MAX_VARIABLES],
+    n: usize,
+    rows: usize,
+    seeks: u64,
+) -> Walked
+    requires { ⌜ n ≤ maxVariables ⌝ }
+    requires { ⌜ Fits n (length (now window)) rows ⌝ }
+    ensures { λ r. ⌜ (written (now (window .exit)) (r .rows) (r .full) ≡ emit n (written (now (window .entry)) rows false) (take n row)) × (r .seeks ≡ seeks) ⌝ }
+{
+    let w = emit(window, row, n, rows);
+    Walked {
+        rows: w.rows,
+        full: w.full,
+        seeks,
+    }
+}
+
 // Writes the rows that complete `found`, from depth `depth` on, behind the first `from`, until the window is full. The cursors' places come by value, with
-// the table that each is in, so those of the caller are as they were when it returns.
+// the table that each is in, so those of the caller are as they were when it returns. At the last depth a row is written at once: a call for each would copy
+// three arrays and do nothing else. The two slices come first, which compilers then hand over in registers.
 pub fn descend(
-    strategy: SeekStrategy,
     pool: &[u64],
+    window: &mut [u64],
+    strategy: SeekStrategy,
     plan: &[usize; PLAN_WORDS],
     ends: &[usize; ENDS],
     n: usize,
@@ -34,7 +61,6 @@ pub fn descend(
     above: [usize; MAX_ATOMS],
     owned: [usize; MAX_ATOMS],
     found: [u64; Query::MAX_VARIABLES],
-    window: &mut [u64],
     from: usize,
     before: u64,
 ) -> Walked
@@ -43,12 +69,7 @@ pub fn descend(
     ensures { λ r. ⌜ Completes (now (pool .entry)) (now (plan .entry)) (now (ends .entry)) n depth above owned found (now (window .entry)) from before (now (window .exit)) (r .rows) (r .full) (r .seeks) ⌝ }
 {
     if depth == n {
-        let w = emit(window, found, n, from);
-        return Walked {
-            rows: w.rows,
-            full: w.full,
-            seeks: before,
-        };
+        return complete(window, found, n, from, before);
     }
     let v = plan[DEPTH_WORDS * depth];
     let k = plan[DEPTH_WORDS * depth + COUNT];
@@ -86,22 +107,31 @@ pub fn descend(
             };
         };
         row[v] = key;
-        let below = descend(
-            strategy,
-            pool,
-            plan,
-            ends,
-            n,
-            depth + 1,
-            at,
-            own,
-            row,
-            window,
-            rows,
-            seeks,
-        );
+        let below: Walked = if depth + 1 == n {
+            complete(window, row, n, rows, seeks)
+        } else {
+            descend(
+                pool,
+                window,
+                strategy,
+                plan,
+                ends,
+                n,
+                depth + 1,
+                at,
+                own,
+                row,
+                rows,
+                seeks,
+            )
+        };
         if below.full {
-            return below;
+            // by its fields: a copy of the whole takes the bytes between them along, which processors do slowly
+            return Walked {
+                rows: below.rows,
+                full: below.full,
+                seeks: below.seeks,
+            };
         }
         rows = below.rows;
         let next = onward(

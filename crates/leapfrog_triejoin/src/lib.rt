@@ -51,8 +51,9 @@ pub fn join(
     let at = [0usize; Query::MAX_ATOMS];
     let row = [0u64; Query::MAX_VARIABLES];
     let written = descend(
-        strategy,
         pool,
+        window,
+        strategy,
         &plan,
         &ends,
         query.n,
@@ -60,7 +61,6 @@ pub fn join(
         at,
         at,
         row,
-        window,
         0,
         0,
     );

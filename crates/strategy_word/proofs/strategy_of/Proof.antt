@@ -1,13 +1,13 @@
--- `ducatbriar::strategy_of` meets its contract: its tests stand in the sequence of the definition's.
+-- `strategy_word::strategy_of` meets its contract: its tests stand in the sequence of the definition's.
 use mathlib.Core.Path.{sym, ap, _∙_}
 use mathlib.Core.Bool.{Bool}
 use lib.Dec.{eqb}
 use borrow.Author.Tests.{ne-eqb}
 use Rattle.relation.specs.Order.{pick}
 use Rattle.seek.specs.declared.SeekStrategy.the-variants.{Linear, Binary, Galloping}
-use Rattle.ducatbriar.specs.Strategy.{strategyOf}
-use Rattle.ducatbriar.proofs.strategy_of.Statement.{statement}
-use Rattle.ducatbriar.proofs.strategy_of.Tie as tie
+use Rattle.strategy_word.specs.Strategy.{strategyOf}
+use Rattle.strategy_word.proofs.strategy_of.Statement.{statement}
+use Rattle.strategy_word.proofs.strategy_of.Tie as tie
 
 returns : tie.Need-returns
 returns c = sym (ap strategyOf (c .if1 .taken))
