@@ -153,7 +153,7 @@ impl<'w, 'a> Writer<'w, 'a> {
             return self.refused("variant", (ty, k));
         };
         match n.checked_sub(1) {
-            None => Ok((format!("{text}.tag"), Ty::Int(8))),
+            None => Ok((format!("(uint8_t){text}.tag"), Ty::Int(8))),
             Some(at) if at < fields.len() => Ok((format!("{text}.of.k{k}.f{n}"), fields[at].clone())),
             Some(_) => self.refused("field of a variant", (ty, k, n)),
         }

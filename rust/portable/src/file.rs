@@ -14,6 +14,15 @@ type Made<T> = Result<T, Refused>;
 const STACK: &str = "16 KB";
 
 const HELPERS: &str = "
+/* The steps of a join's descent, which are to be compiled into it, and what a plain join never reaches of them; not where code is to be small. */
+#if defined(__GNUC__) && !defined(__OPTIMIZE_SIZE__)
+#define STEP static inline __attribute__((always_inline))
+#define SELDOM static __attribute__((noinline, cold))
+#else
+#define STEP static inline
+#define SELDOM static inline
+#endif
+
 /* The place so many bytes behind p, which may be null where that is none. */
 static inline void *offset(const void *p, uint64_t bytes)
 {

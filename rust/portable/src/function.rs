@@ -94,7 +94,26 @@ fn copied_params(function: &Function) -> Vec<usize> {
     from
 }
 
-/// The function's head. Those that are not exported are `inline`: gcc at -O2 would else not see the sort's rows of two words as such, and take twice the time.
+/// The crates whose functions are the steps of a join's descent. They take a dozen arguments and answer with four words, so that where one is not compiled into the
+/// descent the call costs more than the step.
+const STEPS: [&str; 3] = ["join_depths::", "leapfrog_join::", "stretches::"];
+
+/// What a plain join never reaches of them.
+const SELDOM: [&str; 3] = ["stretches::go_on", "stretches::refill", "stretches::take_stretch"];
+
+/// How compilers are to take a function that is not exported. All are `inline`: gcc at -O2 would else not see the sort's rows of two words as such, and take twice
+/// the time. STEP and SELDOM are the file's own words for more than that.
+fn taken(symbol: &str) -> &'static str {
+    if SELDOM.contains(&symbol) {
+        "SELDOM"
+    } else if STEPS.iter().any(|name| symbol.starts_with(name)) {
+        "STEP"
+    } else {
+        "static inline"
+    }
+}
+
+/// The function's head.
 pub fn head(callee: &Callee, names: &[String], types: &mut Types) -> Made<String> {
     if let Some(call) = callee.exported {
         let params: Vec<String> = call.params.iter().map(declared).collect();
@@ -115,7 +134,7 @@ pub fn head(callee: &Callee, names: &[String], types: &mut Types) -> Made<String
     }
     let params = if params.is_empty() { "void".to_string() } else { params.join(", ") };
     let result = if gives_array(callee.function) { &Ty::Unit } else { result };
-    Ok(format!("static inline {}({params})", types.declare(result, &callee.name)?))
+    Ok(format!("{} {}({params})", taken(&callee.function.symbol), types.declare(result, &callee.name)?))
 }
 
 fn declared(param: &Param) -> String {

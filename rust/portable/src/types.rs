@@ -189,7 +189,9 @@ impl<'a> Types<'a> {
         Ok(if inner.is_empty() {
             "    uint8_t tag;\n".to_string()
         } else {
-            format!("    uint8_t tag;\n    union {{\n{inner}    }} of;\n")
+            // As wide as the words behind it, so that no bytes lie between: a copy would take them along, and a processor waits where it reads bytes together
+            // that were written one by one. With gcc a join took up to three times as long.
+            format!("    uint64_t tag;\n    union {{\n{inner}    }} of;\n")
         })
     }
 

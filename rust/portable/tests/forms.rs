@@ -78,7 +78,7 @@ fn variants() {
     holds(&[KIND], &full, "v2 = (k_Kind){.tag = 0, .of.k0 = {n, true}};");
     holds(&[KIND], &assign(2, "(aggregate (lcons (int 8 1) lnil))"), "v2 = (k_Kind){.tag = 1};");
     let field = |n| assign(3, &format!("(rvOpd (copy (place 2 (lcons (variant 0) (lcons (field {n}) lnil)))))"));
-    holds(&[KIND, U8], &field(0), "v3 = v2.tag;");
+    holds(&[KIND, U8], &field(0), "v3 = (uint8_t)v2.tag;");
     holds(&[KIND, U64], &field(1), "v3 = v2.of.k0.f1;");
     holds(&[KIND, BOOL], &field(2), "v3 = v2.of.k0.f2;");
 }
