@@ -60,6 +60,12 @@ static void take_out(void)
     ducatbriar_remove(pool, 4096, ts.tables[0], tuple, 2);
 }
 
+static void permute(void)
+{
+    const ducatbriar_columns exchanged = {{1, 0}};
+    ducatbriar_permute(pool, 4096, ts.tables[0], exchanged, window, 4096, 0, 16);
+}
+
 static void list(void)
 {
     ducatbriar_list(pool, 4096, ts.tables[0], text, sizeof text);
@@ -119,6 +125,7 @@ int main(void)
     measure("build", build);
     measure("insert", insert);
     measure("remove", take_out);
+    measure("permute", permute);
     measure("list", list);
     measure("write", write_file);
     measure("read", read_file);

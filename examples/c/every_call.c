@@ -1,6 +1,6 @@
 /* Uses every call once or more, over keys that need more than 32 bits: a lesson's stretches of road and their grades, walked by a cursor, joined with the
- * friction of their surfaces into a window that is too small, and then into one that isn't, by both engines; the grades go to another unit as a file; a school's own friction is
- * laid over the maker's, and at the end a stretch is taken out.
+ * friction of their surfaces into a window that is too small, and then into one that isn't, by both engines; another department asks the same by stretch, over a
+ * road that is rebuilt; the grades go to another unit as a file; a school's own friction is laid over the maker's, and at the end a stretch is taken out.
  *
  * Road: (surface, stretch). Grades: (grade, stretch), a grade as its word. Friction: (surface, thousandths). Each check that fails ends the program. */
 #include <inttypes.h>
@@ -180,6 +180,32 @@ static void join(ducatbriar_tables tables)
     join_plainly(tables, query, answer, window, COUNT(window));
 }
 
+/* Variables: 0 surface, 1 stretch, 2 friction. What one department plans as 0 1 2 another plans by stretch, as 1 0 2. The road goes against that order, and is
+ * rebuilt as (stretch, surface) into a second pool; so is the friction, with its columns as they were, since the tables of a join lie in one pool. */
+static void join_by_stretch(ducatbriar_table road, ducatbriar_table friction)
+{
+    const ducatbriar_columns turned = {{1, 0}}, twice = {{1, 1}}, as_it_was = {{0, 1}};
+    uint64_t other[2 * WORDS], window[3 * STRETCHES];
+    ducatbriar_built by_stretch = ducatbriar_permute(pool, COUNT(pool), road, twice, other, COUNT(other), 0, CAPACITY);
+    printf("column 1 twice: %s\n", ducatbriar_meaning(by_stretch.number));
+    by_stretch = ducatbriar_permute(pool, COUNT(pool), road, turned, other, COUNT(other), 0, CAPACITY);
+    done("the road by stretch", by_stretch.number);
+    ducatbriar_built copied = ducatbriar_permute(pool, COUNT(pool), friction, as_it_was, other, COUNT(other), WORDS, CAPACITY);
+    done("the friction", copied.number);
+    const ducatbriar_tables tables = {.count = 2, .tables = {by_stretch.table, copied.table}};
+    const ducatbriar_query query = {
+        .n = 3,
+        .order = {1, 0, 2},
+        .atom_count = 2,
+        .atoms = {{.table = 0, .len = 2, .variables = {1, 0}}, {.table = 1, .len = 2, .variables = {0, 2}}},
+    };
+    ducatbriar_joined answer = ducatbriar_join(DUCATBRIAR_GALLOPING, other, COUNT(other), tables, query, window, COUNT(window));
+    done("the join by stretch", answer.number);
+    for (uint64_t i = 0; i < answer.rows; i++) {
+        printf("stretch %" PRIu64 ", surface %" PRIu64 ": 0.%03" PRIu64 "\n", window[3 * i + 1], window[3 * i], window[3 * i + 2]);
+    }
+}
+
 /* Takes the road's last stretch out, and once more, when it is there no longer. Its surface has no other stretch, so that key goes too. */
 static ducatbriar_table close_stretch(ducatbriar_table table)
 {
@@ -281,6 +307,7 @@ int main(void)
     carry(tables.tables[1]);
     walk(tables.tables[0]);
     join(tables);
+    join_by_stretch(tables.tables[0], tables.tables[2]);
     join_kinds(tables);
     look_up(tables.tables[3], tables.tables[2]);
     walk_both(tables.tables[3], tables.tables[2]);

@@ -8,6 +8,7 @@ use contract.Lifetimes.{Lfts}
 use denote.Ref.{now}
 use Rattle.build_laws.proofs.Determined as builds
 use Rattle.file_laws.proofs.Determined as files
+use Rattle.column_trie_permute.proofs.Outcomes as rebuilds
 use Rattle.insert_laws.proofs.Laws as inserts
 use Rattle.removal_laws.proofs.Laws as removals
 use Rattle.column_trie_listing.proofs.Lists as lists
@@ -20,6 +21,7 @@ use Rattle.ducatbriar.proofs.ducatbriar_grade_of.Reads as grade-of-read
 use Rattle.ducatbriar.proofs.ducatbriar_empty.Reads as empty-reads
 use Rattle.ducatbriar.proofs.ducatbriar_undamaged.Reads as undamaged-reads
 use Rattle.ducatbriar.proofs.ducatbriar_build.Reads as build-reads
+use Rattle.ducatbriar.proofs.ducatbriar_permute.Reads as permute-reads
 use Rattle.ducatbriar.proofs.ducatbriar_read.Reads as read-reads
 use Rattle.ducatbriar.proofs.ducatbriar_write.Reads as write-reads
 use Rattle.ducatbriar.proofs.ducatbriar_insert.Reads as insert-reads
@@ -110,6 +112,10 @@ pub build : (κs : Lfts 2) → OneOutcome {W = List ℕ × List ℕ} (build-read
 build κs args r₁ r₂ e₁ e₂ p q =
     let d = builds.determined (now (args .0)) (now (args .1 .0)) (args .1 .1 .0) (args .1 .1 .1 .0) (args .1 .1 .1 .1 .0) (args .1 .1 .1 .1 .1 .0 .grade) (record { answer = r₁; rows = now (e₁ .0); pool = now (e₁ .1 .0) }) (record { answer = r₂; rows = now (e₂ .0); pool = now (e₂ .1 .0) }) p q in
     (ap (λ (o : builds.Outcome). o .answer) d, ap (λ (o : builds.Outcome). (o .rows, o .pool)) d)
+
+-- the second pool
+pub permute : (κs : Lfts 2) → OneOutcome (permute-reads.Post κs) (λ e. now (e .1 .1 .1 .0))
+permute κs args r₁ r₂ e₁ e₂ p q = rebuilds.determined p q
 
 -- the pool
 pub read : (κs : Lfts 2) → OneOutcome {W = List ℕ} (read-reads.Post κs) (λ e. now (e .1 .0))

@@ -12,6 +12,7 @@ ghost use Rattle.column_trie_insert.specs.Insert.{Inserts};
 ghost use Rattle.column_trie_remove.specs.Remove.{Removes};
 ghost use Rattle.file_read.specs.Read.{Reads};
 ghost use Rattle.file_write.specs.Write.{Writes};
+ghost use Rattle.column_trie_permute.specs.Permute.{Permutes};
 ghost use Rattle.column_trie_listing.specs.List.{Lists};
 ghost use Rattle.column_trie_iter.specs.Cursor.{keyOf, nextOf, soughtOf, endOf, openOf, upOf};
 ghost use Rattle.overlay_lookup.specs.Lookup.{lookedUp};
@@ -103,6 +104,27 @@ pub extern "C" fn ducatbriar_build(
 {
     let grade = kinds.grade;
     column_trie_build::build(rows, pool, start, arity, capacity, grade)
+}
+
+// The numbers of a table's columns in their new sequence.
+#[repr(C)]
+pub struct Columns {
+    pub columns: [usize; ColumnTrie::MAX_ARITY],
+}
+
+#[no_mangle]
+pub extern "C" fn ducatbriar_permute(
+    pool: &[u64],
+    table: ColumnTrie,
+    columns: Columns,
+    into: &mut [u64],
+    start: usize,
+    capacity: usize,
+) -> Built
+    ensures { λ r. ⌜ Permutes (now (pool .entry)) table (columns .columns) (now (into .entry)) start capacity (now (into .exit)) r ⌝ }
+{
+    let numbers = columns.columns;
+    column_trie_permute::permute(pool, table, numbers, into, start, capacity)
 }
 
 #[no_mangle]

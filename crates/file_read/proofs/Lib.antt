@@ -1,4 +1,4 @@
 pub mod Numbers
 pub mod Outcomes
 mod Grades
-mod Strict
+pub mod Strict

@@ -91,7 +91,7 @@ module _ {ints keys : List ℕ} (s : Sound ints keys) where
           to false e = let k = leb-false (length ints) (suc v) e in omega (arith, getD-any ints (suc v) n 0 k, r .next k)
 
   -- starts ascend
-  rises : (i k : ℕ) → i ≤ k → k < length ints → getD ints i 0 ≤ getD ints k 0
+  pub rises : (i k : ℕ) → i ≤ k → k < length ints → getD ints i 0 ≤ getD ints k 0
   rises i zero h l = omega (arith, ap (λ (m : ℕ). getD ints m 0) (let e : i ≡ 0 = omega arith in e))
   rises i (suc k) h l = go (λ g. rises i k g (omega arith)) (leb i k) refl
     where

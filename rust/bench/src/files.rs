@@ -6,11 +6,13 @@ use ducatbriar::calls::{self, ColumnTrie, Kinds};
 use ducatbriar::limits::{file, words, MAX_CAPACITY};
 use std::collections::BTreeSet;
 
-const ROWS: usize = 50_000;
-const ARITY: usize = 3;
+pub const ROWS: usize = 50_000;
+pub const ARITY: usize = 3;
+/// What words are below, as it is written and as it is.
+pub const KEYS: [(&str, u64); 4] = [("40", 40), ("500", 500), ("50,000", 50_000), ("2^64 - 1", u64::MAX)];
 
 /// A table of so many rows, whose words are below `keys`, with a grade in its first column.
-fn table(keys: u64) -> (Vec<u64>, ColumnTrie) {
+pub fn table(keys: u64) -> (Vec<u64>, ColumnTrie) {
     let (mut drawn, mut rows) = (Words(0x9e37_79b9_7f4a_7c15), BTreeSet::new());
     while rows.len() < ROWS {
         rows.insert([(); ARITY].map(|()| drawn.word() % keys));
@@ -49,7 +51,7 @@ fn timed(times: usize, pool: &[u64], table: ColumnTrie) -> (usize, [f64; 4]) {
 
 pub fn files(times: usize) {
     head(1, &["words below", "bytes", "write", "plain", "ours / plain", "read", "plain", "ours / plain"]);
-    for (name, keys) in [("40", 40), ("500", 500), ("50,000", 50_000), ("2^64 - 1", u64::MAX)] {
+    for (name, keys) in KEYS {
         let (pool, table) = table(keys);
         let (len, [write, plain_write, read, plain_read]) = timed(times, &pool, table);
         let speed = |time: f64| format!("{:.0} MB/s", len as f64 / time * 1e3);

@@ -18,6 +18,8 @@ mod inserts;
 #[cfg(kermit)]
 mod merge;
 #[cfg(kermit)]
+mod orders;
+#[cfg(kermit)]
 mod overlay;
 #[cfg(kermit)]
 mod plain_files;
@@ -40,6 +42,7 @@ const GROUPS: &[(&str, fn(usize))] = &[
     ("place", seeks::place),
     ("check", check::check),
     ("files", files::files),
+    ("permute", orders::permute),
     ("seeks", seeks::seeks),
     ("triangle", cycles::triangles),
     ("square", cycles::squares),

@@ -279,8 +279,8 @@ pub fn random(rng: &mut Rng) -> Joins {
 /// A join some of whose variables are grades; so are all the columns that they bind, and all variables that bind one of these.
 #[derive(Clone)]
 pub struct Graded {
-    base: Joins,
-    grades: Vec<usize>,
+    pub base: Joins,
+    pub grades: Vec<usize>,
 }
 
 impl fmt::Display for Graded {
@@ -290,7 +290,7 @@ impl fmt::Display for Graded {
 }
 
 impl Graded {
-    fn kinds(&self) -> Vec<Kinds> {
+    pub fn kinds(&self) -> Vec<Kinds> {
         let mut is_grade: Vec<bool> = (0..self.base.order.len()).map(|v| self.grades.contains(&v)).collect();
         let mut kinds = vec![Kinds::default(); self.base.tables.len()];
         loop {

@@ -1,7 +1,7 @@
 //! Runs Ducatbriar against kermit. `main.rs` says how to run them, each file what it compares.
 //!
 //! What kermit does not have (refusals, damaged words, probes under document 01's halving rule) is held to `model.rs`, which is written from that document,
-//! and table files and laid-over tables to `model_files.rs` and `model_overlay.rs`, which are written from document 02.
+//! and table files, laid-over tables and tables in another order to `model_files.rs`, `model_overlay.rs` and `model_orders.rs`, which are written from document 02.
 //! Intended differences stand in docs/DIFFERENCES.md. Any other difference fails.
 #[cfg(kermit)]
 pub mod case;
@@ -22,7 +22,11 @@ pub mod model;
 #[cfg(kermit)]
 pub mod model_files;
 #[cfg(kermit)]
+pub mod model_orders;
+#[cfg(kermit)]
 pub mod model_overlay;
+#[cfg(kermit)]
+pub mod orders;
 #[cfg(kermit)]
 pub mod overlay;
 #[cfg(kermit)]

@@ -1,9 +1,10 @@
 //! The runs by name: what is exhaustive, then so many random cases.
 use crate::case::{check, Case, Tally};
 use crate::rng::Rng;
-use crate::{changes, cursors, damage, files, joins, overlay, overlay_joins, seeks, tables};
+use crate::{changes, cursors, damage, files, joins, orders, overlay, overlay_joins, seeks, tables};
 
-pub const NAMES: [&str; 9] = ["seeks", "tables", "changes", "files", "cursors", "joins", "overlay", "overlay_joins", "damage"];
+pub const NAMES: [&str; 10] =
+    ["seeks", "tables", "changes", "files", "cursors", "joins", "overlay", "overlay_joins", "orders", "damage"];
 
 fn all<C: Case>(tally: &mut Tally, cases: impl IntoIterator<Item = C>) -> Result<(), String> {
     cases.into_iter().try_for_each(|case| check(case, tally))
@@ -76,6 +77,14 @@ pub fn run(name: &str, seed: u64, rounds: usize) -> Result<Tally, String> {
             all(t, large.then(|| overlay_joins::large(rng)).into_iter().flatten())?;
             some(t, rng, rounds, overlay_joins::random)?;
             some(t, rng, 4 * rounds, overlay_joins::changed)?;
+        }
+        "orders" => {
+            all(t, orders::exhaustive())?;
+            all(t, orders::every_number())?;
+            all(t, orders::every_order())?;
+            all(t, large.then(|| orders::large(rng)).into_iter().flatten())?;
+            some(t, rng, 10 * rounds, orders::random)?;
+            some(t, rng, rounds, orders::departments)?;
         }
         "damage" => {
             all(t, damage::exhaustive())?;

@@ -47,6 +47,11 @@ mod short {
     }
 
     #[test]
+    fn orders() {
+        run("orders");
+    }
+
+    #[test]
     fn damage() {
         run("damage");
     }

@@ -49,6 +49,10 @@ c_struct!(
     /// The kinds of a table's columns: yes for a grade. By default all are plain.
     Kinds { grade: [bool; MAX_ARITY] }
 );
+c_struct!(
+    /// A table's columns in another sequence: number i names the old column that becomes column i; those past the arity are not looked at.
+    Columns { columns: [u64; MAX_ARITY] }
+);
 c_struct!(Built { number: u64, table: ColumnTrie });
 c_struct!(Inserted { number: u64, is_new: bool, table: ColumnTrie });
 c_struct!(Removed { number: u64, was_there: bool, table: ColumnTrie });
@@ -115,6 +119,16 @@ mod c {
             arity: u64,
             capacity: u64,
             kinds: Kinds,
+        ) -> Built;
+        pub fn ducatbriar_permute(
+            pool: *const u64,
+            pool_len: u64,
+            table: ColumnTrie,
+            columns: Columns,
+            into: *mut u64,
+            into_len: u64,
+            start: u64,
+            capacity: u64,
         ) -> Built;
         pub fn ducatbriar_insert(pool: *mut u64, len: u64, table: ColumnTrie, tuple: *const u64, tuple_len: u64) -> Inserted;
         pub fn ducatbriar_remove(pool: *mut u64, len: u64, table: ColumnTrie, tuple: *const u64, tuple_len: u64) -> Removed;
@@ -271,6 +285,23 @@ pub fn undamaged(pool: &[u64], table: ColumnTrie) -> bool {
 pub fn build(rows: &mut [u64], pool: &mut [u64], start: u64, arity: u64, capacity: u64, kinds: Kinds) -> Built {
     let (rows_len, pool_len) = (rows.len() as u64, pool.len() as u64);
     unsafe { c::ducatbriar_build(rows.as_mut_ptr(), rows_len, pool.as_mut_ptr(), pool_len, start, arity, capacity, kinds) }
+}
+
+/// Leaves at `start` of a second pool the table with its columns permuted: what a build of the rows so permuted leaves, kinds going along. Refusals 6, 8, 2, 3, 5.
+///
+/// ```
+/// use ducatbriar::calls::{build, permute, Columns, Kinds};
+/// let (mut pool, mut into) = ([0; 8], [0; 8]);
+/// let table = build(&mut [1, 5, 2, 4], &mut pool, 0, 2, 2, Kinds::default()).table;
+/// let columns = Columns { columns: [1, 0, 0, 0, 0, 0, 0, 0] };
+/// let permuted = permute(&pool, table, columns, &mut into, 0, 2);
+/// assert_eq!((permuted.number, permuted.table.tuple_count), (0, 2));
+/// // The rows are (4, 2) and (5, 1). The second layer has a group for each of 4 and 5.
+/// assert_eq!(into, [4, 5, 0, 0, 2, 1, 0, 1]);
+/// ```
+pub fn permute(pool: &[u64], table: ColumnTrie, columns: Columns, into: &mut [u64], start: u64, capacity: u64) -> Built {
+    let (pool_len, into_len) = (pool.len() as u64, into.len() as u64);
+    unsafe { c::ducatbriar_permute(pool.as_ptr(), pool_len, table, columns, into.as_mut_ptr(), into_len, start, capacity) }
 }
 
 /// Inserts the tuple; the kinds stay. Refusals 6, 4, 5.

@@ -2,6 +2,7 @@
 //!
 //! The work is done by Ducatbriar's proved calls, which this crate links as a static library. [`Pool`] and [`Table`] are what most callers want: a pool
 //! owns the words of its tables and lends them to cursors and joins, and a table goes to another machine as a file ([`Table::to_bytes`], [`Pool::read`]).
+//! A table is rebuilt with its columns in another sequence for a query in another order ([`Pool::permute`], [`Pool::follow_order`]).
 //! A school's table can be laid over a maker's: [`Query::laid_over`], and [`Laid`] for lookups and cursors. [`calls`] has the calls themselves, one function
 //! each, for callers who keep their own words.
 //!

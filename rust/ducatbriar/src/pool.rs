@@ -1,17 +1,17 @@
 //! A pool that owns its tables' words, with cursors and joins over them.
-use crate::calls::{self, ColumnTrie, ColumnTrieIter, SeekAnswer, SeekStrategy, Tables};
+use crate::calls::{self, ColumnTrie, ColumnTrieIter, Columns, SeekAnswer, SeekStrategy, Tables};
 use crate::kind::{kinds_of, leading, words_of, Cell, Kind};
 use crate::limits::{file, listing, words, MAX_ARITY, MAX_CAPACITY, MAX_VARIABLES};
 use crate::{Query, Refusal};
 use std::ops::Range;
 
-/// The words of tables. It grows with every table that is built or read.
+/// The words of tables. It grows with every table that is built, rebuilt or read.
 #[derive(Clone, Debug, Default)]
 pub struct Pool {
     words: Vec<u64>,
 }
 
-/// A table: the header of words in the pool that built or read it. With another pool it is refused with 6, or reads as whatever that pool's words say.
+/// A table: the header of words in the pool that built, rebuilt or read it. With another pool it is refused with 6, or reads as whatever that pool's words say.
 #[derive(Debug, PartialEq, Eq)]
 pub struct Table {
     header: ColumnTrie,
@@ -226,20 +226,30 @@ impl Pool {
     }
 
     fn built<R: AsRef<[u64]>>(&mut self, arity: usize, capacity: usize, rows: &[R], kinds: &[Kind]) -> Result<Table, Refusal> {
-        let start = self.words.len();
-        // The library refuses any other arity or capacity before it looks at the pool.
-        if (1..=MAX_ARITY).contains(&arity) && (1..=MAX_CAPACITY).contains(&capacity) {
-            self.words.resize(start + words(arity, capacity), 0);
-        }
+        let start = self.room(arity, capacity);
         let mut given = rows.iter().flat_map(|row| row.as_ref()).copied().collect::<Vec<_>>();
         let built = calls::build(&mut given, &mut self.words, start as u64, arity as u64, capacity as u64, kinds_of(kinds));
         // Rows of other lengths could make up whole rows between them.
         let whole = rows.iter().all(|row| row.as_ref().len() == arity);
         let number = if whole || (1..=3).contains(&built.number) { built.number } else { 4 };
+        self.taken(start, number, built.table)
+    }
+
+    /// Makes room for a table behind the others, and says where it starts. The library refuses any other arity or capacity before it looks at the pool.
+    fn room(&mut self, arity: usize, capacity: usize) -> usize {
+        let start = self.words.len();
+        if (1..=MAX_ARITY).contains(&arity) && (1..=MAX_CAPACITY).contains(&capacity) {
+            self.words.resize(start + words(arity, capacity), 0);
+        }
+        start
+    }
+
+    /// The table for which room was made from `start` on; where it is refused the room goes again.
+    fn taken(&mut self, start: usize, number: u64, header: ColumnTrie) -> Result<Table, Refusal> {
         if number != 0 {
             self.words.truncate(start);
         }
-        Refusal::check(number).map(|()| Table { header: built.table })
+        Refusal::check(number).map(|()| Table { header })
     }
 
     /// Reads a file into a table with room for `capacity` rows. A refused read leaves the pool as it was.
@@ -262,17 +272,71 @@ impl Pool {
     /// # }
     /// ```
     pub fn read(&mut self, bytes: &[u8], capacity: usize) -> Result<Table, Refusal> {
-        let start = self.words.len();
-        // The arity is the fourth byte of every file. The library refuses any other arity or capacity before it looks at the pool.
+        // The arity is the fourth byte of every file.
         let arity = bytes.get(3).map_or(0, |&arity| usize::from(arity));
-        if (1..=MAX_ARITY).contains(&arity) && (1..=MAX_CAPACITY).contains(&capacity) {
-            self.words.resize(start + words(arity, capacity), 0);
-        }
+        let start = self.room(arity, capacity);
         let read = calls::read(bytes, &mut self.words, start as u64, capacity as u64);
-        if read.number != 0 {
-            self.words.truncate(start);
+        self.taken(start, read.number, read.table)
+    }
+
+    /// Rebuilds a table with its columns permuted, for a query in another order, with room for `capacity` rows: number i names the old column that becomes
+    /// column i. The table itself stays. A refused rebuild leaves the pool as it was; as many numbers as there are columns, or it is refused with 8.
+    ///
+    /// ```
+    /// # fn main() -> Result<(), ducatbriar::Refusal> {
+    /// use ducatbriar::{Pool, Refusal};
+    /// let mut pool = Pool::new();
+    /// let road = pool.build(3, 4, &[[7, 10, 3], [7, 11, 2], [9, 12, 1]])?;
+    /// let by_stretch = pool.permute(&road, &[1, 2, 0], 4)?;
+    /// assert_eq!(pool.rows(&by_stretch)?.iter().collect::<Vec<_>>(), [[10, 3, 7], [11, 2, 7], [12, 1, 9]]);
+    /// let back = pool.permute(&by_stretch, &[2, 0, 1], 4)?;
+    /// assert_eq!(pool.rows(&back)?, pool.rows(&road)?);
+    /// assert_eq!(pool.permute(&road, &[1, 1, 0], 4), Err(Refusal::BadOrder));
+    /// # Ok(())
+    /// # }
+    /// ```
+    pub fn permute(&mut self, table: &Table, columns: &[usize], capacity: usize) -> Result<Table, Refusal> {
+        let mut numbers = Columns { columns: [u64::MAX; MAX_ARITY] };
+        if columns.len() == table.arity() {
+            numbers.columns.iter_mut().zip(columns).for_each(|(place, &column)| *place = column as u64);
         }
-        Refusal::check(read.number).map(|()| Table { header: read.table })
+        let start = self.room(table.arity(), capacity);
+        // What the pool grew by is the second pool, in which the table starts at 0.
+        let (pool, into) = self.words.split_at_mut(start);
+        let permuted = calls::permute(pool, table.header, numbers, into, 0, capacity as u64);
+        self.taken(start, permuted.number, ColumnTrie { start: start as u64, ..permuted.table })
+    }
+
+    /// Rebuilds the tables of atoms that go against the query's order, and answers these, in a list to put behind that of the tables, with the query over both
+    /// lists. An atom that no rebuild makes follow the order, as one that is laid over, stays as it is, and the join says what is wrong with it.
+    ///
+    /// ```
+    /// # fn main() -> Result<(), ducatbriar::Refusal> {
+    /// use ducatbriar::{Pool, Query, Refusal, SeekStrategy, Table};
+    /// let mut pool = Pool::new();
+    /// let road = pool.build(2, 4, &[[7, 10], [7, 11], [9, 12]])?;
+    /// let friction = pool.build(2, 4, &[[7, 470], [9, 160]])?;
+    /// // Road(surface 0, stretch 1), Friction(surface 0, thousandths 2), by stretch: neither table has the stretch first.
+    /// let query = Query::new(&[1, 2, 0]).atom(0, &[0, 1]).atom(1, &[0, 2]);
+    /// let tables = [&road, &friction];
+    /// assert_eq!(pool.join(SeekStrategy::Galloping, &tables, &query), Err(Refusal::BadList));
+    /// let (query, rebuilt) = pool.follow_order(&tables, &query)?;
+    /// let tables: Vec<&Table> = tables.into_iter().chain(&rebuilt).collect();
+    /// let rows = pool.join(SeekStrategy::Galloping, &tables, &query)?;
+    /// assert_eq!(rows.iter().collect::<Vec<_>>(), [[7, 10, 470], [7, 11, 470], [9, 12, 160]]);
+    /// # Ok(())
+    /// # }
+    /// ```
+    pub fn follow_order(&mut self, tables: &[&Table], query: &Query) -> Result<(Query, Vec<Table>), Refusal> {
+        let mut rebuilt = vec![];
+        let query = query.followed(|table, columns| {
+            let Some(table) = tables.get(table).filter(|table| table.arity() == columns.len()) else {
+                return Ok(None);
+            };
+            rebuilt.push(self.permute(table, columns, table.capacity())?);
+            Ok(Some(tables.len() + rebuilt.len() - 1))
+        })?;
+        Ok((query, rebuilt))
     }
 
     /// Inserts a row, and says whether it was new.

@@ -1,5 +1,6 @@
 //! A query: the order of its variables, and its atoms.
 use crate::calls;
+use crate::Refusal;
 
 /// A query over tables: variables 0 to n - 1 in the order in which they are bound, and atoms, each a table's number and its variables in that order.
 ///
@@ -59,6 +60,36 @@ impl Query {
     pub(crate) fn atoms(&self) -> impl Iterator<Item = (usize, impl Iterator<Item = usize> + '_)> + '_ {
         let atoms = &self.query.atoms[..self.query.atom_count as usize];
         atoms.iter().map(|atom| (atom.table as usize, atom.variables[..atom.len as usize].iter().map(|&v| v as usize)))
+    }
+
+    /// The query whose atoms follow the order where they went against it: `rebuilt` is asked for a table with the columns of an atom's table in the sequence in
+    /// which the order binds them, and answers its number, or none if there is no such table.
+    pub(crate) fn followed(
+        &self,
+        mut rebuilt: impl FnMut(usize, &[usize]) -> Result<Option<usize>, Refusal>,
+    ) -> Result<Query, Refusal> {
+        let mut followed = self.clone();
+        for atom in followed.query.atoms.iter_mut().take(self.query.atom_count as usize).filter(|atom| !atom.laid_over) {
+            let Some(columns) = self.in_sequence(atom).filter(|columns| !columns.is_sorted()) else {
+                continue;
+            };
+            if let Some(number) = rebuilt(atom.table as usize, &columns)? {
+                let list = atom.variables;
+                atom.table = number as u64;
+                leading(&mut atom.variables, columns.iter().map(|&column| list[column]));
+            }
+        }
+        Ok(followed)
+    }
+
+    /// An atom's columns in the sequence in which the order binds their variables, if these are variables of the query and all different.
+    fn in_sequence(&self, atom: &calls::Atom) -> Option<Vec<usize>> {
+        let order = self.query.order.get(..self.query.n as usize)?;
+        let list = atom.variables.get(..atom.len as usize)?;
+        let places: Vec<usize> = list.iter().map(|v| order.iter().position(|w| w == v)).collect::<Option<_>>()?;
+        let mut columns: Vec<usize> = (0..list.len()).collect();
+        columns.sort_by_key(|&column| places[column]);
+        columns.windows(2).all(|pair| places[pair[0]] < places[pair[1]]).then_some(columns)
     }
 
     /// How many variables it has, and so how many words a row.

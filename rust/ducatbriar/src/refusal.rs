@@ -36,19 +36,19 @@ macro_rules! refusals {
 refusals!(
     /// By a build, or a lookup in tables of one column.
     BadArity = 1,
-    /// By a build or a read.
+    /// By a build, a rebuild or a read.
     BadCapacity = 2,
-    /// By a build or a read; never by those of a [`Pool`](crate::Pool), which makes room.
+    /// By a build, a rebuild or a read; never by those of a [`Pool`](crate::Pool), which makes room.
     OutsidePool = 3,
     /// By a build, an insert or a removal.
     BadLength = 4,
-    /// By a build, an insert or a read.
+    /// By a build, a rebuild, an insert or a read.
     NoRoom = 5,
-    /// By an insert, a removal, a listing, a write, a cursor, a lookup or a join.
+    /// By a rebuild, an insert, a removal, a listing, a write, a cursor, a lookup or a join.
     Damaged = 6,
     /// By a cursor.
     BadCursor = 7,
-    /// By a join.
+    /// By a join, or a rebuild whose numbers are no permutation of the columns.
     BadOrder = 8,
     /// By a join.
     BadAtoms = 9,
@@ -89,7 +89,9 @@ impl Refusal {
             Refusal::BadArity => format!("the arity is 0 or over {MAX_ARITY}"),
             Refusal::BadCapacity => format!("the capacity is 0 or over {MAX_CAPACITY}"),
             Refusal::BadOrder => {
-                format!("the order is not a permutation of the variables, or there are over {MAX_VARIABLES} of them")
+                format!(
+                    "the order is not a permutation of the variables, or there are over {MAX_VARIABLES} of them, or the columns are not one of the table's"
+                )
             }
             Refusal::BadAtoms => format!("there are over {MAX_ATOMS} atoms or {MAX_TABLES} tables, or an atom names no table"),
             refusal => refusal.plain().into(),

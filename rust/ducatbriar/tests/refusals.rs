@@ -50,6 +50,68 @@ fn join(query: &Query) -> Result<usize, Refusal> {
     joined(&pool, &[&table], query).map(|rows| rows.len())
 }
 
+/// Refused rebuilds leave the pool as it was; the sequence is 6, 8, 2, 5, and never 3.
+#[test]
+fn rebuilds() {
+    let (mut pool, table) = pairs();
+    let before = pool.words().to_vec();
+    // In a pool without words every table is damaged.
+    assert_eq!(number(Pool::new().permute(&table, &[0, 0], 0)), 6);
+    for columns in [&[0, 0][..], &[1], &[], &[0, 2], &[0, 1, 2], &[1, 0, 0], &[usize::MAX, 0]] {
+        assert_eq!(number(pool.permute(&table, columns, 0)), 8, "{columns:?}");
+    }
+    assert_eq!(number(pool.permute(&table, &[1, 0], 0)), 2);
+    assert_eq!(number(pool.permute(&table, &[1, 0], MAX_CAPACITY + 1)), 2);
+    assert_eq!(number(pool.permute(&table, &[1, 0], 1)), 5);
+    assert_eq!(pool.words(), before);
+    let turned = pool.permute(&table, &[1, 0], 2).unwrap();
+    assert_eq!(pool.list(&turned).unwrap(), "LAYER 0\nData: [2, 3]\nInterval: [0]\nLAYER 1\nData: [1, 2]\nInterval: [0, 1]\n");
+    assert_eq!(pool.rows(&table).unwrap().iter().collect::<Vec<_>>(), [[1, 2], [2, 3]]);
+}
+
+/// A grade goes where its column goes, so that a query which passed 15 passes it over rebuilt tables.
+#[test]
+fn kinds_of_rebuilds() {
+    let mut pool = Pool::new();
+    let kinds = [Kind::Grade, Kind::Plain, Kind::Plain];
+    let slope = pool.build_with_kinds(&kinds, 2, &[[Cell::Grade(-60), 1.into(), 2.into()]]).unwrap();
+    let turned = pool.permute(&slope, &[1, 2, 0], 2).unwrap();
+    assert_eq!(turned.kinds(), [Kind::Plain, Kind::Plain, Kind::Grade]);
+    let back = pool.permute(&turned, &[2, 0, 1], 1).unwrap();
+    assert_eq!((back.kinds(), back.capacity()), (kinds.to_vec(), 1));
+    assert_eq!(pool.rows(&back).unwrap(), pool.rows(&slope).unwrap());
+}
+
+/// Which atoms get a table of their own: those that go against the order and can be rebuilt.
+#[test]
+fn orders_followed() {
+    let (mut pool, table) = pairs();
+    let one = pool.build(1, 1, &[[2]]).unwrap();
+    let tables = [&table, &one];
+    let path = |order: &[usize]| Query::new(order).atom(0, &[0, 1]).atom(0, &[1, 2]).atom(1, &[1]);
+    let expected = [(vec![0, 1, 2], 0), (vec![2, 1, 0], 2), (vec![1, 0, 2], 1), (vec![0, 2, 1], 1)];
+    for (order, count) in expected {
+        let (query, rebuilt) = pool.follow_order(&tables, &path(&order)).unwrap();
+        assert_eq!(rebuilt.len(), count, "{order:?}");
+        let all: Vec<&Table> = tables.into_iter().chain(&rebuilt).collect();
+        assert_eq!(joined(&pool, &all, &query).unwrap().into_iter().collect::<Vec<_>>(), [[1, 2, 3]], "{order:?}");
+    }
+    // A variable twice, no variable of the query, another length, no such table, a laid-over atom: as they are, and refused.
+    let words = pool.words().to_vec();
+    let mut refused = |query: Query| {
+        let (query, rebuilt) = pool.follow_order(&tables, &query).unwrap();
+        assert!(rebuilt.is_empty());
+        number(pool.join(SeekStrategy::Galloping, &tables, &query))
+    };
+    assert_eq!(refused(Query::new(&[0]).atom(0, &[0, 0])), 10);
+    assert_eq!(refused(Query::new(&[1, 0]).atom(0, &[0, 9])), 10);
+    assert_eq!(refused(Query::new(&[1, 0]).atom(1, &[0, 1])), 10);
+    assert_eq!(refused(Query::new(&[1, 0]).atom(7, &[0, 1])), 9);
+    assert_eq!(refused(Query::new(&[1, 0]).laid_over(0, 0, &[0, 1])), 10);
+    assert_eq!(refused(Query::new(&[1; 9]).atom(0, &[0, 1])), 8);
+    assert_eq!(pool.words(), words);
+}
+
 #[test]
 fn builds() {
     let mut pool = Pool::new();

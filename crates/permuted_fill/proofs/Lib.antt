@@ -1,0 +1,2 @@
+pub mod Ranks
+mod Words

@@ -1,0 +1,2 @@
+pub mod Rows
+mod Compares

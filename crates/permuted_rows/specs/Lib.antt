@@ -1,0 +1,3 @@
+pub mod Permuted
+pub mod Legible
+pub mod Packed
