@@ -3,7 +3,7 @@
  *     selftest [ROUNDS [FOLDER]]
  *
  * It replays the recorded answers in FOLDER (crates/replay/data), if there is one, printing the lines of crates/replay/stdout. Then it makes calls on
- * drawn words, sound and damaged ones, and prints how often each number of refusal came, on how many joins the two engines differ, and one checksum over
+ * drawn words, sound and damaged ones, and prints how often each number of refusal came, on how many joins the two engines differ, what was said of listings, and one checksum over
  * every number and word that came back: it is the same for each build and machine. Compiled with -DSELFTEST_SMALL it has no replay, no tables of 65,536 rows and fewer rounds, and so other numbers:
  * it needs 0.1 MB of memory, and the whole one 6.7 MB.
  *
@@ -181,6 +181,12 @@ static void joins(void)
             ducatbriar_plain_joined p = ducatbriar_plain_join(pool, COUNT(pool), ts, q, again, size);
             same(p.number == j.number && p.rows == j.rows && memcmp(again, window, sizeof window) == 0);
         }
+    ducatbriar_checked c = ducatbriar_check_listing(pool, COUNT(pool), ts, q, rows, words, count);
+    same(c.number == 0 && c.verdict == DUCATBRIAR_ACCEPTED);
+    if (count > 0) {
+        c = ducatbriar_check_listing(pool, COUNT(pool), ts, q, rows, least, count - 1);
+        same(c.number == 0 && c.verdict == DUCATBRIAR_MISSING_ROW && memcmp(c.missing, rows + least, (size_t)q.n * sizeof *rows) == 0);
+    }
 }
 
 static void replay(const char *folder, const char *name, void (*one)(void))
@@ -210,6 +216,7 @@ static void replay(const char *folder, const char *name, void (*one)(void))
 
 static uint64_t state = UINT64_C(88172645463325252), sum = UINT64_C(14695981039346656037), calls, refusals[18];
 static uint64_t both, differ; /* joins asked of both engines, and those that the two answered differently */
+static uint64_t verdicts[4];  /* how often each came */
 
 static uint64_t draw(uint64_t below)
 {
@@ -426,6 +433,34 @@ static void both_engines(ducatbriar_joined j, ducatbriar_plain_joined p, bool sa
     differ += p.number != j.number || p.rows != j.rows || !same_words;
 }
 
+static void check(const uint64_t *pool, uint64_t len, const ducatbriar_tables *ts, const ducatbriar_query *q, const uint64_t *words, uint64_t n, uint64_t rows)
+{
+    ducatbriar_checked c = ducatbriar_check_listing(pool, len, *ts, *q, n ? words : NULL, n, rows);
+    add_number(c.number), add(c.verdict), add(c.row), add_words(c.missing, COUNT(c.missing));
+    verdicts[c.verdict % COUNT(verdicts)]++;
+}
+
+/* The rows that a join wrote, as a listing: as it is, and with a word changed, a row gone or there twice, or cut inside a row. */
+static void recorded(const uint64_t *pool, uint64_t len, const ducatbriar_tables *ts, const ducatbriar_query *q, const uint64_t window[256], uint64_t rows)
+{
+    uint64_t bent[256 + 8], width = q->n <= 8 ? q->n : 0, n = width * rows;
+    check(pool, len, ts, q, window, n, rows);
+    uint64_t kind = draw(4), row = draw(rows + 1), column = draw(8), word = key(), some = draw(4);
+    uint64_t from = (row < rows ? row : 0) * width;
+    memcpy(bent, window, 256 * sizeof *bent);
+    if (n == 0)
+        rows = some, n = width * some; /* where there were no words: rows of what the window held */
+    else if (kind == 0)
+        bent[from + column % width] = word;
+    else if (kind == 1)
+        n -= width, memmove(bent + from, bent + from + width, (size_t)(n - from) * sizeof *bent);
+    else if (kind == 2)
+        memmove(bent + from + width, bent + from, (size_t)(n - from) * sizeof *bent), n += width;
+    else
+        n -= column % width;
+    check(pool, len, ts, q, bent, n, rows);
+}
+
 static void query(const uint64_t *pool, uint64_t len, ducatbriar_tables ts)
 {
     uint64_t window[256], again[256];
@@ -459,6 +494,7 @@ static void query(const uint64_t *pool, uint64_t len, ducatbriar_tables ts)
         again[i] = i;
     ducatbriar_plain_joined p = ducatbriar_plain_join(pool, len, ts, q, again, size);
     both_engines(j, p, memcmp(again, window, sizeof window) == 0);
+    recorded(pool, len, &ts, &q, window, j.rows);
 }
 
 /* Plain for the most part, so that most joins pass 15. */
@@ -748,6 +784,7 @@ static void limits(void)
         memset(again, 0, sizeof again);
         ducatbriar_plain_joined p = ducatbriar_plain_join(pool, COUNT(pool), ts, q, again, COUNT(again));
         both_engines(j, p, memcmp(again, window, sizeof window) == 0);
+        check(pool, COUNT(pool), &ts, &q, window, COUNT(window), 0); /* cut by 12 */
         ducatbriar_sought s = ducatbriar_partition_point(strategy, pool + from, COUNT(pool) - from, target);
         add(s.offset), add(s.probes), add(s.hit);
     }
@@ -776,6 +813,7 @@ int main(int argc, char **argv)
     for (size_t i = 1; i < COUNT(refusals); i++)
         printf(" %" PRIu64, refusals[i]);
     printf("\nboth engines: %" PRIu64 " joins, %" PRIu64 " differ", both, differ);
+    printf("\nlistings: %" PRIu64 " accepted, %" PRIu64 " wrong, %" PRIu64 " lack a row, %" PRIu64 " not checked", verdicts[1], verdicts[2], verdicts[3], verdicts[0]);
     printf("\n%ld rounds, %" PRIu64 " calls, checksum %016" PRIx64 "\n", rounds, calls, sum);
     return 0;
 }

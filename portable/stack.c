@@ -31,6 +31,11 @@ static void join_plainly(void)
     ducatbriar_plain_join(pool, 4096, ts, q, window, 4096);
 }
 
+static void check_listing(void)
+{
+    ducatbriar_check_listing(pool, 4096, ts, q, window, 2048, 0);
+}
+
 static void build(void)
 {
     for (size_t i = 0; i < 256; i++)
@@ -122,6 +127,7 @@ int main(void)
     file_len = ducatbriar_write(pool, 4096, ts.tables[0], file, sizeof file).len;
     measure("join", join);
     measure("plain_join", join_plainly);
+    measure("check_listing", check_listing);
     measure("build", build);
     measure("insert", insert);
     measure("remove", take_out);

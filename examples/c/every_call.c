@@ -1,6 +1,7 @@
 /* Uses every call once or more, over keys that need more than 32 bits: a lesson's stretches of road and their grades, walked by a cursor, joined with the
- * friction of their surfaces into a window that is too small, and then into one that isn't, by both engines; another department asks the same by stretch, over a
- * road that is rebuilt; the grades go to another unit as a file; a school's own friction is laid over the maker's, and at the end a stretch is taken out.
+ * friction of their surfaces into a window that is too small, and then into one that isn't, by both engines; what was listed is checked, as it is and bent; another
+ * department asks the same by stretch, over a road that is rebuilt; the grades go to another unit as a file; a school's own friction is laid over the maker's, and at
+ * the end a stretch is taken out.
  *
  * Road: (surface, stretch). Grades: (grade, stretch), a grade as its word. Friction: (surface, thousandths). Each check that fails ends the program. */
 #include <inttypes.h>
@@ -156,6 +157,37 @@ static void join_plainly(ducatbriar_tables tables, ducatbriar_query query, ducat
     printf("by the plain engine: %" PRIu64 " rows, %s\n", plainly.rows, same ? "the same" : "others");
 }
 
+/* What a check says of `len` words that are said to be the query's listing. */
+static void check(const char *what, ducatbriar_tables tables, ducatbriar_query query, const uint64_t *listing, uint64_t len)
+{
+    ducatbriar_checked answer = ducatbriar_check_listing(pool, COUNT(pool), tables, query, listing, len, 0);
+    printf("%s: ", what);
+    switch (answer.verdict) {
+    case DUCATBRIAR_ACCEPTED:
+        printf("accepted\n");
+        break;
+    case DUCATBRIAR_WRONG_ROW:
+        printf("row %" PRIu64 " is wrong\n", answer.row);
+        break;
+    case DUCATBRIAR_MISSING_ROW:
+        printf("stretch %" PRIu64 " on surface %" PRIu64 " is missing\n", answer.missing[1], answer.missing[2]);
+        break;
+    default:
+        printf("%s\n", ducatbriar_meaning(answer.number));
+    }
+}
+
+/* The listing as it was written, with a friction changed, without its last row, and without its last word. */
+static void dispute(ducatbriar_tables tables, ducatbriar_query query, uint64_t *listing, uint64_t len)
+{
+    check("the listing", tables, query, listing, len);
+    listing[7]++;
+    check("with the second friction changed", tables, query, listing, len);
+    listing[7]--;
+    check("without the last row", tables, query, listing, len - 4);
+    check("without the last word", tables, query, listing, len - 1);
+}
+
 /* Variables: 0 grade, 1 stretch, 2 surface, 3 friction, bound as 2 0 1 3: by surface, then by grade. */
 static void join(ducatbriar_tables tables)
 {
@@ -178,6 +210,7 @@ static void join(ducatbriar_tables tables)
     }
     printf("seeks: %" PRIu64 "\n", answer.seeks);
     join_plainly(tables, query, answer, window, COUNT(window));
+    dispute(tables, query, window, 4 * answer.rows);
 }
 
 /* Variables: 0 surface, 1 stretch, 2 friction. What one department plans as 0 1 2 another plans by stretch, as 1 0 2. The road goes against that order, and is

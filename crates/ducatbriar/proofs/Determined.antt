@@ -42,6 +42,7 @@ use Rattle.ducatbriar.proofs.ducatbriar_laid_open.Reads as laid-open-re
 use Rattle.ducatbriar.proofs.ducatbriar_laid_up.Reads as laid-up-reads
 use Rattle.ducatbriar.proofs.ducatbriar_join.Reads as join-reads
 use Rattle.ducatbriar.proofs.ducatbriar_plain_join.Reads as plain-join-reads
+use Rattle.ducatbriar.proofs.ducatbriar_check_listing.Reads as check-listing-reads
 
 -- ---- calls that write nothing: one answer for each list of arguments
 
@@ -71,6 +72,9 @@ next κs args r₁ r₂ e₁ e₂ p q = p ∙ sym q
 
 pub seek : (κs : Lfts 1) → OneAnswer (seek-reads.Post κs)
 seek κs args r₁ r₂ e₁ e₂ p q = p ∙ sym q
+
+pub check-listing : (κs : Lfts 2) → OneAnswer (check-listing-reads.Post κs)
+check-listing κs args r₁ r₂ e₁ e₂ p q = p .answer ∙ sym (q .answer)
 
 pub at-end : (κs : Lfts 1) → OneAnswer (at-end-reads.Post κs)
 at-end κs args r₁ r₂ e₁ e₂ p q = p ∙ sym q

@@ -19,6 +19,7 @@ ghost use Rattle.overlay_lookup.specs.Lookup.{lookedUp};
 ghost use Rattle.overlay_iter.specs.Calls.{laidKeyOf, laidNextOf, laidSoughtOf, laidEndOf, laidOpenOf, laidUpOf};
 ghost use Rattle.leapfrog_triejoin.specs.Outcome.{Joins};
 ghost use Rattle.plain_join.specs.Outcome.{PlainJoins};
+ghost use Rattle.listing_verdict.specs.Checked.{Checks};
 ghost use Rattle.strategy_word.specs.Strategy.{strategyOf};
 use column_trie::ColumnTrie;
 use column_trie_insert::Inserted;
@@ -36,6 +37,7 @@ use from_sorted::Built;
 use join_query::Query;
 use join_query::Tables;
 use leapfrog_triejoin::Joined;
+use listing_verdict::Checked;
 use overlay_iter::LaidNextAnswer;
 use overlay_iter::LaidOpenAnswer;
 use overlay_iter::LaidSeekAnswer;
@@ -351,4 +353,17 @@ pub extern "C" fn ducatbriar_plain_join(
     ensures { λ r. ⌜ PlainJoins (now (pool .entry)) tables query (now (window .entry)) r (now (window .exit)) ⌝ }
 {
     plain_join::plain_join(pool, tables, query, window)
+}
+
+#[no_mangle]
+pub extern "C" fn ducatbriar_check_listing(
+    pool: &[u64],
+    tables: Tables,
+    query: Query,
+    listing: &[u64],
+    count: usize,
+) -> Checked
+    ensures { λ r. ⌜ Checks (now (pool .entry)) tables query (now (listing .entry)) count r ⌝ }
+{
+    listing_check::check_listing(pool, tables, query, listing, count)
 }

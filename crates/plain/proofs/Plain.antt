@@ -36,7 +36,7 @@ take-map f zero xs = refl
 take-map f (suc n) [] = refl
 take-map f (suc n) (x ∷ xs) = ap (λ (l : List ℕ). f x ∷ l) (take-map f n xs)
 
-part-same : (xs : List ℕ) (u v : Row) → ((x : ℕ) → x ∈ xs → getD u x 0 ≡ getD v x 0) → part xs u ≡ part xs v
+pub part-same : (xs : List ℕ) (u v : Row) → ((x : ℕ) → x ∈ xs → getD u x 0 ≡ getD v x 0) → part xs u ≡ part xs v
 part-same [] u v f = refl
 part-same (x ∷ xs) u v f = ap₂ {C = Row} (λ k l. k ∷ l) (f x (hd refl)) (part-same xs u v (λ y m. f y (tl m)))
 
@@ -98,7 +98,7 @@ module _ {n : ℕ} {order : List ℕ} {atoms : List Atom} (q : Passes n order at
     below : {x : ℕ} → x ∈ (us ++ v ∷ vs) → x < n
     below {x} m = q .permutation .below x (rw o m)
 
-    further : order ≡ (us ++ v ∷ []) ++ vs
+    pub further : order ≡ (us ++ v ∷ []) ++ vs
     further = o ∙ sym (append-assoc us (v ∷ []) vs)
 
     given : (x : ℕ) → x ∈ us → (x < n) × (x ∈ vs → ⊥) × (x ≡ v → ⊥)
@@ -136,7 +136,7 @@ module _ {n : ℕ} {order : List ℕ} {atoms : List Atom} (q : Passes n order at
       keys-are row = ap (λ (p : Row). keysUnder p (a .rows)) (words row)
 
       -- an answer that keeps the words given has one of the keys
-      key-of : (row w : Row) → ((x : ℕ) → x ∈ us → getD w x 0 ≡ getD row x 0) → part (a .vars) w ∈ a .rows → getD w v 0 ∈ keysAt v row a
+      pub key-of : (row w : Row) → ((x : ℕ) → x ∈ us → getD w x 0 ≡ getD row x 0) → part (a .vars) w ∈ a .rows → getD w v 0 ∈ keysAt v row a
       key-of row w f m =
           rw (keys-are row)
           (keys-in (part front row) (q .tables a i .wide) (short row) (part back w)
@@ -164,7 +164,7 @@ module _ {n : ℕ} {order : List ℕ} {atoms : List Atom} (q : Passes n order at
         let h : holds v row a ≡ true = subst (λ (b : Atom). holds v row b ≡ true) (t .2) (every-at (λ (j : ℕ). holds v row (getD atoms j nobody)) (length atoms) e (t .0) (t .1)) in
         has-in (keysAt v row a) (getD row v 0) (sym (ap (λ (b : Bool). pick b (has (keysAt v row a) (getD row v 0)) true) (eq-eqb (suc (column v (a .vars))) (length (a .vars)) l)) ∙ h)
 
-    passing : (row : Row) → ((a : Atom) → a ∈ atoms → column v (a .vars) < length (a .vars) → getD row v 0 ∈ keysAt v row a) → allHold v row atoms ≡ true
+    pub passing : (row : Row) → ((a : Atom) → a ∈ atoms → column v (a .vars) < length (a .vars) → getD row v 0 ∈ keysAt v row a) → allHold v row atoms ≡ true
     unfolding allHold holds
     passing row f = every-all (λ (j : ℕ). holds v row (getD atoms j nobody)) (length atoms) (λ j h. one (getD atoms j nobody) (getD-in atoms j nobody h))
       where
@@ -176,7 +176,7 @@ module _ {n : ℕ} {order : List ℕ} {atoms : List Atom} (q : Passes n order at
             go false e = refl
 
     -- of what is found once v has a word and the tests are made, an atom that holds v has its part among its rows: one with variables left later, any other now
-    at-next : (row : Row) → allHold v row atoms ≡ true → (w : Row) → ((x : ℕ) → x < n → (x ∈ vs → ⊥) → getD w x 0 ≡ getD row x 0) → (a : Atom) → a ∈ atoms → column v (a .vars) < length (a .vars) → ((y : ℕ) → y ∈ a .vars → y ∈ vs → part (a .vars) w ∈ a .rows) → part (a .vars) w ∈ a .rows
+    pub at-next : (row : Row) → allHold v row atoms ≡ true → (w : Row) → ((x : ℕ) → x < n → (x ∈ vs → ⊥) → getD w x 0 ≡ getD row x 0) → (a : Atom) → a ∈ atoms → column v (a .vars) < length (a .vars) → ((y : ℕ) → y ∈ a .vars → y ∈ vs → part (a .vars) w ∈ a .rows) → part (a .vars) w ∈ a .rows
     at-next row g w k a i c later = go (drop (suc (column v (a .vars))) (a .vars)) refl
       where
         now-given : (y : ℕ) → y ∈ a .vars → drop (suc (column v (a .vars))) (a .vars) ≡ [] → (y < n) × (y ∈ vs → ⊥)

@@ -1,3 +1,3 @@
-mod Trying
+pub mod Trying
 mod Joining
 pub mod Determined

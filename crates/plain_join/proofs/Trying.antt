@@ -47,7 +47,7 @@ todo-is {ks} s b e = ap (todo ks) e ∙ go (from b ks) refl
 abbrev pub rowsUnder : ℕ → List meaning.Atom → ℕ → List ℕ → Row → ℕ → List Row
 rowsUnder n atoms v vs row k = pick (allHold v (set row v k) atoms) (plainly n vs atoms (set row v k)) []
 
-plainly-next : (n v : ℕ) (vs : List ℕ) (atoms : List meaning.Atom) (row : Row) → plainly n (v ∷ vs) atoms row ≡ flatMap (rowsUnder n atoms v vs row) (tried v row atoms)
+pub plainly-next : (n v : ℕ) (vs : List ℕ) (atoms : List meaning.Atom) (row : Row) → plainly n (v ∷ vs) atoms row ≡ flatMap (rowsUnder n atoms v vs row) (tried v row atoms)
 unfolding plainly
 plainly-next n v vs atoms row = refl
 
@@ -60,22 +60,22 @@ pub none-left : {pool : List ℕ} {ts : Tables} {q : Query} {len : ℕ} → Acce
 none-left {q = q} z left e = drop-of-length-le (orderOf q) {i = q .n - left} (omega (arith, sized z .permutation .size))
 
 module _ {pool : List ℕ} {ts : Tables} {q : Query} {len : ℕ} (z : Accepted pool ts q len) (left : ℕ) (l : 0 < left) (h : left ≤ q .n) (found : Row) where
-  abbrev depth : ℕ
+  abbrev pub depth : ℕ
   depth = q .n - left
 
-  abbrev v : ℕ
+  abbrev pub v : ℕ
   v = getD (q .order) depth 0
 
-  abbrev vs : List ℕ
+  abbrev pub vs : List ℕ
   vs = drop (q .n - (left - 1)) (orderOf q)
 
-  abbrev atoms : List meaning.Atom
+  abbrev pub atoms : List meaning.Atom
   atoms = atomsOf pool ts q
 
-  abbrev ks : List ℕ
+  abbrev pub ks : List ℕ
   ks = tried v found atoms
 
-  abbrev f : ℕ → List Row
+  abbrev pub f : ℕ → List Row
   f = rowsUnder (q .n) atoms v vs found
 
   inside : depth < length (orderOf q)
@@ -93,10 +93,10 @@ module _ {pool : List ℕ} {ts : Tables} {q : Query} {len : ℕ} (z : Accepted p
   order-is : drop depth (orderOf q) ≡ v ∷ vs
   order-is = drop-cons (orderOf q) depth 0 inside ∙ ap (λ (x : ℕ). x ∷ drop (suc depth) (orderOf q)) variable-is ∙ ap (λ (m : List ℕ). v ∷ m) behind
 
-  rows-are : plainly (q .n) (drop depth (orderOf q)) atoms found ≡ flatMap f ks
+  pub rows-are : plainly (q .n) (drop depth (orderOf q)) atoms found ≡ flatMap f ks
   rows-are = ap (λ (m : List ℕ). plainly (q .n) m atoms found) order-is ∙ plainly-next (q .n) v vs atoms found
 
-  rise : Ascends _<_ ks
+  pub rise : Ascends _<_ ks
   rise =
       tried-ascend (passes z) (take depth (orderOf q)) v vs
       (split-at (orderOf q) depth 0 inside ∙ ap (λ (x : ℕ). take depth (orderOf q) ++ x ∷ drop (suc depth) (orderOf q)) variable-is ∙ ap (λ (m : List ℕ). take depth (orderOf q) ++ v ∷ m) behind)

@@ -31,6 +31,8 @@ mod seeks;
 mod sides;
 #[cfg(kermit)]
 mod times;
+#[cfg(kermit)]
+mod verdicts;
 
 /// What a group is called, and what prints its table, given how often each side is timed.
 #[cfg(kermit)]
@@ -48,6 +50,7 @@ const GROUPS: &[(&str, fn(usize))] = &[
     ("square", cycles::squares),
     ("overlay", overlay::overlay),
     ("plain", engines::plain),
+    ("verdict", verdicts::verdict),
 ];
 
 #[cfg(kermit)]

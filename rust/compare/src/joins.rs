@@ -4,6 +4,7 @@
 use crate::case::{shorter, show_rows, smaller_rows, Case, Tally};
 use crate::kermit;
 use crate::model::{self, Row};
+use crate::model_verdicts;
 use crate::rng::Rng;
 use crate::tables::{all_rows, distinct, marked, MOST};
 use ducatbriar::calls::*;
@@ -70,7 +71,7 @@ impl Joins {
     }
 
     /// What kermit finds under a strategy.
-    fn found(&self, strategy: SeekStrategy) -> kermit::Found {
+    pub fn found(&self, strategy: SeekStrategy) -> kermit::Found {
         match strategy {
             SeekStrategy::Linear => self.theirs::<LinearSeek>(),
             SeekStrategy::Binary => self.theirs::<BinarySeek>(),
@@ -118,7 +119,18 @@ impl Call {
         tally.same(&window[..], words, || format!("the plain engine, window of {}, words", words.len()))
     }
 
-    /// Both engines, all strategies, into a window of so many words, by document 01.
+    /// The checker on all words of a window, and on its rows alone, by document 02: refused as the join is, but for 12.
+    fn checked(&self, rows: u64, words: &[u64], tally: &mut Tally) -> Result<(), String> {
+        let listed = (self.query.n as usize).saturating_mul(rows as usize).min(words.len());
+        for listing in [words, &words[..listed]] {
+            let ours = check_listing(&self.pool, self.tables, self.query, listing, rows);
+            let expected = model_verdicts::check_listing(&self.pool, &self.tables, &self.query, listing, rows);
+            tally.same(ours, expected, || format!("the checker on {} words of a window of {}", listing.len(), words.len()))?;
+        }
+        Ok(())
+    }
+
+    /// Both engines, all strategies, into a window of so many words, by document 01; and what the checker says of it.
     pub fn run(&self, size: usize, tally: &mut Tally) -> Result<(), String> {
         for strategy in SeekStrategy::ALL {
             let mut words = marked(size);
@@ -126,6 +138,7 @@ impl Call {
             self.leapt(strategy, answer, &words, tally)?;
             if strategy == SeekStrategy::default() {
                 self.plainly(answer, &words, tally)?;
+                self.checked(answer.rows, &words, tally)?;
             }
         }
         Ok(())

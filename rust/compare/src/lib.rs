@@ -1,7 +1,8 @@
 //! Runs Ducatbriar against kermit. `main.rs` says how to run them, each file what it compares.
 //!
 //! What kermit does not have (refusals, damaged words, probes under document 01's halving rule) is held to `model.rs`, which is written from that document,
-//! and table files, laid-over tables and tables in another order to `model_files.rs`, `model_overlay.rs` and `model_orders.rs`, which are written from document 02.
+//! and table files, laid-over tables, tables in another order and recorded listings to `model_files.rs`, `model_overlay.rs`, `model_orders.rs` and
+//! `model_verdicts.rs`, which are written from document 02.
 //! Intended differences stand in docs/DIFFERENCES.md. Any other difference fails.
 #[cfg(kermit)]
 pub mod case;
@@ -26,6 +27,8 @@ pub mod model_orders;
 #[cfg(kermit)]
 pub mod model_overlay;
 #[cfg(kermit)]
+pub mod model_verdicts;
+#[cfg(kermit)]
 pub mod orders;
 #[cfg(kermit)]
 pub mod overlay;
@@ -39,3 +42,5 @@ pub mod runs;
 pub mod seeks;
 #[cfg(kermit)]
 pub mod tables;
+#[cfg(kermit)]
+pub mod verdicts;

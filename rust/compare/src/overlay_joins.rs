@@ -58,7 +58,7 @@ impl LaidJoins {
     }
 
     /// The same join with a table built afresh for each atom.
-    fn afresh(&self) -> Joins {
+    pub fn afresh(&self) -> Joins {
         let rows = |atom: &Over| match atom.maker {
             None => self.rows(atom.table),
             Some(maker) => counting(&self.rows(atom.table), &self.rows(maker)),
@@ -90,7 +90,7 @@ impl LaidJoins {
         }
     }
 
-    fn call(&self) -> Call {
+    pub fn call(&self) -> Call {
         let stored = Joins { order: self.order.clone(), tables: self.tables.clone(), atoms: vec![] };
         let mut call = stored.call(&self.kinds());
         for &(of, firsts) in &self.fronts {

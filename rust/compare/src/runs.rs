@@ -1,10 +1,10 @@
 //! The runs by name: what is exhaustive, then so many random cases.
 use crate::case::{check, Case, Tally};
 use crate::rng::Rng;
-use crate::{changes, cursors, damage, files, joins, orders, overlay, overlay_joins, seeks, tables};
+use crate::{changes, cursors, damage, files, joins, orders, overlay, overlay_joins, seeks, tables, verdicts};
 
-pub const NAMES: [&str; 10] =
-    ["seeks", "tables", "changes", "files", "cursors", "joins", "overlay", "overlay_joins", "orders", "damage"];
+pub const NAMES: [&str; 11] =
+    ["seeks", "tables", "changes", "files", "cursors", "joins", "overlay", "overlay_joins", "orders", "verdicts", "damage"];
 
 fn all<C: Case>(tally: &mut Tally, cases: impl IntoIterator<Item = C>) -> Result<(), String> {
     cases.into_iter().try_for_each(|case| check(case, tally))
@@ -85,6 +85,12 @@ pub fn run(name: &str, seed: u64, rounds: usize) -> Result<Tally, String> {
             all(t, large.then(|| orders::large(rng)).into_iter().flatten())?;
             some(t, rng, 10 * rounds, orders::random)?;
             some(t, rng, rounds, orders::departments)?;
+        }
+        "verdicts" => {
+            all(t, verdicts::exhaustive())?;
+            all(t, verdicts::no_variables())?;
+            all(t, large.then(|| verdicts::large(rng)).into_iter().flatten())?;
+            some(t, rng, 10 * rounds, verdicts::random)?;
         }
         "damage" => {
             all(t, damage::exhaustive())?;

@@ -52,6 +52,11 @@ mod short {
     }
 
     #[test]
+    fn verdicts() {
+        run("verdicts");
+    }
+
+    #[test]
     fn damage() {
         run("damage");
     }

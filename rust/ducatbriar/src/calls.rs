@@ -101,6 +101,11 @@ c_struct!(
     /// The rows written by the plain engine.
     PlainJoined { number: u64, rows: u64 }
 );
+c_struct!(
+    /// The verdict on a listing: 0 nothing was checked, 1 accepted, 2 wrong at `row`, 3 `missing` is the least row missing. `row` is 0 unless the verdict is 2, and
+    /// `missing` zeros unless it is 3; its words past the variables are zero.
+    Checked { number: u64, verdict: u64, row: u64, missing: [u64; MAX_VARIABLES] }
+);
 
 mod c {
     use super::*;
@@ -237,6 +242,15 @@ mod c {
             window: *mut u64,
             window_len: u64,
         ) -> PlainJoined;
+        pub fn ducatbriar_check_listing(
+            pool: *const u64,
+            len: u64,
+            tables: Tables,
+            query: Query,
+            listing: *const u64,
+            listing_len: u64,
+            count: u64,
+        ) -> Checked;
     }
 }
 
@@ -400,6 +414,13 @@ pub fn join(strategy: SeekStrategy, pool: &[u64], tables: Tables, query: Query, 
 /// The same by the plain engine, which has no strategy and no seeks: number, rows and window words are those of [`join`] on every input. Slower by design.
 pub fn plain_join(pool: &[u64], tables: Tables, query: Query, window: &mut [u64]) -> PlainJoined {
     unsafe { c::ducatbriar_plain_join(pool.as_ptr(), pool.len() as u64, tables, query, window.as_mut_ptr(), window.len() as u64) }
+}
+
+/// Whether the words are the query's complete listing, and where not. The count of rows is read for a query without variables alone, whose rows have no words.
+/// Refusals 8, 9, 10, 11, 15, 16, 6, 17.
+pub fn check_listing(pool: &[u64], tables: Tables, query: Query, listing: &[u64], count: u64) -> Checked {
+    let listing_len = listing.len() as u64;
+    unsafe { c::ducatbriar_check_listing(pool.as_ptr(), pool.len() as u64, tables, query, listing.as_ptr(), listing_len, count) }
 }
 
 /// The cursor's calls. Refusals 6 and 7.

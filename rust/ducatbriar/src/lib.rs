@@ -3,6 +3,7 @@
 //! The work is done by Ducatbriar's proved calls, which this crate links as a static library. [`Pool`] and [`Table`] are what most callers want: a pool
 //! owns the words of its tables and lends them to cursors and joins, and a table goes to another machine as a file ([`Table::to_bytes`], [`Pool::read`]).
 //! A table is rebuilt with its columns in another sequence for a query in another order ([`Pool::permute`], [`Pool::follow_order`]).
+//! What some unit gave for a query is checked by [`Pool::check_listing`].
 //! A school's table can be laid over a maker's: [`Query::laid_over`], and [`Laid`] for lookups and cursors. [`calls`] has the calls themselves, one function
 //! each, for callers who keep their own words.
 //!
@@ -38,7 +39,7 @@ pub mod limits;
 pub use calls::{grade_of, word_of, SeekStrategy, Sought};
 pub use kind::{Cell, Kind};
 pub use laid::{Laid, LaidCursor};
-pub use pool::{Cursor, Filled, Pool, Rows, RowsIter, Table};
+pub use pool::{Cursor, Filled, Pool, Rows, RowsIter, Table, Verdict};
 pub use query::Query;
 pub use refusal::Refusal;
 

@@ -76,6 +76,17 @@ pub struct Filled {
     pub seeks: u64,
 }
 
+/// What a check says of a recorded listing.
+#[derive(Clone, Debug, PartialEq, Eq)]
+pub enum Verdict {
+    /// It is the query's complete listing, row by row.
+    Accepted,
+    /// The row of this number, counted from 0, is no answer, or does not come strictly after the row before it; those before it are good.
+    Wrong(usize),
+    /// Every row is good, and this is the least row missing, in the order's sequence.
+    Missing(Vec<u64>),
+}
+
 /// The rows of a join, in the order in which they were found.
 #[derive(Clone, Debug, PartialEq, Eq)]
 pub struct Rows {
@@ -521,6 +532,36 @@ impl Pool {
         Self::all_rows(tables, query, |window| {
             let joined = calls::plain_join(&self.words, Self::tables(tables), query.query, window);
             Ok((joined.rows as usize, Self::filled(joined.number)?))
+        })
+    }
+
+    /// Checks a listing that some unit gave for this query over these tables (docs/DISPUTES.md): each row by variable number. It uses no leapfrog. A row that
+    /// doesn't have a word for each variable makes a listing that is not whole rows.
+    ///
+    /// ```
+    /// # fn main() -> Result<(), ducatbriar::Refusal> {
+    /// use ducatbriar::{Pool, Query, Verdict};
+    /// let mut pool = Pool::new();
+    /// let road = pool.build(2, 4, &[[7, 10], [7, 11], [9, 12]])?;
+    /// let query = Query::new(&[0, 1]).atom(0, &[0, 1]);
+    /// let check = |listing: &[[u64; 2]]| pool.check_listing(&[&road], &query, listing);
+    /// assert_eq!(check(&[[7, 10], [7, 11], [9, 12]])?, Verdict::Accepted);
+    /// assert_eq!(check(&[[7, 10], [7, 12], [9, 12]])?, Verdict::Wrong(1));
+    /// assert_eq!(check(&[[7, 10], [9, 12]])?, Verdict::Missing(vec![7, 11]));
+    /// # Ok(())
+    /// # }
+    /// ```
+    pub fn check_listing<R: AsRef<[u64]>>(&self, tables: &[&Table], query: &Query, listing: &[R]) -> Result<Verdict, Refusal> {
+        let whole = listing.iter().all(|row| row.as_ref().len() == query.variables());
+        let words: Vec<u64> = listing.iter().flat_map(|row| row.as_ref()).copied().collect();
+        let checked = calls::check_listing(&self.words, Self::tables(tables), query.query, &words, listing.len() as u64);
+        // Rows of other lengths could make up whole rows between them; what the join looks for before 16 comes first all the same.
+        let number = if whole || [8, 9, 10, 11, 15].contains(&checked.number) { checked.number } else { 16 };
+        Refusal::check(number)?;
+        Ok(match checked.verdict {
+            1 => Verdict::Accepted,
+            2 => Verdict::Wrong(checked.row as usize),
+            _ => Verdict::Missing(checked.missing[..query.variables()].to_vec()),
         })
     }
 

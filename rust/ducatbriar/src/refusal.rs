@@ -64,7 +64,7 @@ refusals!(
     LongText = 14,
     /// By a join: a grade is joined to what is none.
     MixedKinds = 15,
-    /// By a join whose window is not whole rows; never by [`Pool::join`](crate::Pool::join), whose own window is.
+    /// By a join whose window is not whole rows, never by [`Pool::join`](crate::Pool::join), whose own window is; or by a check of a listing that is not.
     PartRows = 16,
     /// By a join, a lookup or a cursor over two tables, one laid over the other, that are not of the same arity and kinds.
     OtherShape = 17,
@@ -116,7 +116,7 @@ impl Refusal {
             Refusal::NotAFile => "the bytes are not a table file",
             Refusal::LongText => "the text or file is longer than its destination",
             Refusal::MixedKinds => "some variable binds columns of both kinds, plain and grade",
-            Refusal::PartRows => "the window's length is no whole number of rows",
+            Refusal::PartRows => "the length of the window or listing is no whole number of rows",
             Refusal::OtherShape => "two tables laid over one another are not of the same arity and kinds",
             Refusal::BadArity | Refusal::BadCapacity | Refusal::BadOrder | Refusal::BadAtoms => "",
         }

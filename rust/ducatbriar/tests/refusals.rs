@@ -1,6 +1,6 @@
 //! Each number of refusal that the owned types can meet, and what the pool holds behind it.
 use ducatbriar::limits::MAX_CAPACITY;
-use ducatbriar::{calls, Cell, Kind, Laid, Pool, Query, Refusal, Rows, SeekStrategy, Table};
+use ducatbriar::{calls, Cell, Kind, Laid, Pool, Query, Refusal, Rows, SeekStrategy, Table, Verdict};
 
 const HEADER: &str = include_str!("../../../include/ducatbriar.h");
 
@@ -42,7 +42,22 @@ fn pairs() -> (Pool, Table) {
 fn joined(pool: &Pool, tables: &[&Table], query: &Query) -> Result<Rows, Refusal> {
     let rows = pool.join(SeekStrategy::Galloping, tables, query);
     assert_eq!(pool.plain_join(tables, query), rows, "the plain engine's");
+    checked(pool, tables, query, &rows);
     rows
+}
+
+/// The checker refuses what a join refuses, accepts what it lists, and names the row that is missing or wrong.
+fn checked(pool: &Pool, tables: &[&Table], query: &Query, rows: &Result<Rows, Refusal>) {
+    let check = |listing: &[&[u64]]| pool.check_listing(tables, query, listing);
+    let rows: Vec<&[u64]> = match rows {
+        Err(refusal) => return assert_eq!(check(&[]), Err(*refusal)),
+        Ok(rows) => rows.iter().collect(),
+    };
+    assert_eq!(check(&rows), Ok(Verdict::Accepted));
+    for i in 0..rows.len() {
+        assert_eq!(check(&[&rows[..i], &rows[i + 1..]].concat()), Ok(Verdict::Missing(rows[i].to_vec())));
+        assert_eq!(check(&[&rows[..=i], &rows[i..]].concat()), Ok(Verdict::Wrong(i + 1)));
+    }
 }
 
 fn join(query: &Query) -> Result<usize, Refusal> {
@@ -284,6 +299,31 @@ fn windows_of_the_plain_engine() {
         let answer = calls::plain_join(pool.words(), tables, query, &mut window[..len]);
         assert_eq!((answer.number, answer.rows, window), expected, "{len} words");
     }
+}
+
+/// 16 is told after what comes before it and before what comes behind; without variables what counts is how many rows there are.
+#[test]
+fn recorded_listings() {
+    let (pool, table) = pairs();
+    let query = Query::new(&[0, 1]).atom(0, &[0, 1]);
+    let tables = [&table];
+    for listing in [&[&[1, 2][..], &[2]][..], &[&[1], &[2, 2, 3]], &[&[]], &[&[1, 2, 2, 3]]] {
+        assert_eq!(number(pool.check_listing(&tables, &query, listing)), 16, "{listing:?}");
+        assert_eq!(number(pool.check_listing(&tables, &Query::new(&[0, 0]).atom(0, &[0, 1]), listing)), 8, "{listing:?}");
+    }
+    assert_eq!(pool.check_listing(&tables, &query, &[[1, 2], [2, 3], [2, 4]]), Ok(Verdict::Wrong(2)));
+    assert_eq!(pool.check_listing(&tables, &query, &[[2, 3], [1, 2]]), Ok(Verdict::Wrong(1)));
+    let one = Query::new(&[0]).atom(0, &[0]);
+    assert_eq!(number(pool.check_listing(&tables, &one, &[[1, 2]])), 10);
+    let none = |count: usize| pool.check_listing(&[], &Query::new(&[]), &vec![[0u64; 0]; count]);
+    assert_eq!(
+        [0, 1, 2, 3].map(none),
+        [Ok(Verdict::Missing(vec![])), Ok(Verdict::Accepted), Ok(Verdict::Wrong(1)), Ok(Verdict::Wrong(1))]
+    );
+    assert_eq!(number(pool.check_listing(&[], &Query::new(&[]), &[[1]])), 16);
+    let other = Pool::new();
+    assert_eq!(number(other.check_listing(&tables, &query, &[[1, 2]])), 6);
+    assert_eq!(number(other.check_listing(&tables, &query, &[[1]])), 16);
 }
 
 #[test]

@@ -1,0 +1,2 @@
+mod Tested
+pub mod Reading

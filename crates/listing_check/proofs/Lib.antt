@@ -1,0 +1,3 @@
+mod Meeting
+mod Walking
+mod Checking
