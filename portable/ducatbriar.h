@@ -442,6 +442,49 @@ typedef struct {
 ducatbriar_plain_joined ducatbriar_plain_join(const uint64_t *pool, uint64_t len, ducatbriar_tables tables, ducatbriar_query query, uint64_t *window,
                                               uint64_t window_len);
 
+/* A row that is handed over, by variable number: of a query with n variables the first n words count. */
+typedef struct {
+    uint64_t words[DUCATBRIAR_MAX_VARIABLES];
+} ducatbriar_row;
+
+typedef struct {
+    uint64_t number;
+    uint64_t rows;                           /* written */
+    uint64_t last[DUCATBRIAR_MAX_VARIABLES]; /* the last row written, or the given one if none was; words past n are 0 */
+} ducatbriar_joined_after;
+
+/* A window at a time, for a unit with little room. A start (`goes_on` false; `after` is not looked at) writes what ducatbriar_join writes, and answers the same
+ * number. Going on writes the rows that come strictly after the row `after` as read in the order, of the tables as they stand at this call; that row need not
+ * be an answer, and its words past n are not looked at. Refusals 8, 9, 10, 11, 15, 16, 6, 17, 12, in that sequence, as of ducatbriar_join: with 12 more rows
+ * remain than the window is rows long, and it holds the first of them; a window of no words then gets none, and `last` is the given row. At a start without
+ * rows, and with any other refusal, `last` is all zeros. With n = 0 a start gives the empty row, and going on gives none. Words behind the rows stay, and the
+ * pool is only read. It looks for its place by seeks: a call costs its checks, the search for one row, and the rows that it writes, not those before them.
+ *
+ * With tables unchanged and windows of at least a row, the pieces one behind the other are the rows of one join with room for all. The unit's loop, with room
+ * for twenty rows (examples/c/windows.c):
+ *
+ *     ducatbriar_row after = {{0}};
+ *     ducatbriar_joined_after piece;
+ *     bool goes_on = false;
+ *     do {
+ *         piece = ducatbriar_join_after(strategy, pool, len, tables, query, goes_on, after, window, 20 * query.n);
+ *         show(window, piece.rows);
+ *         after = ducatbriar_last(piece);
+ *         goes_on = true;
+ *     } while (piece.number == DUCATBRIAR_FULL);
+ */
+ducatbriar_joined_after ducatbriar_join_after(uint64_t strategy, const uint64_t *pool, uint64_t len, ducatbriar_tables tables, ducatbriar_query query,
+                                              bool goes_on, ducatbriar_row after, uint64_t *window, uint64_t window_len);
+
+/* An answer's last row, as the next call takes it. It is here and not in the archive. */
+static inline ducatbriar_row ducatbriar_last(ducatbriar_joined_after answer)
+{
+    ducatbriar_row row;
+    for (int i = 0; i < DUCATBRIAR_MAX_VARIABLES; i++)
+        row.words[i] = answer.last[i];
+    return row;
+}
+
 /* ---- a recorded listing, checked */
 
 /* What a check says of a listing. A refused one says nothing of it. */

@@ -3,7 +3,7 @@
  *     selftest [ROUNDS [FOLDER]]
  *
  * It replays the recorded answers in FOLDER (crates/replay/data), if there is one, printing the lines of crates/replay/stdout. Then it makes calls on
- * drawn words, sound and damaged ones, and prints how often each number of refusal came, on how many joins the two engines differ, what was said of listings, and one checksum over
+ * drawn words, sound and damaged ones, and prints how often each number of refusal came, on how many joins the two engines differ, for how many the rows by windows of a few are not those of one window, what was said of listings, and one checksum over
  * every number and word that came back: it is the same for each build and machine. Compiled with -DSELFTEST_SMALL it has no replay, no tables of 65,536 rows and fewer rounds, and so other numbers:
  * it needs 0.1 MB of memory, and the whole one 6.7 MB.
  *
@@ -144,6 +144,24 @@ static void cursors(void)
     }
 }
 
+/* The recorded rows by windows of `room` rows: each piece has those that follow the ones before, and the last of them. */
+static void pieces(const uint64_t *pool, uint64_t len, ducatbriar_tables ts, ducatbriar_query q, uint64_t strategy, uint64_t room, const uint64_t *rows, uint64_t count)
+{
+    uint64_t window[8 * 20], done = 0;
+    ducatbriar_row last = {{0}};
+    do {
+        uint64_t left = count - done, next = left < room ? left : room;
+        ducatbriar_joined_after a = ducatbriar_join_after(strategy, pool, len, ts, q, done > 0, last, window, room * q.n);
+        bool holds = a.number == (next < left ? 12 : 0) && a.rows == next;
+        for (uint64_t i = 0; i < next * q.n; i++)
+            holds = holds && window[i] == rows[done * q.n + i];
+        done += next;
+        for (uint64_t i = 0; i < q.n && next > 0; i++)
+            last.words[i] = rows[(done - 1) * q.n + i];
+        same(holds && memcmp(a.last, last.words, sizeof a.last) == 0);
+    } while (done < count);
+}
+
 static void joins(void)
 {
     static uint64_t pool[4096], rows[1024], window[1024], again[1024];
@@ -187,6 +205,9 @@ static void joins(void)
         c = ducatbriar_check_listing(pool, COUNT(pool), ts, q, rows, least, count - 1);
         same(c.number == 0 && c.verdict == DUCATBRIAR_MISSING_ROW && memcmp(c.missing, rows + least, (size_t)q.n * sizeof *rows) == 0);
     }
+    for (uint64_t strategy = 0; strategy < 3; strategy++)
+        for (uint64_t room = 1; room <= 20; room = room == 1 ? 3 : room + 17)
+            pieces(pool, COUNT(pool), ts, q, strategy, room, rows, count);
 }
 
 static void replay(const char *folder, const char *name, void (*one)(void))
@@ -217,6 +238,7 @@ static void replay(const char *folder, const char *name, void (*one)(void))
 static uint64_t state = UINT64_C(88172645463325252), sum = UINT64_C(14695981039346656037), calls, refusals[18];
 static uint64_t both, differ; /* joins asked of both engines, and those that the two answered differently */
 static uint64_t verdicts[4];  /* how often each came */
+static uint64_t listings, parted; /* joins asked by windows of a few rows, and those whose pieces are not the rows of one window */
 
 static uint64_t draw(uint64_t below)
 {
@@ -461,6 +483,47 @@ static void recorded(const uint64_t *pool, uint64_t len, const ducatbriar_tables
     check(pool, len, ts, q, bent, n, rows);
 }
 
+static ducatbriar_joined_after go_on(const uint64_t *pool, uint64_t len, const ducatbriar_tables *ts, const ducatbriar_query *q, uint64_t strategy, bool goes_on, ducatbriar_row after, uint64_t *window,
+                                     uint64_t size)
+{
+    ducatbriar_joined_after a = ducatbriar_join_after(strategy, pool, len, *ts, *q, goes_on, after, size ? window : NULL, size);
+    add_number(a.number), add(a.rows), add_words(a.last, COUNT(a.last)), add_words(window, size);
+    return a;
+}
+
+/* By windows of a few rows, up to where the join's window, which holds these rows, was full. A query that is refused by another number than 16 is refused by it here too. */
+static void by_windows(const uint64_t *pool, uint64_t len, const ducatbriar_tables *ts, const ducatbriar_query *q, uint64_t strategy, ducatbriar_joined j, const uint64_t *rows)
+{
+    uint64_t window[8 * 20], room = 1 + draw(20), size = q->n <= 8 ? room * q->n : room, done = 0;
+    ducatbriar_row after = {{draw(3), UINT64_MAX}};
+    ducatbriar_joined_after a;
+    bool known = j.number == 0 || j.number == 12, holds = true;
+    do {
+        memset(window, 7, sizeof window);
+        a = go_on(pool, len, ts, q, strategy, done > 0, after, window, size);
+        for (uint64_t i = 0; known && i < a.rows * q->n && done * q->n + i < j.rows * q->n; i++)
+            holds = holds && window[i] == rows[done * q->n + i];
+        after = ducatbriar_last(a);
+        done += a.rows;
+    } while (a.number == 12 && a.rows > 0 && done < j.rows);
+    if (known)
+        holds = holds && (a.number == 12 ? j.number == 12 || done < j.rows : a.number == 0) && (j.number == 12 ? done >= j.rows : done == j.rows);
+    else
+        holds = j.number == 16 || a.number == j.number;
+    add(holds);
+    listings++;
+    parted += !holds;
+}
+
+/* After a drawn row, which is seldom an answer. */
+static void after_drawn(const uint64_t *pool, uint64_t len, const ducatbriar_tables *ts, const ducatbriar_query *q, uint64_t strategy, uint64_t *window, uint64_t size)
+{
+    ducatbriar_row given;
+    for (size_t i = 0; i < COUNT(given.words); i++)
+        given.words[i] = key();
+    go_on(pool, len, ts, q, strategy, true, given, window, size);
+}
+
 static void query(const uint64_t *pool, uint64_t len, ducatbriar_tables ts)
 {
     uint64_t window[256], again[256];
@@ -495,6 +558,19 @@ static void query(const uint64_t *pool, uint64_t len, ducatbriar_tables ts)
     ducatbriar_plain_joined p = ducatbriar_plain_join(pool, len, ts, q, again, size);
     both_engines(j, p, memcmp(again, window, sizeof window) == 0);
     recorded(pool, len, &ts, &q, window, j.rows);
+    by_windows(pool, len, &ts, &q, strategy, j, window);
+    after_drawn(pool, len, &ts, &q, strategy, again, size);
+}
+
+/* A start has the empty row, and nothing comes after it. */
+static void no_variables(void)
+{
+    const ducatbriar_tables ts = {0};
+    const ducatbriar_query q = {0};
+    const ducatbriar_row given = {{1, 2, 3}};
+    uint64_t window[2] = {7, 7};
+    go_on(NULL, 0, &ts, &q, DUCATBRIAR_LINEAR, false, given, window, COUNT(window));
+    go_on(NULL, 0, &ts, &q, DUCATBRIAR_LINEAR, true, given, window, COUNT(window));
 }
 
 /* Plain for the most part, so that most joins pass 15. */
@@ -785,6 +861,9 @@ static void limits(void)
         ducatbriar_plain_joined p = ducatbriar_plain_join(pool, COUNT(pool), ts, q, again, COUNT(again));
         both_engines(j, p, memcmp(again, window, sizeof window) == 0);
         check(pool, COUNT(pool), &ts, &q, window, COUNT(window), 0); /* cut by 12 */
+        by_windows(pool, COUNT(pool), &ts, &q, strategy, j, window);
+        ducatbriar_row given = {{from % 300, 150, target}};
+        go_on(pool, COUNT(pool), &ts, &q, strategy, true, given, window, COUNT(window));
         ducatbriar_sought s = ducatbriar_partition_point(strategy, pool + from, COUNT(pool) - from, target);
         add(s.offset), add(s.probes), add(s.hit);
     }
@@ -804,6 +883,7 @@ int main(int argc, char **argv)
 #endif
     for (long i = 0; i < rounds; i++)
         round_of_calls();
+    no_variables();
     for (uint64_t arity = 1; arity <= 3; arity++)
         heap(arity);
 #ifndef SELFTEST_SMALL
@@ -814,6 +894,7 @@ int main(int argc, char **argv)
         printf(" %" PRIu64, refusals[i]);
     printf("\nboth engines: %" PRIu64 " joins, %" PRIu64 " differ", both, differ);
     printf("\nlistings: %" PRIu64 " accepted, %" PRIu64 " wrong, %" PRIu64 " lack a row, %" PRIu64 " not checked", verdicts[1], verdicts[2], verdicts[3], verdicts[0]);
+    printf("\nby windows: %" PRIu64 " joins, %" PRIu64 " differ", listings, parted);
     printf("\n%ld rounds, %" PRIu64 " calls, checksum %016" PRIx64 "\n", rounds, calls, sum);
     return 0;
 }

@@ -36,6 +36,13 @@ static void check_listing(void)
     ducatbriar_check_listing(pool, 4096, ts, q, window, 2048, 0);
 }
 
+/* After the first row, which is an answer, so that the search goes down with it to the last variable. */
+static void go_on(void)
+{
+    ducatbriar_row first = {{0}};
+    ducatbriar_join_after(2, pool, 4096, ts, q, true, first, window, 4096);
+}
+
 static void build(void)
 {
     for (size_t i = 0; i < 256; i++)
@@ -128,6 +135,7 @@ int main(void)
     measure("join", join);
     measure("plain_join", join_plainly);
     measure("check_listing", check_listing);
+    measure("join_after", go_on);
     measure("build", build);
     measure("insert", insert);
     measure("remove", take_out);

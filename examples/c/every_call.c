@@ -1,5 +1,5 @@
 /* Uses every call once or more, over keys that need more than 32 bits: a lesson's stretches of road and their grades, walked by a cursor, joined with the
- * friction of their surfaces into a window that is too small, and then into one that isn't, by both engines; what was listed is checked, as it is and bent; another
+ * friction of their surfaces into a window that is too small, and then into one that isn't, by both engines, and into one for a row at a time; what was listed is checked, as it is and bent; another
  * department asks the same by stretch, over a road that is rebuilt; the grades go to another unit as a file; a school's own friction is laid over the maker's, and at
  * the end a stretch is taken out.
  *
@@ -157,6 +157,23 @@ static void join_plainly(ducatbriar_tables tables, ducatbriar_query query, ducat
     printf("by the plain engine: %" PRIu64 " rows, %s\n", plainly.rows, same ? "the same" : "others");
 }
 
+/* The same rows, one at a time: each call goes on after the row of the one before. */
+static void join_by_rows(ducatbriar_tables tables, ducatbriar_query query, const uint64_t *rows)
+{
+    uint64_t window[4], calls = 0;
+    ducatbriar_row after = {{0}};
+    ducatbriar_joined_after piece;
+    bool same = true;
+    do {
+        piece = ducatbriar_join_after(DUCATBRIAR_GALLOPING, pool, COUNT(pool), tables, query, calls > 0, after, window, COUNT(window));
+        same = same && memcmp(window, rows + 4 * calls, sizeof window) == 0 && memcmp(window, piece.last, sizeof window) == 0;
+        after = ducatbriar_last(piece);
+        calls++;
+    } while (piece.number == DUCATBRIAR_FULL);
+    done("a row at a time", piece.number);
+    printf("a row at a time: %" PRIu64 " rows, %s\n", calls, same ? "the same" : "others");
+}
+
 /* What a check says of `len` words that are said to be the query's listing. */
 static void check(const char *what, ducatbriar_tables tables, ducatbriar_query query, const uint64_t *listing, uint64_t len)
 {
@@ -210,6 +227,7 @@ static void join(ducatbriar_tables tables)
     }
     printf("seeks: %" PRIu64 "\n", answer.seeks);
     join_plainly(tables, query, answer, window, COUNT(window));
+    join_by_rows(tables, query, window);
     dispute(tables, query, window, 4 * answer.rows);
 }
 

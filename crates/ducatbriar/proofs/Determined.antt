@@ -15,6 +15,7 @@ use Rattle.column_trie_listing.proofs.Lists as lists
 use Rattle.file_write.proofs.Files as writes
 use Rattle.leapfrog_triejoin.proofs.Determined as joins
 use Rattle.plain_join.proofs.Determined as plain-joins
+use Rattle.rows_after.proofs.Determined as joins-after
 use Rattle.ducatbriar.proofs.ducatbriar_partition_point.Reads as partition-point-reads
 use Rattle.ducatbriar.proofs.ducatbriar_word_of.Reads as word-of-reads
 use Rattle.ducatbriar.proofs.ducatbriar_grade_of.Reads as grade-of-reads
@@ -43,6 +44,7 @@ use Rattle.ducatbriar.proofs.ducatbriar_laid_up.Reads as laid-up-reads
 use Rattle.ducatbriar.proofs.ducatbriar_join.Reads as join-reads
 use Rattle.ducatbriar.proofs.ducatbriar_plain_join.Reads as plain-join-reads
 use Rattle.ducatbriar.proofs.ducatbriar_check_listing.Reads as check-listing-reads
+use Rattle.ducatbriar.proofs.ducatbriar_join_after.Reads as join-after-reads
 
 -- ---- calls that write nothing: one answer for each list of arguments
 
@@ -148,3 +150,6 @@ join κs args r₁ r₂ e₁ e₂ p q = (joins.one-answer p q, joins.one-window 
 
 pub plain-join : (κs : Lfts 2) → OneOutcome (plain-join-reads.Post κs) (λ e. now (e .1 .1 .1 .0))
 plain-join κs args r₁ r₂ e₁ e₂ p q = (plain-joins.one-answer p q, plain-joins.one-window p q)
+
+pub join-after : (κs : Lfts 2) → OneOutcome (join-after-reads.Post κs) (λ e. now (e .1 .1 .1 .1 .1 .1 .0))
+join-after κs args r₁ r₂ e₁ e₂ p q = (joins-after.one-answer p q, joins-after.one-window p q)

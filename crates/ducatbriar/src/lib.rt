@@ -19,6 +19,7 @@ ghost use Rattle.overlay_lookup.specs.Lookup.{lookedUp};
 ghost use Rattle.overlay_iter.specs.Calls.{laidKeyOf, laidNextOf, laidSoughtOf, laidEndOf, laidOpenOf, laidUpOf};
 ghost use Rattle.leapfrog_triejoin.specs.Outcome.{Joins};
 ghost use Rattle.plain_join.specs.Outcome.{PlainJoins};
+ghost use Rattle.rows_after.specs.After.{JoinsAfter};
 ghost use Rattle.listing_verdict.specs.Checked.{Checks};
 ghost use Rattle.strategy_word.specs.Strategy.{strategyOf};
 use column_trie::ColumnTrie;
@@ -45,6 +46,7 @@ use overlay_iter::LaidUpAnswer;
 use overlay_lookup::LookedUp;
 use overlay_place::LaidIter;
 use plain_join::PlainJoined;
+use rows_after::JoinedAfter;
 use seek::Sought;
 use strategy_word::strategy_of;
 
@@ -366,4 +368,34 @@ pub extern "C" fn ducatbriar_check_listing(
     ensures { λ r. ⌜ Checks (now (pool .entry)) tables query (now (listing .entry)) count r ⌝ }
 {
     listing_check::check_listing(pool, tables, query, listing, count)
+}
+
+// A row by variable number: C passes no array by value.
+#[repr(C)]
+pub struct Row {
+    pub words: [u64; Query::MAX_VARIABLES],
+}
+
+#[no_mangle]
+pub extern "C" fn ducatbriar_join_after(
+    strategy: u64,
+    pool: &[u64],
+    tables: Tables,
+    query: Query,
+    goes_on: bool,
+    after: Row,
+    window: &mut [u64],
+) -> JoinedAfter
+    ensures { λ r. ⌜ JoinsAfter (now (pool .entry)) tables query «goes_on» (after .words) (now (window .entry)) r (now (window .exit)) ⌝ }
+{
+    let words = after.words;
+    join_after::join_after(
+        strategy_of(strategy),
+        pool,
+        tables,
+        query,
+        goes_on,
+        words,
+        window,
+    )
 }

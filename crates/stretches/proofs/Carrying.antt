@@ -59,10 +59,10 @@ module _ (pool : List ℕ) (s : Stand) (q : ℕ) (f : s .at ≤ q) (w : q ≤ s 
   whole-split : wholeOf pool s ≡ part pool (s .at) q ++ wholeOf pool (atPlace s q)
   whole-split = ap (λ (r : List ℕ). r ++ tailOf pool s) (part-split pool (s .at) q (s .end) f w) ∙ append-assoc (part pool (s .at) q) (part pool q (s .end)) (tailOf pool s)
 
-  moved-tailed : Tailed pool s → Tailed pool (atPlace s q)
+  pub moved-tailed : Tailed pool s → Tailed pool (atPlace s q)
   moved-tailed t = record { behind = λ n. record { room = t .behind n .room; inside = t .behind n .inside }; ascends = split (part pool (s .at) q) (subst (Ascends _<_) whole-split (t .ascends)) .1 }
 
-  moved-laid : Tailed pool s → {lo : ℕ → ℕ} {school : List ℕ} → Laid pool lo school s → Laid pool lo school (atPlace s q)
+  pub moved-laid : Tailed pool s → {lo : ℕ → ℕ} {school : List ℕ} → Laid pool lo school s → Laid pool lo school (atPlace s q)
   moved-laid t {lo} {school} l = record {
     side = l .side;
     low = omega (arith, l .low);

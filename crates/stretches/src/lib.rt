@@ -78,7 +78,7 @@ pub fn take_stretch(
 }
 
 // Puts atom a, whose piece has ended, on the piece with its run's first key not below `target`; false where there is none.
-fn refill(
+pub fn refill(
     pool: &[u64],
     at: &mut [usize; MAX_ATOMS],
     end: &mut [usize; MAX_ATOMS],

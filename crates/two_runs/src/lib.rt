@@ -22,7 +22,7 @@ pub struct Runs {
 }
 
 // The place of the first key not below `target` in the run from x to e, or e.
-fn seek_run(pool: &[u64], x: usize, e: usize, target: u64, strategy: SeekStrategy) -> usize
+pub fn seek_run(pool: &[u64], x: usize, e: usize, target: u64, strategy: SeekStrategy) -> usize
     requires { ⌜ (x ≤ e) × (e ≤ length (now pool)) ⌝ }
     requires { ⌜ Ascends _<_ (part (now pool) x e) ⌝ }
     ensures { λ r. ⌜ Reached (now (pool .entry)) x e target r ⌝ }

@@ -33,6 +33,7 @@ mod sides;
 mod times;
 #[cfg(kermit)]
 mod verdicts;
+mod windows;
 
 /// What a group is called, and what prints its table, given how often each side is timed.
 #[cfg(kermit)]
@@ -51,6 +52,7 @@ const GROUPS: &[(&str, fn(usize))] = &[
     ("overlay", overlay::overlay),
     ("plain", engines::plain),
     ("verdict", verdicts::verdict),
+    ("windows", windows::windows),
 ];
 
 #[cfg(kermit)]

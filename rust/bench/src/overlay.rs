@@ -42,7 +42,7 @@ fn line(times: usize, set: &data::Set, school: (&str, fn(u64) -> bool)) {
 }
 
 /// How many rows a join has: a window grows until it holds them.
-fn answers(strategy: SeekStrategy, pool: &[u64], tables: calls::Tables, query: Query) -> usize {
+pub fn answers(strategy: SeekStrategy, pool: &[u64], tables: calls::Tables, query: Query) -> usize {
     let mut window = vec![1; 3 << 16];
     loop {
         let joined = calls::join(strategy, pool, tables, query, &mut window);

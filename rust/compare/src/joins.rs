@@ -1,6 +1,8 @@
 //! Joins: rows and seeks under all strategies and in windows of every size around full against kermit, and refusals against document 01's table. The plain
-//! engine, which has no strategy, is held to the same in each of these windows, and so to the other engine. kermit knows no kinds and no window: where a
-//! query passes the checks kinds change nothing, and a window that is not whole rows gets nothing.
+//! engine, which has no strategy, is held to the same in each of these windows, and so to the other engine; and so is a start of the join that goes on
+//! (after.rs), which over changed words is asked to go on too. kermit knows no kinds and no window: where a query passes the checks kinds change nothing, and
+//! a window that is not whole rows gets nothing.
+use crate::after;
 use crate::case::{shorter, show_rows, smaller_rows, Case, Tally};
 use crate::kermit;
 use crate::model::{self, Row};
@@ -102,12 +104,13 @@ impl Call {
         }
     }
 
-    /// The leapfrogs under a strategy, held to the answer and the words that are expected of a window.
+    /// The leapfrogs under a strategy, and a start of the join that goes on, held to the answer and the words that are expected of a window.
     fn leapt(&self, strategy: SeekStrategy, answer: Joined, words: &[u64], tally: &mut Tally) -> Result<(), String> {
         let mut window = marked(words.len());
         let ours = join(strategy, &self.pool, self.tables, self.query, &mut window);
         tally.same(ours, answer, || format!("{strategy:?}, window of {}, answer", words.len()))?;
-        tally.same(&window[..], words, || format!("{strategy:?}, window of {}, words", words.len()))
+        tally.same(&window[..], words, || format!("{strategy:?}, window of {}, words", words.len()))?;
+        after::start(self, strategy, answer, words, tally)
     }
 
     /// The plain engine held to the same, and so to the leapfrogs. It makes no seeks.
@@ -130,7 +133,7 @@ impl Call {
         Ok(())
     }
 
-    /// Both engines, all strategies, into a window of so many words, by document 01; and what the checker says of it.
+    /// Both engines, all strategies, into a window of so many words, by document 01; what the checker says of it; and going on.
     pub fn run(&self, size: usize, tally: &mut Tally) -> Result<(), String> {
         for strategy in SeekStrategy::ALL {
             let mut words = marked(size);
@@ -141,7 +144,7 @@ impl Call {
                 self.checked(answer.rows, &words, tally)?;
             }
         }
-        Ok(())
+        after::any(self, size, tally)
     }
 }
 
@@ -231,12 +234,16 @@ pub fn exhaustive() -> impl Iterator<Item = Joins> {
         let atoms = vec![(0, follow(0, 1)), (1, follow(1, 2)), (2, follow(0, 2))];
         Joins { tables: relations.into_iter().map(|rows| (2, rows)).collect(), atoms, order }
     });
-    let paths = crate::cursors::subsets(&all_rows(2, 3), 4).into_iter().map(|rows| Joins {
+    triangles.chain(paths())
+}
+
+/// All paths of two atoms over one relation of keys 0 to 2 with up to four rows.
+pub fn paths() -> impl Iterator<Item = Joins> {
+    crate::cursors::subsets(&all_rows(2, 3), 4).into_iter().map(|rows| Joins {
         order: vec![0, 1, 2],
         tables: vec![(2, rows)],
         atoms: vec![(0, vec![0, 1]), (0, vec![1, 2])],
-    });
-    triangles.chain(paths)
+    })
 }
 
 /// Over tables with as many rows as they can have: all rows of one, what a small one leaves of it, and a triangle.
@@ -303,6 +310,15 @@ impl fmt::Display for Graded {
 }
 
 impl Graded {
+    /// Without grades.
+    pub fn plain(base: Joins) -> Graded {
+        Graded { base, grades: vec![] }
+    }
+
+    pub fn call(&self) -> Call {
+        self.base.call(&self.kinds())
+    }
+
     pub fn kinds(&self) -> Vec<Kinds> {
         let mut is_grade: Vec<bool> = (0..self.base.order.len()).map(|v| self.grades.contains(&v)).collect();
         let mut kinds = vec![Kinds::default(); self.base.tables.len()];
@@ -323,7 +339,7 @@ impl Graded {
 
 impl Case for Graded {
     fn run(&self, tally: &mut Tally) -> Result<(), String> {
-        self.base.run_call(&self.base.call(&self.kinds()), tally)
+        self.base.run_call(&self.call(), tally)
     }
 
     fn smaller(&self) -> Vec<Self> {
@@ -374,7 +390,7 @@ pub fn words(call: &mut Call) -> Vec<&mut u64> {
 
 impl Case for Changed {
     fn run(&self, tally: &mut Tally) -> Result<(), String> {
-        let mut call = self.base.base.call(&self.base.kinds());
+        let mut call = self.base.call();
         self.kinds.iter().for_each(|&(table, column)| call.tables.tables[table].grade[column] ^= true);
         let mut all = words(&mut call);
         for &(i, word) in &self.changes {
@@ -396,12 +412,11 @@ impl Case for Changed {
 /// A triangle over small tables.
 fn triangle() -> Graded {
     let table = || (2, vec![vec![0, 1], vec![1, 2], vec![1, 1]]);
-    let base = Joins {
+    Graded::plain(Joins {
         order: vec![0, 1, 2],
         tables: vec![table(), table(), table()],
         atoms: vec![(0, vec![0, 1]), (1, vec![1, 2]), (2, vec![0, 2])],
-    };
-    Graded { base, grades: vec![] }
+    })
 }
 
 /// A triangle with every choice of kinds for its six columns and one past the arity, over words as they are and over damaged ones, into a window of whole

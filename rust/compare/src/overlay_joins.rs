@@ -45,6 +45,10 @@ impl fmt::Display for LaidJoins {
 }
 
 impl LaidJoins {
+    pub fn variables(&self) -> usize {
+        self.order.len()
+    }
+
     fn rows(&self, table: usize) -> Vec<Row> {
         match table.checked_sub(self.tables.len()) {
             None => self.tables[table].1.clone(),

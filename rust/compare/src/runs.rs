@@ -1,10 +1,10 @@
 //! The runs by name: what is exhaustive, then so many random cases.
 use crate::case::{check, Case, Tally};
 use crate::rng::Rng;
-use crate::{changes, cursors, damage, files, joins, orders, overlay, overlay_joins, seeks, tables, verdicts};
+use crate::{after, changes, cursors, damage, files, joins, orders, overlay, overlay_joins, seeks, tables, verdicts};
 
-pub const NAMES: [&str; 11] =
-    ["seeks", "tables", "changes", "files", "cursors", "joins", "overlay", "overlay_joins", "orders", "verdicts", "damage"];
+pub const NAMES: [&str; 12] =
+    ["seeks", "tables", "changes", "files", "cursors", "joins", "overlay", "overlay_joins", "orders", "verdicts", "after", "damage"];
 
 fn all<C: Case>(tally: &mut Tally, cases: impl IntoIterator<Item = C>) -> Result<(), String> {
     cases.into_iter().try_for_each(|case| check(case, tally))
@@ -91,6 +91,16 @@ pub fn run(name: &str, seed: u64, rounds: usize) -> Result<Tally, String> {
             all(t, verdicts::no_variables())?;
             all(t, large.then(|| verdicts::large(rng)).into_iter().flatten())?;
             some(t, rng, 10 * rounds, verdicts::random)?;
+        }
+        "after" => {
+            all(t, after::exhaustive())?;
+            if large {
+                let (chains, singles) = after::large(rng);
+                all(t, chains)?;
+                all(t, singles)?;
+            }
+            some(t, rng, rounds, after::chain)?;
+            some(t, rng, 2 * rounds, after::single)?;
         }
         "damage" => {
             all(t, damage::exhaustive())?;

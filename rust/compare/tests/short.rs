@@ -57,6 +57,11 @@ mod short {
     }
 
     #[test]
+    fn after() {
+        run("after");
+    }
+
+    #[test]
     fn damage() {
         run("damage");
     }

@@ -102,6 +102,11 @@ c_struct!(
     PlainJoined { number: u64, rows: u64 }
 );
 c_struct!(
+    /// The rows written, and the last of them by variable number, or the given row if none was; words past n are 0. All of it is 0 at a start without rows and
+    /// in refusals but 12.
+    JoinedAfter { number: u64, rows: u64, last: [u64; MAX_VARIABLES] }
+);
+c_struct!(
     /// The verdict on a listing: 0 nothing was checked, 1 accepted, 2 wrong at `row`, 3 `missing` is the least row missing. `row` is 0 unless the verdict is 2, and
     /// `missing` zeros unless it is 3; its words past the variables are zero.
     Checked { number: u64, verdict: u64, row: u64, missing: [u64; MAX_VARIABLES] }
@@ -109,6 +114,10 @@ c_struct!(
 
 mod c {
     use super::*;
+    c_struct!(
+        /// A row by value: C passes no array so.
+        Row { words: [u64; MAX_VARIABLES] }
+    );
     unsafe extern "C" {
         pub fn ducatbriar_partition_point(strategy: u64, remaining: *const u64, len: u64, target: u64) -> Sought;
         pub fn ducatbriar_word_of(grade: i64) -> u64;
@@ -242,6 +251,17 @@ mod c {
             window: *mut u64,
             window_len: u64,
         ) -> PlainJoined;
+        pub fn ducatbriar_join_after(
+            strategy: u64,
+            pool: *const u64,
+            len: u64,
+            tables: Tables,
+            query: Query,
+            goes_on: bool,
+            after: Row,
+            window: *mut u64,
+            window_len: u64,
+        ) -> JoinedAfter;
         pub fn ducatbriar_check_listing(
             pool: *const u64,
             len: u64,
@@ -414,6 +434,49 @@ pub fn join(strategy: SeekStrategy, pool: &[u64], tables: Tables, query: Query, 
 /// The same by the plain engine, which has no strategy and no seeks: number, rows and window words are those of [`join`] on every input. Slower by design.
 pub fn plain_join(pool: &[u64], tables: Tables, query: Query, window: &mut [u64]) -> PlainJoined {
     unsafe { c::ducatbriar_plain_join(pool.as_ptr(), pool.len() as u64, tables, query, window.as_mut_ptr(), window.len() as u64) }
+}
+
+/// The rows of [`join`] a window at a time: all of them at a start, else those that come strictly after the row `after` as read in the order, whether or not
+/// it is an answer; its first n words count. Refusals 8, 9, 10, 11, 15, 16, 6, 17, and 12 where more rows remain than fit: then the next call goes on
+/// after [`last`](JoinedAfter::last).
+///
+/// ```
+/// use ducatbriar::calls::{build, join_after, Atom, Kinds, Query, SeekStrategy, Tables};
+/// let mut pool = [0; 6];
+/// let table = build(&mut [30, 10, 20], &mut pool, 0, 1, 3, Kinds::default()).table;
+/// let mut tables = Tables { count: 1, ..Default::default() };
+/// tables.tables[0] = table;
+/// let mut query = Query { n: 1, atom_count: 1, ..Default::default() };
+/// query.atoms[0] = Atom { len: 1, ..Default::default() };
+/// let mut window = [0; 2];
+/// let first = join_after(SeekStrategy::Galloping, &pool, tables, query, false, [0; 8], &mut window);
+/// assert_eq!((first.number, window, first.last[0]), (12, [10, 20], 20));
+/// let rest = join_after(SeekStrategy::Galloping, &pool, tables, query, true, first.last, &mut window);
+/// assert_eq!((rest.number, rest.rows, window[0], rest.last[0]), (0, 1, 30, 30));
+/// ```
+pub fn join_after(
+    strategy: SeekStrategy,
+    pool: &[u64],
+    tables: Tables,
+    query: Query,
+    goes_on: bool,
+    after: [u64; MAX_VARIABLES],
+    window: &mut [u64],
+) -> JoinedAfter {
+    let (row, len) = (c::Row { words: after }, window.len() as u64);
+    unsafe {
+        c::ducatbriar_join_after(
+            strategy as u64,
+            pool.as_ptr(),
+            pool.len() as u64,
+            tables,
+            query,
+            goes_on,
+            row,
+            window.as_mut_ptr(),
+            len,
+        )
+    }
 }
 
 /// Whether the words are the query's complete listing, and where not. The count of rows is read for a query without variables alone, whose rows have no words.

@@ -4,8 +4,8 @@
 //! owns the words of its tables and lends them to cursors and joins, and a table goes to another machine as a file ([`Table::to_bytes`], [`Pool::read`]).
 //! A table is rebuilt with its columns in another sequence for a query in another order ([`Pool::permute`], [`Pool::follow_order`]).
 //! What some unit gave for a query is checked by [`Pool::check_listing`].
-//! A school's table can be laid over a maker's: [`Query::laid_over`], and [`Laid`] for lookups and cursors. [`calls`] has the calls themselves, one function
-//! each, for callers who keep their own words.
+//! A school's table can be laid over a maker's: [`Query::laid_over`], and [`Laid`] for lookups and cursors. A join with more rows than one wants to hold is
+//! read a window at a time: [`Pool::windows`]. [`calls`] has the calls themselves, one function each, for callers who keep their own words.
 //!
 //! ```
 //! use ducatbriar::{Pool, Query, SeekStrategy};
@@ -32,6 +32,7 @@ mod laid;
 mod pool;
 mod query;
 mod refusal;
+mod windows;
 
 pub mod calls;
 pub mod limits;
@@ -42,6 +43,7 @@ pub use laid::{Laid, LaidCursor};
 pub use pool::{Cursor, Filled, Pool, Rows, RowsIter, Table, Verdict};
 pub use query::Query;
 pub use refusal::Refusal;
+pub use windows::{Piece, Windows};
 
 /// That of the header and of CHANGELOG.md.
 pub const VERSION: &str = env!("CARGO_PKG_VERSION");

@@ -2,6 +2,7 @@
 use crate::calls::{self, ColumnTrie, ColumnTrieIter, Columns, SeekAnswer, SeekStrategy, Tables};
 use crate::kind::{kinds_of, leading, words_of, Cell, Kind};
 use crate::limits::{file, listing, words, MAX_ARITY, MAX_CAPACITY, MAX_VARIABLES};
+use crate::windows::{filled, Join, Piece, Windows};
 use crate::{Query, Refusal};
 use std::ops::Range;
 
@@ -493,24 +494,79 @@ impl Pool {
         window: &mut [u64],
     ) -> Result<Filled, Refusal> {
         let joined = calls::join(strategy, &self.words, Self::tables(tables), query.query, window);
-        let full = Self::filled(joined.number)?;
+        let full = filled(joined.number)?;
         Ok(Filled { rows: joined.rows as usize, full, seeks: joined.seeks })
     }
 
-    /// Whether the window was too small for all rows (number 12), of a join that isn't refused otherwise.
-    fn filled(number: u64) -> Result<bool, Refusal> {
-        let full = number == Refusal::Full.number();
-        if !full {
-            Refusal::check(number)?;
-        }
-        Ok(full)
+    /// Writes the rows of the query that fit into the window: from the first on, or of those that come strictly after a given row as read in the query's
+    /// order, by variable number in the first words of eight. That row need not be an answer, and the tables may have changed since it was. The window's length
+    /// is a multiple of the number of variables, or is refused with 16. [`Pool::windows`] goes on by itself.
+    ///
+    /// ```
+    /// # fn main() -> Result<(), ducatbriar::Refusal> {
+    /// use ducatbriar::{Pool, Query, SeekStrategy};
+    /// let mut pool = Pool::new();
+    /// let mut bands = pool.build(1, 4, &[[10], [20], [30]])?;
+    /// let query = Query::new(&[0]).atom(0, &[0]);
+    /// let mut window = [0; 2];
+    /// let first = pool.join_after_into(SeekStrategy::Galloping, &[&bands], &query, None, &mut window)?;
+    /// assert_eq!((first.rows, first.full, window), (2, true, [10, 20]));
+    /// pool.remove(&mut bands, &[20])?;
+    /// pool.insert(&mut bands, &[25])?;
+    /// let rest = pool.join_after_into(SeekStrategy::Galloping, &[&bands], &query, Some(first.last), &mut window)?;
+    /// assert_eq!((rest.rows, rest.full, window), (2, false, [25, 30]));
+    /// # Ok(())
+    /// # }
+    /// ```
+    pub fn join_after_into(
+        &self,
+        strategy: SeekStrategy,
+        tables: &[&Table],
+        query: &Query,
+        after: Option<[u64; MAX_VARIABLES]>,
+        window: &mut [u64],
+    ) -> Result<Piece, Refusal> {
+        self.join_over(strategy, tables, query).piece(after, window)
     }
 
     /// All rows of the query, each by variable number, ascending as read in the query's order.
     pub fn join(&self, strategy: SeekStrategy, tables: &[&Table], query: &Query) -> Result<Rows, Refusal> {
-        Self::all_rows(tables, query, |window| {
-            self.join_into(strategy, tables, query, window).map(|filled| (filled.rows, filled.full))
-        })
+        let (join, width) = (self.join_over(strategy, tables, query), query.variables());
+        let mut words = vec![0; first_window(width)];
+        let mut piece = join.piece(None, &mut words)?;
+        let mut count = piece.rows;
+        while piece.full {
+            // The rows that are there stay, and the join goes on behind them.
+            words.resize(4 * words.len(), 0);
+            piece = join.piece(Some(piece.last), &mut words[count * width..])?;
+            count += piece.rows;
+        }
+        words.truncate(count * width);
+        Ok(Rows { kinds: Self::kinds(tables, query), count, words })
+    }
+
+    /// The rows of the query one by one, each by variable number, ascending as read in the query's order, found a window at a time: no more of them are held than
+    /// `rows`, or one.
+    ///
+    /// ```
+    /// # fn main() -> Result<(), ducatbriar::Refusal> {
+    /// use ducatbriar::{Pool, Query, SeekStrategy};
+    /// let mut pool = Pool::new();
+    /// let r = pool.build(2, 100, &(0..100).map(|i| [i / 10, i]).collect::<Vec<_>>())?;
+    /// // R(0, 1), R(0, 2): a thousand rows, twenty at a time
+    /// let query = Query::new(&[0, 1, 2]).atom(0, &[0, 1]).atom(0, &[0, 2]);
+    /// let mut rows = pool.windows(SeekStrategy::Galloping, &[&r], &query, 20)?;
+    /// assert_eq!(rows.next_row(), Some(&[0, 0, 0][..]));
+    /// assert_eq!(rows.count(), 999);
+    /// # Ok(())
+    /// # }
+    /// ```
+    pub fn windows(&self, strategy: SeekStrategy, tables: &[&Table], query: &Query, rows: usize) -> Result<Windows<'_>, Refusal> {
+        Windows::new(self.join_over(strategy, tables, query), query.variables(), rows)
+    }
+
+    fn join_over(&self, strategy: SeekStrategy, tables: &[&Table], query: &Query) -> Join<'_> {
+        Join { words: &self.words, strategy, tables: Self::tables(tables), query: query.query }
     }
 
     /// The same rows, or the same refusal, by the plain engine: for someone who examines the other one (docs/EXAMINER.md). Slower by design.
@@ -529,10 +585,18 @@ impl Pool {
     /// # }
     /// ```
     pub fn plain_join(&self, tables: &[&Table], query: &Query) -> Result<Rows, Refusal> {
-        Self::all_rows(tables, query, |window| {
-            let joined = calls::plain_join(&self.words, Self::tables(tables), query.query, window);
-            Ok((joined.rows as usize, Self::filled(joined.number)?))
-        })
+        let width = query.variables();
+        let mut words = vec![0; first_window(width)];
+        loop {
+            // It can't go on behind a row, so a window that is too small is made larger until it holds all.
+            let joined = calls::plain_join(&self.words, Self::tables(tables), query.query, &mut words);
+            let count = joined.rows as usize;
+            if !filled(joined.number)? {
+                words.truncate(count * width);
+                return Ok(Rows { kinds: Self::kinds(tables, query), count, words });
+            }
+            words.resize(4 * words.len(), 0);
+        }
     }
 
     /// Checks a listing that some unit gave for this query over these tables (docs/DISPUTES.md): each row by variable number. It uses no leapfrog. A row that
@@ -564,25 +628,11 @@ impl Pool {
             _ => Verdict::Missing(checked.missing[..query.variables()].to_vec()),
         })
     }
+}
 
-    /// What an engine, which says how many rows it wrote and whether more exist, writes into a window that grows until it holds all.
-    fn all_rows(
-        tables: &[&Table],
-        query: &Query,
-        engine: impl Fn(&mut [u64]) -> Result<(usize, bool), Refusal>,
-    ) -> Result<Rows, Refusal> {
-        let width = query.variables();
-        // Whole rows, and so are four times as many.
-        let mut words = vec![0; 256 * width.min(MAX_VARIABLES)];
-        loop {
-            let (count, full) = engine(&mut words)?;
-            if !full {
-                words.truncate(count * width);
-                return Ok(Rows { kinds: Self::kinds(tables, query), count, words });
-            }
-            words.resize(4 * words.len(), 0);
-        }
-    }
+/// The words of a first window for rows so wide: whole rows, and so are four times as many.
+fn first_window(width: usize) -> usize {
+    256 * width.min(MAX_VARIABLES)
 }
 
 /// A cursor over a table: a trie iterator. The table can't change while one looks at it.

@@ -56,7 +56,8 @@ refusals!(
     BadList = 10,
     /// By a join.
     FreeVariable = 11,
-    /// By a join, whose window holds the rows that fit. [`Pool::join_into`](crate::Pool::join_into) says it as [`Filled::full`](crate::Filled::full).
+    /// By a join, whose window holds the rows that fit. [`Pool::join_into`](crate::Pool::join_into) says it as [`Filled::full`](crate::Filled::full), and
+    /// [`Pool::join_after_into`](crate::Pool::join_after_into) as [`Piece::full`](crate::Piece::full).
     Full = 12,
     /// By a read.
     NotAFile = 13,
@@ -64,7 +65,8 @@ refusals!(
     LongText = 14,
     /// By a join: a grade is joined to what is none.
     MixedKinds = 15,
-    /// By a join whose window is not whole rows, never by [`Pool::join`](crate::Pool::join), whose own window is; or by a check of a listing that is not.
+    /// By a join whose window is not whole rows, never by [`Pool::join`](crate::Pool::join) or [`Pool::windows`](crate::Pool::windows), whose own windows are; or by
+    /// a check of a listing that is not.
     PartRows = 16,
     /// By a join, a lookup or a cursor over two tables, one laid over the other, that are not of the same arity and kinds.
     OtherShape = 17,

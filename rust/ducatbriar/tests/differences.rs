@@ -57,3 +57,15 @@ fn no_19_a_row_is_taken_out() {
     assert_eq!(pool.remove(&mut table, &[1]), Ok(true));
     assert!(table.is_empty());
 }
+
+#[test]
+fn no_23_a_join_goes_on_after_a_row() {
+    let mut pool = Pool::new();
+    let table = pool.build(1, 1, &[[1]]).unwrap();
+    let query = Query::new(&[0]).atom(0, &[0]);
+    let rows = |after: u64| {
+        let given = Some([after, 0, 0, 0, 0, 0, 0, 0]);
+        pool.join_after_into(SeekStrategy::Linear, &[&table], &query, given, &mut [7]).map(|piece| piece.rows)
+    };
+    assert_eq!((rows(1), rows(0)), (Ok(0), Ok(1)));
+}
