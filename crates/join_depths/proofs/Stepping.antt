@@ -1,10 +1,12 @@
 -- The steps of a depth, from the leapfrog's answers: said of the ring in atom order, whichever ring was searched.
 -- Idea: both rings have the same atoms, and what is said of runs and keys does not depend on their sequence.
 use Prim.Native.Nat.{ℕ, _+_, _<_}
-use mathlib.Core.Path.{_≡_, refl, ap, ap₂, _∙_}
+use mathlib.Core.Path.{_≡_, refl, sym, ap, ap₂, _∙_}
+use mathlib.Core.Logic.{_⊎_, inl, inr}
 use mathlib.Core.Bool.{Bool, true, false}
 use mathlib.Core.List.{List, [], _∷_, _++_, map}
 use lib.ListN.{getD, take}
+use Rattle.relation.specs.Order.{pick}
 use Rattle.relation.specs.Lists.{_∈_, hd, tl, Ascends}
 use Rattle.relation.specs.Runs.{from}
 use Rattle.query.specs.Meet.{meet}
@@ -78,13 +80,20 @@ ran-leapt {pool} {ends} {ring} {k} {z = z} {w} {r} before d = record { made = r 
     go (Key x p) c = c
     go (Nothing p) c = (ap (λ (v : Went). v .stop) c, ap (λ (v : Went). v .seeks) c)
 
--- either way
-module _ {pool ends ring byAtom : List ℕ} {z : State} {k p : ℕ} {last : Bool} (g : WholeAgreed pool z ends byAtom k (keyAt pool (z .at) (getD byAtom 0 0)) p) {z′ : State} {r a : Searched} (before : ℕ) (e : a ≡ sinceOf before r) where
-  pub onward-last : last ≡ true → SameAtoms byAtom ring k → WholeRan pool ends ring k z z′ (nextOf (wholesIn pool z ends ring k) p) r → Onward pool ends ring byAtom k p last z z′ before a
-  onward-last l s d = rw (e, l) (record { steps = went-on g s d; leapt = ran-leapt before d })
+-- either way: `turn` is the ring that is searched, from `start` on
+module _ {pool ends ring byAtom : List ℕ} {z : State} {k p : ℕ} (g : WholeAgreed pool z ends byAtom k (keyAt pool (z .at) (getD byAtom 0 0)) p) (s : SameAtoms byAtom ring k) {turn : List ℕ} {start : ℕ} where
+  pub turn-agreed : (last : Bool) → turn ≡ pick last ring byAtom → start ≡ pick last p 0 → WholeAgreed pool z ends turn k (keyAt pool (z .at) (getD turn start 0)) start
+  turn-agreed true t b = rw (t, b) (goes-on g s)
+  turn-agreed false t b = rw (t, b) (begins-anew g)
 
-  pub onward-anew : last ≡ false → WholeRan pool ends byAtom k z z′ (nextOf (wholesIn pool z ends byAtom k) 0) r → Onward pool ends ring byAtom k p last z z′ before a
-  onward-anew l d = rw (e, l) (record { steps = went-anew g d; leapt = ran-leapt before d })
+  pub turn-onward : (last : Bool) → turn ≡ pick last ring byAtom → start ≡ pick last p 0 → {z′ : State} {r a : Searched} (before : ℕ) → a ≡ sinceOf before r → WholeRan pool ends turn k z z′ (nextOf (wholesIn pool z ends turn k) start) r → Onward pool ends ring byAtom k p last z z′ before a
+  turn-onward true t b before e d = rw e (let d′ = rw (t, b) at d in record { steps = went-on g s d′; leapt = ran-leapt before d′ })
+  turn-onward false t b before e d = rw e (let d′ = rw (t, b) at d in record { steps = went-anew g d′; leapt = ran-leapt before d′ })
+
+-- where the search starts, from the way that was gone
+pub start-is : (last : Bool) {p start : ℕ} → ((last ≡ true) × (start ≡ p)) ⊎ ((last ≡ false) × (start ≡ 0)) → start ≡ pick last p 0
+start-is last {p} (inl w) = w .1 ∙ ap (λ (b : Bool). pick b p 0) (sym (w .0))
+start-is last {p} (inr w) = w .1 ∙ ap (λ (b : Bool). pick b p 0) (sym (w .0))
 
 -- ---- the first key
 

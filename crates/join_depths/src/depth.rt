@@ -2,6 +2,7 @@
 ghost use mathlib.Core.Path.{_≡_};
 ghost use Prim.Native.Nat.{_+_, _≤_, _<_};
 ghost use lib.ListN.{getD};
+ghost use Rattle.relation.specs.Order.{pick};
 ghost use Rattle.leapfrog.specs.Walk.{capped};
 ghost use Rattle.ring_sort.specs.Sorted.{keyAt};
 ghost use Rattle.leapfrog_join.specs.Ring.{SameAtoms};
@@ -186,8 +187,22 @@ pub fn open(
     )
 }
 
+// The ring itself, or the one in atom order.
+fn chosen<'a>(
+    last: bool,
+    ring: &'a [usize; MAX_ATOMS],
+    by_atom: &'a [usize; MAX_ATOMS],
+) -> &'a [usize; MAX_ATOMS]
+    ensures { λ r. ⌜ now r ≡ pick last (now (ring .entry)) (now («by_atom» .entry)) ⌝ }
+{
+    if last {
+        return ring;
+    }
+    by_atom
+}
+
 // The next key of a depth. After a descent below it the ring is in atom order again and begins at its first place; at the last depth it goes on as it is.
-pub fn onward(
+pub fn onward<'a>(
     strategy: SeekStrategy,
     pool: &[u64],
     ends: &[usize; ENDS],
@@ -195,8 +210,8 @@ pub fn onward(
     end: &mut [usize; MAX_ATOMS],
     own: &mut [usize; MAX_ATOMS],
     left: &mut [usize; MAX_ATOMS],
-    ring: &[usize; MAX_ATOMS],
-    by_atom: &[usize; MAX_ATOMS],
+    ring: &'a [usize; MAX_ATOMS],
+    by_atom: &'a [usize; MAX_ATOMS],
     k: usize,
     p: usize,
     last: bool,
@@ -206,14 +221,10 @@ pub fn onward(
     requires { ⌜ SameAtoms (now «by_atom») (now ring) k ⌝ }
     ensures { λ r. ⌜ Onward (now (pool .entry)) (now (ends .entry)) (now (ring .entry)) (now («by_atom» .entry)) k p last (state (now (at .entry)) (now (end .entry)) (now (own .entry)) (now (left .entry))) (state (now (at .exit)) (now (end .exit)) (now (own .exit)) (now (left .exit))) seeks r ⌝ }
 {
-    if last {
-        return since(
-            seeks,
-            whole_next(pool, at, end, own, left, ends, ring, k, p, strategy),
-        );
-    }
+    let turn = chosen(last, ring, by_atom);
+    let start = if last { p } else { 0 };
     since(
         seeks,
-        whole_next(pool, at, end, own, left, ends, by_atom, k, 0, strategy),
+        whole_next(pool, at, end, own, left, ends, turn, k, start, strategy),
     )
 }

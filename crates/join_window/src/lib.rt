@@ -15,10 +15,15 @@ pub struct Written {
 }
 
 // Writes one row behind the others, by variable number, or says that it does not fit.
-pub fn emit(window: &mut [u64], row: [u64; Query::MAX_VARIABLES], n: usize, rows: usize) -> Written
-    requires { ⌜ n ≤ maxVariables ⌝ }
+pub fn emit_lent(
+    window: &mut [u64],
+    row: &[u64; Query::MAX_VARIABLES],
+    n: usize,
+    rows: usize,
+) -> Written
+    requires { ⌜ (n ≤ maxVariables) × (n ≤ length (now row)) ⌝ }
     requires { ⌜ Fits n (length (now window)) rows ⌝ }
-    ensures { λ r. ⌜ written (now (window .exit)) (r .rows) (r .full) ≡ emit n (written (now (window .entry)) rows false) (take n row) ⌝ }
+    ensures { λ r. ⌜ written (now (window .exit)) (r .rows) (r .full) ≡ emit n (written (now (window .entry)) rows false) (take n (now (row .entry))) ⌝ }
 {
     let base = rows * n;
     if window.len() - base < n {
@@ -33,4 +38,13 @@ pub fn emit(window: &mut [u64], row: [u64; Query::MAX_VARIABLES], n: usize, rows
         rows: rows + 1,
         full: false,
     }
+}
+
+// The same of a row by value.
+pub fn emit(window: &mut [u64], row: [u64; Query::MAX_VARIABLES], n: usize, rows: usize) -> Written
+    requires { ⌜ n ≤ maxVariables ⌝ }
+    requires { ⌜ Fits n (length (now window)) rows ⌝ }
+    ensures { λ r. ⌜ written (now (window .exit)) (r .rows) (r .full) ≡ emit n (written (now (window .entry)) rows false) (take n row) ⌝ }
+{
+    emit_lent(window, &row, n, rows)
 }

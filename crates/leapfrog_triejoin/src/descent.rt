@@ -15,7 +15,7 @@ use join_plan::DEPTH_WORDS;
 use join_plan::ENDS;
 use join_plan::PLAN_WORDS;
 use join_query::Query;
-use join_window::emit;
+use join_window::emit_lent;
 use leapfrog_join::Landed;
 use query::MAX_ATOMS;
 use seek::SeekStrategy;
@@ -30,16 +30,16 @@ pub struct Walked {
 // Writes a row that has all its words; nothing is sought for it.
 fn complete(
     window: &mut [u64],
-    row: [u64; Query::MAX_VARIABLES],
+    row: &[u64; Query::MAX_VARIABLES],
     n: usize,
     rows: usize,
     seeks: u64,
 ) -> Walked
-    requires { ⌜ n ≤ maxVariables ⌝ }
+    requires { ⌜ (n ≤ maxVariables) × (n ≤ length (now row)) ⌝ }
     requires { ⌜ Fits n (length (now window)) rows ⌝ }
-    ensures { λ r. ⌜ (written (now (window .exit)) (r .rows) (r .full) ≡ emit n (written (now (window .entry)) rows false) (take n row)) × (r .seeks ≡ seeks) ⌝ }
+    ensures { λ r. ⌜ (written (now (window .exit)) (r .rows) (r .full) ≡ emit n (written (now (window .entry)) rows false) (take n (now (row .entry)))) × (r .seeks ≡ seeks) ⌝ }
 {
-    let w = emit(window, row, n, rows);
+    let w = emit_lent(window, row, n, rows);
     Walked {
         rows: w.rows,
         full: w.full,
@@ -69,7 +69,7 @@ pub fn descend(
     ensures { λ r. ⌜ Completes (now (pool .entry)) (now (plan .entry)) (now (ends .entry)) n depth above owned found (now (window .entry)) from before (now (window .exit)) (r .rows) (r .full) (r .seeks) ⌝ }
 {
     if depth == n {
-        return complete(window, found, n, from, before);
+        return complete(window, &found, n, from, before);
     }
     let v = plan[DEPTH_WORDS * depth];
     let k = plan[DEPTH_WORDS * depth + COUNT];
@@ -108,7 +108,7 @@ pub fn descend(
         };
         row[v] = key;
         let below: Walked = if depth + 1 == n {
-            complete(window, row, n, rows, seeks)
+            complete(window, &row, n, rows, seeks)
         } else {
             descend(
                 pool,

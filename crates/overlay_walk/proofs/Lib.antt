@@ -9,3 +9,4 @@ pub mod Cuts
 pub mod Decides
 pub mod Hits
 pub mod Exactly
+mod Worked

@@ -137,9 +137,9 @@ query n order count atoms = record { n = n; order = take 8 (order ++ zeros); «a
 abbrev triangleQuery : Query
 triangleQuery = query 3 (0 ∷ 1 ∷ 2 ∷ []) 3 (atom 0 0 1 ∷ atom 1 1 2 ∷ atom 2 0 2 ∷ [])
 
--- all rows of S laid over table m
-abbrev laidQuery : ℕ → Query
-laidQuery m = query 2 (0 ∷ 1 ∷ []) 1 (over 1 m 0 1 ∷ [])
+-- all rows of table s laid over table m
+abbrev laidQuery : ℕ → ℕ → Query
+laidQuery s m = query 2 (0 ∷ 1 ∷ []) 1 (over s m 0 1 ∷ [])
 
 -- (5,9),(7,2), and (1,2),(2,3)
 abbrev pairs : List ℕ
@@ -153,6 +153,14 @@ onlyTable t = record { count = 1; tables = t ∷ emptyTable 0 0 0 ∷ emptyTable
 
 abbrev single : Tables
 single = onlyTable (table 0 2 2)
+
+-- two tables of the same rows
+abbrev twoAlike : Tables
+twoAlike = record { count = 2; tables = table 0 2 2 ∷ table 12 2 2 ∷ emptyTable 0 0 0 ∷ emptyTable 0 0 0 ∷ emptyTable 0 0 0 ∷ emptyTable 0 0 0 ∷ emptyTable 0 0 0 ∷ emptyTable 0 0 0 ∷ [] }
+
+-- R, S and a table without rows
+abbrev oneEmpty : Tables
+oneEmpty = threeWith (emptyTable 24 2 3)
 
 pub record Line : Type 0 where
   pub asked : Asked
@@ -186,10 +194,14 @@ starred =
     line (Join pairs single (query 2 (1 ∷ 0 ∷ []) 1 (atom 0 1 0 ∷ [])) (0 ∷ 0 ∷ 0 ∷ 0 ∷ [])) (Rows 0 2 (9 ∷ 5 ∷ 2 ∷ 7 ∷ []) 0) ∷
     line (Join chained single (query 3 (0 ∷ 1 ∷ 2 ∷ []) 2 (atom 0 0 1 ∷ atom 0 1 2 ∷ [])) (0 ∷ 0 ∷ 0 ∷ [])) (Rows 0 1 (1 ∷ 2 ∷ 3 ∷ []) 2) ∷
     line (Join chained (onlyTable (tableWith (gradeOnly 1) 0 2 2)) (query 3 (0 ∷ 1 ∷ 2 ∷ []) 2 (atom 0 0 1 ∷ atom 0 1 2 ∷ [])) (0 ∷ 0 ∷ 0 ∷ [])) (Rows 15 0 (0 ∷ 0 ∷ 0 ∷ []) 0) ∷
-    line (Join triangle three (laidQuery 2) (9 ∷ 9 ∷ 9 ∷ 9 ∷ 9 ∷ 9 ∷ 9 ∷ 9 ∷ 9 ∷ 9 ∷ [])) (Rows 0 4 (1 ∷ 1 ∷ 1 ∷ 3 ∷ 2 ∷ 3 ∷ 3 ∷ 1 ∷ 9 ∷ 9 ∷ []) 0) ∷
-    line (Join triangle three (laidQuery 3) (9 ∷ 9 ∷ [])) (Rows 9 0 (9 ∷ 9 ∷ []) 0) ∷
-    line (Join triangle (threeWith (tableWith (gradeOnly 1) 24 2 3)) (laidQuery 2) (9 ∷ 9 ∷ [])) (Rows 17 0 (9 ∷ 9 ∷ []) 0) ∷
-    line (Join triangle (threeWith (tableWith (gradeOnly 1) 24 2 4)) (laidQuery 2) (9 ∷ 9 ∷ [])) (Rows 6 0 (9 ∷ 9 ∷ []) 0) ∷
+    line (Join triangle three (laidQuery 1 2) (9 ∷ 9 ∷ 9 ∷ 9 ∷ 9 ∷ 9 ∷ 9 ∷ 9 ∷ 9 ∷ 9 ∷ [])) (Rows 0 4 (1 ∷ 1 ∷ 1 ∷ 3 ∷ 2 ∷ 3 ∷ 3 ∷ 1 ∷ 9 ∷ 9 ∷ []) 0) ∷
+    line (Join triangle oneEmpty (laidQuery 2 1) (9 ∷ 9 ∷ 9 ∷ 9 ∷ 9 ∷ 9 ∷ [])) (Rows 0 2 (2 ∷ 3 ∷ 3 ∷ 1 ∷ 9 ∷ 9 ∷ []) 0) ∷
+    line (Join triangle oneEmpty (laidQuery 1 2) (9 ∷ 9 ∷ 9 ∷ 9 ∷ 9 ∷ 9 ∷ [])) (Rows 0 2 (2 ∷ 3 ∷ 3 ∷ 1 ∷ 9 ∷ 9 ∷ []) 0) ∷
+    line (Join (pairs ++ pairs) twoAlike (laidQuery 0 1) (9 ∷ 9 ∷ 9 ∷ 9 ∷ 9 ∷ 9 ∷ [])) (Rows 0 2 (5 ∷ 9 ∷ 7 ∷ 2 ∷ 9 ∷ 9 ∷ []) 0) ∷
+    line (Join triangle three (laidQuery 1 1) (9 ∷ 9 ∷ 9 ∷ 9 ∷ 9 ∷ 9 ∷ [])) (Rows 0 2 (2 ∷ 3 ∷ 3 ∷ 1 ∷ 9 ∷ 9 ∷ []) 0) ∷
+    line (Join triangle three (laidQuery 1 3) (9 ∷ 9 ∷ [])) (Rows 9 0 (9 ∷ 9 ∷ []) 0) ∷
+    line (Join triangle (threeWith (tableWith (gradeOnly 1) 24 2 3)) (laidQuery 1 2) (9 ∷ 9 ∷ [])) (Rows 17 0 (9 ∷ 9 ∷ []) 0) ∷
+    line (Join triangle (threeWith (tableWith (gradeOnly 1) 24 2 4)) (laidQuery 1 2) (9 ∷ 9 ∷ [])) (Rows 6 0 (9 ∷ 9 ∷ []) 0) ∷
     line (Grade (pos 0)) (Word 9223372036854775808) ∷
     line (Grade (negsuc 0)) (Word 9223372036854775807) ∷
     line (Grade (pos 9223372036854775807)) (Word 18446744073709551615) ∷

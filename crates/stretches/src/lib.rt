@@ -127,12 +127,11 @@ fn goal(
     pool[y]
 }
 
-// Whether a leapfrog over the pieces that ended as s says has ended over the whole runs: on a key, or where a run ends with its piece. A plain join always has.
-fn settled(left: &[usize; MAX_ATOMS], ring: &[usize; MAX_ATOMS], s: Searched) -> bool
-    requires { ⌜ Lookable (now ring) (s .landed) ⌝ }
-    ensures { λ r. ⌜ (r ≡ true → Settled (now (left .entry)) (now (ring .entry)) (s .landed)) ⌝ }
+// Whether a leapfrog over the pieces that ended so has ended over the whole runs: on a key, or where a run ends with its piece. A plain join always has.
+fn settled(left: &[usize; MAX_ATOMS], ring: &[usize; MAX_ATOMS], landed: Landed) -> bool
+    requires { ⌜ Lookable (now ring) landed ⌝ }
+    ensures { λ r. ⌜ (r ≡ true → Settled (now (left .entry)) (now (ring .entry)) landed) ⌝ }
 {
-    let landed = s.landed;
     let Landed::Nothing { p } = landed else {
         return true;
     };
@@ -214,10 +213,13 @@ pub fn whole_init(
     ensures { λ r. ⌜ WholeBegun (now (pool .entry)) (now (ends .entry)) k (now (ring .entry)) (now (ring .exit)) (state (now (at .entry)) (now (end .entry)) (now (own .entry)) (now (left .entry))) (state (now (at .exit)) (now (end .exit)) (now (own .exit)) (now (left .exit))) r ⌝ }
 {
     let s = leapfrog_init(pool, at, end, ring, k, strategy);
-    if settled(left, ring, s) {
-        return s;
+    let landed = s.landed;
+    let seeks = s.seeks;
+    if settled(left, ring, landed) {
+        return Searched { landed, seeks };
     }
-    go_on(pool, at, end, own, left, ends, ring, k, s, strategy)
+    let paused = Searched { landed, seeks };
+    go_on(pool, at, end, own, left, ends, ring, k, paused, strategy)
 }
 
 // Algorithm 3 over whole runs, where all agree.
@@ -237,8 +239,11 @@ pub fn whole_next(
     ensures { λ r. ⌜ WholeRan (now (pool .entry)) (now (ends .entry)) (now (ring .entry)) k (state (now (at .entry)) (now (end .entry)) (now (own .entry)) (now (left .entry))) (state (now (at .exit)) (now (end .exit)) (now (own .exit)) (now (left .exit))) (nextOf (wholesIn (now (pool .entry)) (state (now (at .entry)) (now (end .entry)) (now (own .entry)) (now (left .entry))) (now (ends .entry)) (now (ring .entry)) k) p) r ⌝ }
 {
     let s = leapfrog_next(pool, at, end, ring, k, p, strategy);
-    if settled(left, ring, s) {
-        return s;
+    let landed = s.landed;
+    let seeks = s.seeks;
+    if settled(left, ring, landed) {
+        return Searched { landed, seeks };
     }
-    go_on(pool, at, end, own, left, ends, ring, k, s, strategy)
+    let paused = Searched { landed, seeks };
+    go_on(pool, at, end, own, left, ends, ring, k, paused, strategy)
 }
