@@ -1,4 +1,5 @@
-//! `rt mir ducatbriar | portable HEADER CRATES`: the C file of that MIR, with the header's functions and the names of the sources below CRATES.
+//! `portable HEADER CRATES < MIR`: the C file of what `rt mir` prints of some crates, one behind the other, with the header's functions and the names of the
+//! sources below CRATES.
 use portable::{translate, Names};
 use std::error::Error;
 use std::io::Read;

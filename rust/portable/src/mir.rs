@@ -2,7 +2,7 @@
 //! A constructor that is not here is refused by its name: floats, shifts, bits of integers, addresses as numbers, 128 bits, types that are spelled out.
 use crate::form::{self, Form};
 use crate::Refused;
-use std::collections::BTreeMap;
+use std::collections::{BTreeMap, BTreeSet};
 
 type Read<T> = Result<T, Refused>;
 
@@ -108,14 +108,14 @@ pub enum Body {
     Call(String, Vec<Operand>, Place),
 }
 
-#[derive(Clone, Debug)]
+#[derive(Clone, Debug, PartialEq)]
 pub struct Local {
     pub ty: Ty,
     /// Whether it has an address that is taken.
     pub in_memory: bool,
 }
 
-#[derive(Clone, Debug)]
+#[derive(Clone, Debug, PartialEq)]
 pub struct Function {
     pub symbol: String,
     pub params: usize,
@@ -130,26 +130,48 @@ pub struct Program {
     pub shapes: BTreeMap<String, Shape>,
 }
 
-/// A program as `rt mir` prints it.
+impl Program {
+    /// Puts a function behind the others, or leaves it out where an earlier program had it.
+    fn add(&mut self, function: Function) -> Read<()> {
+        match self.functions.iter().find(|earlier| earlier.symbol == function.symbol) {
+            Some(earlier) if *earlier == function => {}
+            Some(_) => return Err(Refused::new("one function, not the same in two programs", &function.symbol)),
+            None => self.functions.push(function),
+        }
+        Ok(())
+    }
+}
+
+/// The programs that `rt mir` prints of one crate or, one behind the other, of several, as one program: what several have must be the same in each, and
+/// stands where it is first.
 pub fn read(text: &str) -> Read<Program> {
     let forms = form::read(text)?;
-    let functions = match forms.as_slice() {
+    if forms.is_empty() {
+        return Err(Refused::new("program", text));
+    }
+    let mut all = Program { functions: Vec::new(), shapes: BTreeMap::new() };
+    for program in forms.chunks(3) {
+        let mut symbols = BTreeSet::new();
+        for form in functions(program)? {
+            let function = function(form, &mut all.shapes)?;
+            if !symbols.insert(function.symbol.clone()) {
+                return Err(Refused::new("two functions of one symbol", &function.symbol));
+            }
+            all.add(function)?;
+        }
+    }
+    Ok(all)
+}
+
+fn functions(program: &[Form]) -> Read<&[Form]> {
+    match program {
         [Form::Made(head, none), Form::List(functions), Form::Made(main, _)]
             if head == "program" && none.is_empty() && main == "fnRef" =>
         {
-            functions
+            Ok(functions)
         }
-        _ => return Err(Refused::new("program", forms.first())),
-    };
-    let mut program = Program { functions: Vec::new(), shapes: BTreeMap::new() };
-    for form in functions {
-        let function = function(form, &mut program.shapes)?;
-        if program.functions.iter().any(|other| other.symbol == function.symbol) {
-            return Err(Refused::new("two functions of one symbol", &function.symbol));
-        }
-        program.functions.push(function);
+        _ => Err(Refused::new("program", program.first())),
     }
-    Ok(program)
 }
 
 fn made<'a>(form: &'a Form, what: &'static str) -> Read<(&'a str, &'a [Form])> {
