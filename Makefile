@@ -17,7 +17,7 @@ VERSION := $(shell sed -n 's/^.define DUCATBRIAR_VERSION "\(.*\)".*/\1/p' includ
 all: $(DUCATBRIAR_LIB)
 
 target/staticlib/libducatbriar.a:
-	rt staticlib ducatbriar
+	portable/proved
 
 target/portable/libducatbriar.a: portable/ducatbriar.c
 	CC="$(CC)" portable/archive $@

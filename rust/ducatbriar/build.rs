@@ -1,4 +1,4 @@
-//! Links libducatbriar.a, which `rt staticlib ducatbriar` makes.
+//! Links libducatbriar.a, which portable/proved makes.
 use std::env;
 use std::path::{Path, PathBuf};
 
@@ -12,7 +12,7 @@ fn main() {
     if archive.file_name() != Some("libducatbriar.a".as_ref()) || !archive.is_file() {
         println!("cargo::error=no libducatbriar.a at {}", archive.display());
         println!(
-            "cargo::error=run `rt staticlib ducatbriar` at the repository's root, or set DUCATBRIAR_LIB to the archive's path (where the processor is no x86-64, to one that `portable/archive PATH` makes)"
+            "cargo::error=run `portable/proved` at the repository's root, or set DUCATBRIAR_LIB to the archive's path (where the processor is no x86-64, to one that `portable/archive PATH` makes)"
         );
         return;
     }

@@ -1,7 +1,7 @@
--- `ducatbriar::ducatbriar_partition_point` is `seek::partition_point` under the strategy that the number stands for.
+-- `ducatbriar_tables::ducatbriar_partition_point` is `seek::partition_point` under the strategy that the number stands for.
 use borrow.Author.Needs.{needs}
-use Rattle.ducatbriar.proofs.ducatbriar_partition_point.Statement.{statement}
-use Rattle.ducatbriar.proofs.ducatbriar_partition_point.Tie as tie
+use Rattle.ducatbriar_tables.proofs.ducatbriar_partition_point.Statement.{statement}
+use Rattle.ducatbriar_tables.proofs.ducatbriar_partition_point.Tie as tie
 
 strategy-of-requires : tie.Need-strategy-of-requires
 strategy-of-requires c κs = search needs

@@ -1,10 +1,10 @@
--- `ducatbriar::ducatbriar_word_of` is `grade::word_of`: the grade is handed on by its bits, which leave a number that fits as it is.
+-- `ducatbriar_tables::ducatbriar_word_of` is `grade::word_of`: the grade is handed on by its bits, which leave a number that fits as it is.
 use mathlib.Core.Path.{ap, _∙_}
 use mir.Facts.{toZ-ofZ}
 use borrow.Author.Needs.{needs}
 use Rattle.grade.specs.Word.{wordOf}
-use Rattle.ducatbriar.proofs.ducatbriar_word_of.Statement.{statement}
-use Rattle.ducatbriar.proofs.ducatbriar_word_of.Tie as tie
+use Rattle.ducatbriar_tables.proofs.ducatbriar_word_of.Statement.{statement}
+use Rattle.ducatbriar_tables.proofs.ducatbriar_word_of.Tie as tie
 
 word-of-requires : tie.Need-word-of-requires
 word-of-requires c κs = search needs
