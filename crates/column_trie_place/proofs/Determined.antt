@@ -1,4 +1,4 @@
--- `ColumnTrieIter::new` gives one cursor: any two that its contract allows are equal. The other calls are exported, and the crate ducatbriar has theirs.
+-- `ColumnTrieIter::new` gives one cursor: any two that its contract allows are equal. The other calls are exported, and the crates that export them have theirs.
 use mathlib.Core.Path.{_≡_, sym, _∙_}
 use contract.Lifetimes.{Lfts}
 use Rattle.column_trie_place.specs.declared.ColumnTrieIter.{ColumnTrieIter}
