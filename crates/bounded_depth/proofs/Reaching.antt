@@ -9,16 +9,17 @@ use Rattle.query.specs.Meet.{meet}
 use Rattle.leapfrog.specs.Search.{seekTo}
 use Rattle.leapfrog.proofs.Onward.{seek-comes}
 use Rattle.ring_sort.specs.Sorted.{keyAt}
-use Rattle.leapfrog_join.specs.declared.Landed.{Landed}
-use Rattle.leapfrog_join.specs.declared.Landed.the-variants.{Key, Nothing}
-use Rattle.leapfrog_join.specs.declared.Searched.{Searched}
-use Rattle.leapfrog_join.proofs.Runs.{seek-from}
+use Rattle.leapfrog_search.specs.declared.Landed.{Landed}
+use Rattle.leapfrog_search.specs.declared.Landed.the-variants.{Key, Nothing}
+use Rattle.leapfrog_search.specs.declared.Searched.{Searched}
+use Rattle.leapfrog_search.proofs.Runs.{seek-from}
 use Rattle.stretches.specs.Stand.{State, wholesIn}
 use Rattle.stretches.specs.Whole.{WholeAgreed, WholeRan}
 use Rattle.stretches.proofs.Laws.{whole-agreeing}
 use Rattle.join_query.specs.Query.{maxVariables}
 use Rattle.join_query.proofs.Accepted.{sized}
-use Rattle.join_depths.specs.Depth.{countAt, Standing, IfFound, DepthBegun}
+use Rattle.join_openings.specs.Openings.{countAt}
+use Rattle.join_depths.specs.Depth.{Standing, IfFound, DepthBegun}
 use Rattle.join_depths.proofs.Wholes.{WholeLeft, whole-ready, whole-left}
 use Rattle.join_depths.proofs.Stepping.{begins-anew}
 use Rattle.join_depths.proofs.Beginnings.{opened-moved}

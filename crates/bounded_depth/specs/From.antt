@@ -4,13 +4,14 @@ use mathlib.Core.Path.{_≡_}
 use mathlib.Core.List.{List}
 use Rattle.relation.specs.Order.{Row}
 use Rattle.relation.specs.Runs.{from}
-use Rattle.leapfrog_join.specs.Ring.{SameAtoms}
-use Rattle.leapfrog_join.specs.Leapfrog.{leftOf}
-use Rattle.leapfrog_join.specs.declared.Landed.{Landed}
+use Rattle.leapfrog_search.specs.Ring.{SameAtoms}
+use Rattle.leapfrog_search.specs.Leapfrog.{leftOf}
+use Rattle.leapfrog_search.specs.declared.Landed.{Landed}
 use Rattle.stretches.specs.Stand.{State, wholesIn}
 use Rattle.join_query.specs.declared.Query.{Query}
 use Rattle.join_query.specs.declared.Tables.{Tables}
-use Rattle.join_depths.specs.Depth.{countAt, Stands, Opened, AgreedAt, IfFound, commonAt}
+use Rattle.join_openings.specs.Openings.{countAt}
+use Rattle.join_depths.specs.Depth.{Stands, Opened, AgreedAt, IfFound, commonAt}
 
 -- of one query: the common keys from t on are left, and where there is one, the atoms are opened
 pub record BeginsFrom (pool : List ℕ) (ts : Tables) (q : Query) (plan ends : List ℕ) (n d : ℕ) (z : State) (byAtom : List ℕ) (f : ℕ → Row) (t : ℕ) (landed : Landed) : Type 0 where

@@ -9,7 +9,7 @@ use join_plan::COUNT;
 use join_plan::DEPTH_WORDS;
 use join_plan::ENDS;
 use join_plan::PLAN_WORDS;
-use leapfrog_join::Landed;
+use leapfrog_search::Landed;
 use query::MAX_ATOMS;
 use seek::SeekStrategy;
 use whole_seek::whole_seek;

@@ -12,7 +12,7 @@ use Rattle.column_trie.specs.Table.{layersIn, Undamaged, undamaged}
 use Rattle.column_trie.specs.declared.ColumnTrie.{ColumnTrie}
 use Rattle.column_trie.proofs.Damage.{undamaged-told, told-undamaged}
 use Rattle.column_trie_listing.specs.declared.Listed.{Listed}
-use Rattle.column_trie_listing.specs.Text.{text}
+use Rattle.layer_text.specs.Text.{text}
 use Rattle.column_trie_listing.specs.List.{listNumber, Lists}
 use Rattle.column_trie_listing.proofs.Lists.{number-6, number-14, number-0}
 

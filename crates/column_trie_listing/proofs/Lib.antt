@@ -1,5 +1,3 @@
-mod Texts
 pub mod Exactly
 pub mod Lists
 pub mod Untouched
-pub mod Worked

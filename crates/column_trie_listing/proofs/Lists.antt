@@ -13,9 +13,9 @@ use Rattle.column_trie.specs.Pool.{lay}
 use Rattle.column_trie.specs.Table.{layersIn, undamaged}
 use Rattle.column_trie.specs.declared.ColumnTrie.{ColumnTrie}
 use Rattle.column_trie_listing.specs.declared.Listed.{Listed}
-use Rattle.column_trie_listing.specs.Text.{text}
+use Rattle.layer_text.specs.Text.{text}
 use Rattle.column_trie_listing.specs.List.{Lists, listNumber}
-use Rattle.column_trie_listing.specs.Piece.{PieceWritten}
+use Rattle.layer_text.specs.Piece.{PieceWritten}
 
 -- laid over the front
 lay-front : (bytes xs : List ℕ) → length xs ≤ length bytes → lay bytes 0 xs ≡ xs ++ drop (length xs) bytes

@@ -10,7 +10,7 @@ use Rattle.relation.specs.Order.{pick}
 use Rattle.column_trie.specs.Table.{layersIn}
 use Rattle.column_trie.specs.declared.ColumnTrie.{ColumnTrie}
 use Rattle.column_trie_listing.specs.declared.Listed.{Listed}
-use Rattle.column_trie_listing.specs.Text.{text}
+use Rattle.layer_text.specs.Text.{text}
 use Rattle.column_trie_listing.specs.List.{listNumber, Lists}
 
 pub record Untouched (bytes bytes′ : List ℕ) (r : Listed) : Type 0 where

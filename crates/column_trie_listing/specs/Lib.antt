@@ -1,3 +1,1 @@
-pub mod Text
 pub mod List
-pub mod Piece

@@ -8,7 +8,7 @@ use Rattle.relation.specs.Order.{pick}
 use Rattle.column_trie.specs.Table.{layersIn, undamaged}
 use Rattle.column_trie.specs.declared.ColumnTrie.{ColumnTrie}
 use Rattle.column_trie_listing.specs.declared.Listed.{Listed}
-use Rattle.column_trie_listing.specs.Text.{text}
+use Rattle.layer_text.specs.Text.{text}
 
 -- 6 for a damaged table, 14 for a text that is longer than the buffer
 unfoldable pub listNumber : List ℕ → ColumnTrie → ℕ → ℕ

@@ -23,9 +23,9 @@ use Rattle.query.specs.Descend.{standings, Joinable}
 use Rattle.query.proofs.Meet.{meet-asc}
 use Rattle.query.proofs.Under.{standings-runs}
 use Rattle.ring_sort.specs.Sorted.{keyAt}
-use Rattle.leapfrog_join.specs.Ring.{SameAtoms}
-use Rattle.leapfrog_join.specs.declared.Landed.{Landed}
-use Rattle.leapfrog_join.specs.declared.Landed.the-variants.{Key, Nothing}
+use Rattle.leapfrog_search.specs.Ring.{SameAtoms}
+use Rattle.leapfrog_search.specs.declared.Landed.{Landed}
+use Rattle.leapfrog_search.specs.declared.Landed.the-variants.{Key, Nothing}
 use Rattle.leapfrog_join.proofs.Laws.{agreed-key}
 use Rattle.stretches.specs.Stand.{State, wholesIn}
 use Rattle.stretches.specs.Whole.{WholeAgreed}
@@ -34,10 +34,11 @@ use Rattle.join_query.specs.declared.Query.{Query}
 use Rattle.join_query.specs.declared.Tables.{Tables}
 use Rattle.join_query.proofs.Accepted.{sized, tables}
 use Rattle.join_window.specs.Window.{written, Fits}
-use Rattle.join_depths.specs.Depth.{variableAt, countAt, Stands, Standing, AgreedAt, IfFound, commonAt, Steps}
+use Rattle.join_openings.specs.Openings.{variableAt, countAt}
+use Rattle.join_depths.specs.Depth.{Stands, Standing, AgreedAt, IfFound, commonAt, Steps}
 use Rattle.join_depths.proofs.Standing.{order-next, variable-is}
 use Rattle.join_depths.proofs.Wholes.{whole-ready, whole-first, ready-wholes}
-use Rattle.leapfrog_triejoin.proofs.Walking.{first, rest, gained}
+use Rattle.descent.proofs.Walking.{first, rest, gained}
 use Rattle.rows_after.specs.Bounded.{extendAfter, DescendsAfter}
 use Rattle.rows_after.proofs.Bounded.{common-ascend}
 use Rattle.rows_after.proofs.Walk.{ToGoAfter, leaf-after, after-fits, after-still, after-on, after-end, after-full, engine-after-start}

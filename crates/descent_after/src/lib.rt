@@ -12,7 +12,7 @@ use join_plan::ENDS;
 use join_plan::PLAN_WORDS;
 use join_query::Query;
 use join_window::Written;
-use leapfrog_join::Landed;
+use leapfrog_search::Landed;
 use query::MAX_ATOMS;
 use rest_of_depth::walk_rest;
 use seek::SeekStrategy;

@@ -20,8 +20,8 @@ use Rattle.join_query.specs.declared.Tables.{Tables}
 use Rattle.join_query.proofs.Accepted.{sized, passes}
 use Rattle.join_plan.specs.Plan.{Planned, FirstsEnded}
 use Rattle.join_window.specs.Window.{written, Fits}
-use Rattle.leapfrog_triejoin.specs.Descent.{Descended}
-use Rattle.leapfrog_triejoin.proofs.Joining.{stands-root, joined}
+use Rattle.descent.specs.Descent.{Descended}
+use Rattle.descent.proofs.Root.{stands-root, joined}
 use Rattle.rows_after.specs.After.{rowsAsked, listedAfter, lastOf, stoodAt, padded, outcomeAfter, JoinsAfter}
 use Rattle.rows_after.proofs.After.{in-after}
 use Rattle.rows_after.proofs.Walk.{engine-after-root}

@@ -7,6 +7,7 @@ ghost use lib.ListN.{length};
 ghost use Rattle.join_query.specs.Query.{Accepted};
 ghost use Rattle.join_window.specs.Window.{written};
 ghost use Rattle.rows_after.specs.After.{listedAfter, JoinsAfter};
+use descent::descend;
 use descent_after::descend_after;
 use join_checks::refusal;
 use join_plan::ENDS;
@@ -17,7 +18,6 @@ use join_query::Query;
 use join_query::Tables;
 use join_window::Written;
 use last_row::last_row;
-use leapfrog_triejoin::descent::descend;
 use rows_after::JoinedAfter;
 use seek::SeekStrategy;
 

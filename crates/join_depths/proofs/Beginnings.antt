@@ -17,16 +17,17 @@ use Rattle.column_trie.specs.Table.{rowsIn}
 use Rattle.leapfrog.specs.Search.{Went, initOf}
 use Rattle.leapfrog.specs.Walk.{capped}
 use Rattle.leapfrog.proofs.Begin.{init-none}
-use Rattle.leapfrog_join.specs.declared.Landed.{Landed}
-use Rattle.leapfrog_join.specs.declared.Landed.the-variants.{Key, Nothing}
-use Rattle.leapfrog_join.specs.declared.Searched.{Searched}
+use Rattle.leapfrog_search.specs.declared.Landed.{Landed}
+use Rattle.leapfrog_search.specs.declared.Landed.the-variants.{Key, Nothing}
+use Rattle.leapfrog_search.specs.declared.Searched.{Searched}
 use Rattle.stretches.specs.Stand.{State, Stand, standOf, wholesIn}
 use Rattle.stretches.specs.Whole.{WholeReady, Forward, Carried, WholeBegun}
 use Rattle.join_query.specs.Query.{atomTable, orderOf, atomsOf}
 use Rattle.join_query.specs.declared.Query.{Query}
 use Rattle.join_query.specs.declared.Tables.{Tables}
 use Rattle.join_query.proofs.Accepted.{tables}
-use Rattle.join_depths.specs.Depth.{countAt, Opens, Refuses, ownerOf, Owned, PlacedIn, Stands, Standing, takesPart, twofold, Within, WithinOne, startsAt, WithinIn, Opened, IfFound, DepthBegun, Leapt, AtKey, groupsAt, sinceOf, Opening}
+use Rattle.join_openings.specs.Openings.{countAt, Opens, Refuses}
+use Rattle.join_depths.specs.Depth.{ownerOf, Owned, PlacedIn, Stands, Standing, takesPart, twofold, Within, WithinOne, startsAt, WithinIn, Opened, IfFound, DepthBegun, Leapt, AtKey, groupsAt, sinceOf, Opening}
 use Rattle.join_depths.proofs.Standing.{Taker, taker, taker-in}
 use Rattle.join_depths.proofs.Depths.{opened, ring-takers, ring-ascends, ring-ready, ring-runs, refused-none, refused-in}
 use Rattle.join_depths.proofs.Stepping.{first-agreed, first-keys, first-cut, first-carried, first-same, ran-leapt}

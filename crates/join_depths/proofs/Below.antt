@@ -17,8 +17,8 @@ use Rattle.overlay.specs.Laid.{owns}
 use Rattle.overlay.proofs.Laid.{owns-row, row-owns, key-first, first-key}
 use Rattle.column_trie.specs.Table.{rowsIn, Undamaged}
 use Rattle.column_trie.specs.declared.ColumnTrie.{ColumnTrie}
-use Rattle.leapfrog_join.specs.Leapfrog.{part}
-use Rattle.leapfrog_join.proofs.Parts.{part-cons}
+use Rattle.leapfrog_search.specs.Leapfrog.{part}
+use Rattle.leapfrog_search.proofs.Parts.{part-cons}
 use Rattle.stretches.specs.Stand.{State, Stand, standOf, Laid}
 use Rattle.stretches.specs.Whole.{WholeAgreed}
 use Rattle.stretches.proofs.Owning.{makers-alone}
@@ -27,7 +27,8 @@ use Rattle.join_query.specs.declared.Query.{Query}
 use Rattle.join_query.specs.declared.Tables.{Tables}
 use Rattle.join_query.proofs.Accepted.{table-wide, sound, maker-wide}
 use Rattle.join_plan.specs.Plan.{aboveOf, firstsEnd}
-use Rattle.join_depths.specs.Depth.{countAt, ownerOf, Owned, Placed, PlacedIn, takesPart, twofold, WithinOne, startsAt, WithinIn, Opened}
+use Rattle.join_openings.specs.Openings.{countAt}
+use Rattle.join_depths.specs.Depth.{ownerOf, Owned, Placed, PlacedIn, takesPart, twofold, WithinOne, startsAt, WithinIn, Opened}
 use Rattle.join_depths.proofs.Groups as groups
 use Rattle.join_depths.proofs.Firsts.{first-in, first-placed}
 use Rattle.join_depths.proofs.Owners.{by-side, owner-sound, owner-arity}

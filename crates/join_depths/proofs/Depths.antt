@@ -16,7 +16,7 @@ use Rattle.query.proofs.Meet.{getD-in}
 use Rattle.query.proofs.Leap.{meet-nil}
 use Rattle.query.proofs.Holders.{holders-some}
 use Rattle.query.specs.Limits.{maxAtoms}
-use Rattle.leapfrog_join.specs.Leapfrog.{OnKey}
+use Rattle.leapfrog_search.specs.Leapfrog.{OnKey}
 use Rattle.leapfrog_join.proofs.Laws.{order-apart}
 use Rattle.stretches.specs.Stand.{State, Stand, standOf, wholeOf, wholesIn, Tailed}
 use Rattle.stretches.specs.Whole.{WholeReady}
@@ -26,7 +26,8 @@ use Rattle.join_query.specs.declared.Tables.{Tables}
 use Rattle.join_query.proofs.Accepted.{sized, names, atoms-at}
 use Rattle.join_plan.specs.Plan.{takers}
 use Rattle.join_plan.proofs.Plans.{takers-few}
-use Rattle.join_depths.specs.Depth.{countAt, whoAt, Openable, Opens, Refuses, PlacedIn, Stands, takesPart, twofold, WithinIn, Opened, commonAt}
+use Rattle.join_openings.specs.Openings.{countAt, whoAt, Openable, Opens, Refuses}
+use Rattle.join_depths.specs.Depth.{PlacedIn, Stands, takesPart, twofold, WithinIn, Opened, commonAt}
 use Rattle.join_depths.proofs.Standing.{order-next, takers-are, count-is, who-is, taker, taker-at, taker-in, taker-place, takers-ascend}
 use Rattle.join_depths.proofs.Takers.{takes, can-open, none-under, open-within, open-whole, open-tailed, open-key}
 

@@ -18,8 +18,8 @@ use Rattle.query.proofs.Beyond.{keys-ascend}
 use Rattle.column_trie.specs.Pool.{spot}
 use Rattle.column_trie.specs.Table.{dataLen, rowsIn, Undamaged}
 use Rattle.column_trie.specs.declared.ColumnTrie.{ColumnTrie}
-use Rattle.leapfrog_join.specs.Leapfrog.{part}
-use Rattle.leapfrog_join.proofs.Parts.{part-length, part-at}
+use Rattle.leapfrog_search.specs.Leapfrog.{part}
+use Rattle.leapfrog_search.proofs.Parts.{part-length, part-at}
 use Rattle.join_query.proofs.Accepted.{table-wide}
 use Rattle.join_plan.specs.Plan.{firstsEnd}
 use Rattle.join_depths.specs.Depth.{Placed}

@@ -20,8 +20,8 @@ use Rattle.column_trie.proofs.Layers.{reads-at}
 use Rattle.column_trie.proofs.Stored.{in-pool}
 use Rattle.column_trie.proofs.Words.{part-at}
 use Rattle.join_query.proofs.Accepted.{related, table-wide}
-use Rattle.leapfrog_join.specs.Leapfrog.{part}
-use Rattle.leapfrog_join.proofs.Parts.{part-length}
+use Rattle.leapfrog_search.specs.Leapfrog.{part}
+use Rattle.leapfrog_search.proofs.Parts.{part-length}
 
 -- ---- lists
 

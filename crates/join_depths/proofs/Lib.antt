@@ -2,7 +2,6 @@ pub mod Wholes
 pub mod Groups
 pub mod Firsts
 pub mod Owners
-pub mod Openings
 pub mod Standing
 pub mod Takers
 pub mod Depths

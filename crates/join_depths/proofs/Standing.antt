@@ -17,7 +17,8 @@ use Rattle.query.proofs.Holders.{in-holders, holders-in, holders-ascend}
 use Rattle.query.proofs.Under.{length-standings, standings-at}
 use Rattle.join_query.specs.Query.{noAtom, atomAt, tableAt, orderOf, varsOf, atomsOf, atomTable}
 use Rattle.join_plan.specs.Plan.{depthAt, openingAt, leftAt, takers, secondOf, AtomOpening, DepthPlanned}
-use Rattle.join_depths.specs.Depth.{countAt, whoAt, Based, takesPart}
+use Rattle.join_openings.specs.Openings.{countAt, whoAt}
+use Rattle.join_depths.specs.Depth.{Based, takesPart}
 use Rattle.join_query.specs.declared.Query.{Query}
 use Rattle.join_query.specs.declared.Tables.{Tables}
 use Rattle.join_query.proofs.Lists.{headed-inside}

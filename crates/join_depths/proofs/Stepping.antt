@@ -11,11 +11,11 @@ use Rattle.relation.specs.Lists.{_∈_, hd, tl, Ascends}
 use Rattle.relation.specs.Runs.{from}
 use Rattle.query.specs.Meet.{meet}
 use Rattle.ring_sort.specs.Sorted.{keyAt}
-use Rattle.leapfrog_join.specs.Ring.{SameAtoms}
-use Rattle.leapfrog_join.specs.Leapfrog.{leftOf, answered}
-use Rattle.leapfrog_join.specs.declared.Landed.{Landed}
-use Rattle.leapfrog_join.specs.declared.Landed.the-variants.{Key, Nothing}
-use Rattle.leapfrog_join.specs.declared.Searched.{Searched}
+use Rattle.leapfrog_search.specs.Ring.{SameAtoms}
+use Rattle.leapfrog_search.specs.Leapfrog.{leftOf, answered}
+use Rattle.leapfrog_search.specs.declared.Landed.{Landed}
+use Rattle.leapfrog_search.specs.declared.Landed.the-variants.{Key, Nothing}
+use Rattle.leapfrog_search.specs.declared.Searched.{Searched}
 use Rattle.leapfrog_join.proofs.Laws.{same-back}
 use Rattle.leapfrog.specs.Search.{Went, nextOf}
 use Rattle.leapfrog.specs.Walk.{capped}

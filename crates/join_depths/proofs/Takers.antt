@@ -21,7 +21,7 @@ use Rattle.column_trie.specs.Pool.{spot}
 use Rattle.column_trie.specs.Table.{rowsIn, Undamaged}
 use Rattle.column_trie.specs.declared.ColumnTrie.{ColumnTrie}
 use Rattle.ring_sort.proofs.Lists.{ascends-split}
-use Rattle.leapfrog_join.specs.Leapfrog.{part, OnKey}
+use Rattle.leapfrog_search.specs.Leapfrog.{part, OnKey}
 use Rattle.two_runs.specs.Runs.{runOf, Inside}
 use Rattle.two_runs.specs.declared.Runs as two
 use Rattle.stretches.specs.Stand.{State, Stand, standOf, restOf, wholeOf, Tailed, Laid}
@@ -33,7 +33,8 @@ use Rattle.join_query.specs.declared.Tables.{Tables}
 use Rattle.join_query.proofs.Accepted.{names, sound, sound-maker}
 use Rattle.join_query.proofs.Keys.{first-keys}
 use Rattle.join_plan.specs.Plan.{intervalCountWord, keysWord, makersWord, openingAt, aboveOf, bothOf, secondOf, firstsEnd, Opening, AtomOpening}
-use Rattle.join_depths.specs.Depth.{countAt, whoAt, keysAt, intervalAt, groupStart, groupLow, groupHigh, Readable, bothAt, tableFrom, firstRuns, OneOpenable, Alone, Both, OpenedIn, Without, ownerOf, Owned, Placed, PlacedIn, Stands, takesPart, twofold, Within, WithinOne, startsAt, WithinIn}
+use Rattle.join_openings.specs.Openings.{countAt, whoAt, keysAt, intervalAt, groupStart, groupLow, groupHigh, Readable, bothAt, tableFrom, firstRuns, OneOpenable, Alone, Both, OpenedIn, Without}
+use Rattle.join_depths.specs.Depth.{ownerOf, Owned, Placed, PlacedIn, Stands, takesPart, twofold, Within, WithinOne, startsAt, WithinIn}
 use Rattle.join_depths.proofs.Groups as groups
 use Rattle.join_depths.proofs.Firsts.{firsts-in, first-run, first-rises}
 use Rattle.join_depths.proofs.Owners.{by-side, owner-laid, owner-sound, owner-arity, owner-keys}

@@ -16,13 +16,13 @@ use Rattle.leapfrog.proofs.Search.{ring-comes}
 use Rattle.leapfrog.proofs.Onward.{next-comes, next-keys}
 use Rattle.ring_sort.specs.Sorted.{keyAt}
 use Rattle.ring_sort.proofs.Lists.{nth-in}
-use Rattle.leapfrog_join.specs.Ring.{SameAtoms}
-use Rattle.leapfrog_join.specs.Leapfrog.{part, leftOf, answered}
-use Rattle.leapfrog_join.specs.declared.Landed.{Landed}
-use Rattle.leapfrog_join.specs.declared.Landed.the-variants.{Key, Nothing}
-use Rattle.leapfrog_join.specs.declared.Searched.{Searched}
-use Rattle.leapfrog_join.proofs.Parts.{part-cons}
-use Rattle.leapfrog_join.proofs.Runs.{enough}
+use Rattle.leapfrog_search.specs.Ring.{SameAtoms}
+use Rattle.leapfrog_search.specs.Leapfrog.{part, leftOf, answered}
+use Rattle.leapfrog_search.specs.declared.Landed.{Landed}
+use Rattle.leapfrog_search.specs.declared.Landed.the-variants.{Key, Nothing}
+use Rattle.leapfrog_search.specs.declared.Searched.{Searched}
+use Rattle.leapfrog_search.proofs.Parts.{part-cons}
+use Rattle.leapfrog_search.proofs.Runs.{enough}
 use Rattle.leapfrog_join.proofs.Laws.{agreed-here, same-ready, same-agreed}
 use Rattle.leapfrog_join.proofs.Beginning.{some-none-not, sorted-runs, front, begun-same, begun-ordered}
 use Rattle.stretches.specs.Stand.{State, standOf, tailOf, wholeOf, wholesIn}

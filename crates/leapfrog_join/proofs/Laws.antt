@@ -12,19 +12,19 @@ use Rattle.relation.specs.Runs.{from}
 use Rattle.query.specs.Meet.{meet, total, Agree}
 use Rattle.query.proofs.Meet.{meet-map}
 use Rattle.query.proofs.Leap.{agree-tails}
-use Rattle.leapfrog_join.specs.declared.Landed.{Landed}
+use Rattle.leapfrog_search.specs.declared.Landed.{Landed}
 use Rattle.leapfrog.specs.Search.{Went, searchOf, nextOf, seekTo}
 use Rattle.leapfrog.proofs.Search.{ring-comes, search-seeks-bounded}
 use Rattle.leapfrog.proofs.Onward.{Agreeing, next-comes, next-keys, seek-comes}
-use Rattle.leapfrog_join.specs.declared.Landed.the-variants.{Key, Nothing}
-use Rattle.leapfrog_join.specs.declared.Searched.{Searched}
+use Rattle.leapfrog_search.specs.declared.Landed.the-variants.{Key, Nothing}
+use Rattle.leapfrog_search.specs.declared.Searched.{Searched}
 use Rattle.ring_sort.specs.Sorted.{keyAt}
-use Rattle.leapfrog_join.specs.Ring.{SameAtoms}
-use Rattle.leapfrog_join.specs.Leapfrog.{part, runOf, runsIn, Ready, Ordered, Agreed, Moved, answered, Ran, Left}
+use Rattle.leapfrog_search.specs.Ring.{SameAtoms}
+use Rattle.leapfrog_search.specs.Leapfrog.{part, runOf, runsIn, Ready, Ordered, Agreed, Moved, answered, Ran, Left}
 use Rattle.ring_sort.proofs.Lists.{ascends-getD, ascends-apart}
-use Rattle.leapfrog_join.proofs.Parts.{part-length, part-at, part-drop}
-use Rattle.leapfrog_join.proofs.Runs.{ring-in, ready-length, ready-runs, ready-heads, seek-from}
-use Rattle.leapfrog_join.proofs.Defined.{ready-ring, ran-left}
+use Rattle.leapfrog_search.proofs.Parts.{part-length, part-at, part-drop}
+use Rattle.leapfrog_search.proofs.Runs.{ring-in, ready-length, ready-runs, ready-heads, seek-from}
+use Rattle.leapfrog_search.proofs.Defined.{ready-ring, ran-left}
 
 -- a ring in atom order has different atoms
 pub order-apart : (ring : List ℕ) (k : ℕ) → k ≤ length ring → Ascends _<_ (take k ring) → (i j : ℕ) → i < k → j < k → getD ring i 0 ≡ getD ring j 0 → i ≡ j

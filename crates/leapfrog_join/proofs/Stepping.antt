@@ -12,15 +12,15 @@ use Rattle.relation.proofs.Runs.{head-least, in-from, from-ascends}
 use Rattle.leapfrog.specs.Search.{Went, out, runAt, placeAfter, more, stopped, searchOf, goOn}
 use Rattle.leapfrog.proofs.Steps.{cons-some}
 use Rattle.leapfrog.proofs.Onward.{Agreeing, on-out, on-on}
-use Rattle.leapfrog_join.specs.declared.Searched.{Searched}
-use Rattle.leapfrog_join.specs.declared.Landed.{Landed}
-use Rattle.leapfrog_join.specs.declared.Landed.the-variants.{Key, Nothing}
-use Rattle.leapfrog_join.specs.Ring.{Follows}
-use Rattle.leapfrog_join.specs.Leapfrog.{part, runOf, runsIn, OnKey, Ready, Ordered, Agreed, Moved, Reached, answered, Ran}
-use Rattle.leapfrog_join.proofs.Parts.{part-cons, part-none}
+use Rattle.leapfrog_search.specs.declared.Searched.{Searched}
+use Rattle.leapfrog_search.specs.declared.Landed.{Landed}
+use Rattle.leapfrog_search.specs.declared.Landed.the-variants.{Key, Nothing}
+use Rattle.leapfrog_search.specs.Ring.{Follows}
+use Rattle.leapfrog_search.specs.Leapfrog.{part, runOf, runsIn, OnKey, Ready, Ordered, Agreed, Moved, Reached, answered, Ran}
+use Rattle.leapfrog_search.proofs.Parts.{part-cons, part-none}
 use Rattle.leapfrog_join.proofs.Laws.{agreed-agreeing, agreed-ordered}
-use Rattle.leapfrog_join.proofs.Defined.{follows-after}
-use Rattle.leapfrog_join.proofs.Runs.{ring-in, stands-at, ready-length, ready-at, ready-heads, put, put-runs, put-moved, put-ready, put-ordered, moved-on}
+use Rattle.leapfrog_search.proofs.Defined.{follows-after}
+use Rattle.leapfrog_search.proofs.Runs.{ring-in, stands-at, ready-length, ready-at, ready-heads, put, put-runs, put-moved, put-ready, put-ordered, moved-on}
 
 -- a call that goes on from a step leaves what the definition gives from there
 pub ran-on : {pool end ring : List ℕ} {k : ℕ} {at₀ at₁ at : List ℕ} {w w₁ : Went} {r : Searched} → Moved end ring k at₀ at₁ → w ≡ w₁ → Ran pool end ring k at₁ at w₁ r → Ran pool end ring k at₀ at w r

@@ -5,10 +5,10 @@ use contract.Lifetimes.{Lfts}
 use denote.Ref.{RefT, now}
 use Rattle.query.specs.Meet.{total}
 use Rattle.seek.specs.declared.SeekStrategy.{SeekStrategy}
-use Rattle.leapfrog_join.specs.Leapfrog.{runsIn}
-use Rattle.leapfrog_join.specs.declared.Searched.{Searched}
+use Rattle.leapfrog_search.specs.Leapfrog.{runsIn}
+use Rattle.leapfrog_search.specs.declared.Searched.{Searched}
 use Rattle.leapfrog_join.proofs.Laws.{search-few}
-use Rattle.leapfrog_join.proofs.leapfrog_search.Reads.{Pre, Post}
+use Rattle.leapfrog_search.proofs.leapfrog_search.Reads.{Pre, Post}
 
 -- "one search makes no more seeks than the keys not yet passed in its runs when it starts": of every call of `leapfrog_search` that meets what it asks,
 -- whatever its contract promises. `Pre` is what it asks of the arguments, `Post` what it promises of them, the answer and the arguments when it returns

@@ -2,12 +2,10 @@
 //
 // The public call is `join`. Its answer and every word of the window are those that specs/Outcome.antt gives, for any pool, tables, query and window,
 // under each strategy: nothing is asked of them. The rows are exactly those that the query means (crates/demand_3, `demand-3`). The query's types and
-// its outcome are crates/join_query's, its checks crates/join_checks's. The Rust's emit closure is the window, its trie iterators are places kept by columns, and
-// what would panic there is refused.
-pub mod descent;
-
+// its outcome are crates/join_query's, its checks crates/join_checks's, its descent crates/descent's. The Rust's emit closure is the window, its trie
+// iterators are places kept by columns, and what would panic there is refused.
 ghost use Rattle.leapfrog_triejoin.specs.Outcome.{Joins};
-use crate::descent::descend;
+use descent::descend;
 use join_checks::refusal;
 use join_plan::ENDS;
 use join_plan::PLAN_WORDS;

@@ -21,7 +21,7 @@ use Rattle.leapfrog.proofs.Good.{firstAt, Good, put-good}
 use Rattle.leapfrog.proofs.Good as good
 use Rattle.leapfrog.proofs.Search.{any-fuel, dec-nil, Ring, ring-good}
 use Rattle.leapfrog.proofs.Onward.{Agreeing, keys, agreeing-round, on-ring}
-use Rattle.leapfrog_join.proofs.Defined.{round-same}
+use Rattle.leapfrog_search.proofs.Defined.{round-same}
 use Rattle.pieces.specs.Halted.{goalAt, Halted}
 use Rattle.pieces.proofs.Zip.{zipped, zipped-length, zipped-at, zipped-set, set-twice, from-behind, from-before, first-before, some-before, drop-before}
 

@@ -7,10 +7,10 @@ use native.Mathlib.Decide.{ℕ-discrete}
 use native.Mathlib.Omega.{arith}
 use lib.ListN.{length, getD, take}
 use Rattle.relation.specs.Lists.{_∈_, not-in-nil, in-cons, Ascends, anone, amore}
-use Rattle.leapfrog_join.specs.declared.Landed.{Landed}
-use Rattle.leapfrog_join.specs.declared.Landed.the-variants.{Key, Nothing}
+use Rattle.leapfrog_search.specs.declared.Landed.{Landed}
+use Rattle.leapfrog_search.specs.declared.Landed.the-variants.{Key, Nothing}
 use Rattle.ring_sort.specs.Sorted.{keyAt}
-use Rattle.leapfrog_join.specs.Leapfrog.{Ready, Agreed, Ended}
+use Rattle.leapfrog_search.specs.Leapfrog.{Ready, Agreed, Ended}
 use Rattle.leapfrog_join.proofs.Laws.{order-apart, agreed-here}
 use Rattle.replay_leapfrogs.specs.Runs.{inOrder, Run}
 

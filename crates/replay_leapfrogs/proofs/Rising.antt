@@ -8,8 +8,8 @@ use lib.ListN.{length, getD, take, drop, length-drop}
 use lib.Seq.{take-suc, getD-drop}
 use Rattle.relation.specs.Lists.{_∈_, not-in-nil, Ascends, anone, amore}
 use Rattle.relation.proofs.Lists.{ascends-append}
-use Rattle.leapfrog_join.specs.Leapfrog.{part}
-use Rattle.leapfrog_join.proofs.Parts.{part-cons, part-none}
+use Rattle.leapfrog_search.specs.Leapfrog.{part}
+use Rattle.leapfrog_search.proofs.Parts.{part-cons, part-none}
 use Rattle.replay_leapfrogs.specs.Runs.{Run}
 
 -- the pool from x to i, as far as it is tested

@@ -3,7 +3,7 @@ use mathlib.Core.List.{List, [], _∷_}
 use Prim.Native.Nat.{ℕ, _≤_, _<_}
 use lib.ListN.{length}
 use Rattle.relation.specs.Lists.{Ascends}
-use Rattle.leapfrog_join.specs.Leapfrog.{part}
+use Rattle.leapfrog_search.specs.Leapfrog.{part}
 
 -- every atom, in atom order
 abbrev pub inOrder : List ℕ

@@ -3,7 +3,7 @@ ghost use mathlib.Core.Path.{_≡_};
 ghost use mathlib.Core.Bool.{true};
 ghost use Prim.Native.Nat.{_≤_};
 ghost use lib.ListN.{length};
-ghost use Rattle.leapfrog_join.specs.Leapfrog.{Ready};
+ghost use Rattle.leapfrog_search.specs.Leapfrog.{Ready};
 ghost use Rattle.replay_leapfrogs.specs.Runs.{inOrder, Run};
 use cases::reader::NOWHERE;
 use cases::reader::number;

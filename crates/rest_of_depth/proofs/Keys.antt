@@ -14,8 +14,8 @@ use Rattle.query.specs.Window.{emits}
 use Rattle.query.specs.Descend.{standings, Joinable}
 use Rattle.query.proofs.Solved.{joinable-bind}
 use Rattle.query.proofs.Under.{standings-bind, standings-runs}
-use Rattle.leapfrog_join.specs.declared.Landed.{Landed}
-use Rattle.leapfrog_join.specs.declared.Landed.the-variants.{Key, Nothing}
+use Rattle.leapfrog_search.specs.declared.Landed.{Landed}
+use Rattle.leapfrog_search.specs.declared.Landed.the-variants.{Key, Nothing}
 use Rattle.stretches.specs.Stand.{State}
 use Rattle.stretches.specs.Whole.{WholeAgreed}
 use Rattle.join_query.specs.Query.{orderOf, atomsOf}
@@ -23,12 +23,13 @@ use Rattle.join_query.specs.declared.Query.{Query}
 use Rattle.join_query.specs.declared.Tables.{Tables}
 use Rattle.join_query.proofs.Accepted.{tables}
 use Rattle.join_window.specs.Window.{written}
-use Rattle.join_depths.specs.Depth.{variableAt, countAt, Stands, Opened, IfFound, Steps}
+use Rattle.join_openings.specs.Openings.{variableAt, countAt}
+use Rattle.join_depths.specs.Depth.{Stands, Opened, IfFound, Steps}
 use Rattle.join_depths.proofs.Standing.{order-next, variable-is}
 use Rattle.join_depths.proofs.Wholes.{whole-first}
 use Rattle.join_depths.proofs.Beginnings.{opened-moved}
-use Rattle.leapfrog_triejoin.specs.Descent.{Descended}
-use Rattle.leapfrog_triejoin.proofs.Walking.{first, rest, gained, gains, stands-below}
+use Rattle.descent.specs.Descent.{Descended}
+use Rattle.descent.proofs.Walking.{first, rest, gained, gains, stands-below}
 use Rattle.rest_of_depth.specs.Rest.{KeysLeft, rowsUnder}
 
 pub if-found : (landed : Landed) {A : Type 0} → A → IfFound landed A

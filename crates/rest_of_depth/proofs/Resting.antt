@@ -14,9 +14,9 @@ use Rattle.query.proofs.Descend.{descends-fits}
 use Rattle.query.proofs.Meet.{getD-in}
 use Rattle.query.proofs.Window.{emits-append, emits-full}
 use Rattle.ring_sort.specs.Sorted.{keyAt}
-use Rattle.leapfrog_join.specs.Ring.{SameAtoms}
-use Rattle.leapfrog_join.specs.declared.Landed.{Landed}
-use Rattle.leapfrog_join.specs.declared.Landed.the-variants.{Key, Nothing}
+use Rattle.leapfrog_search.specs.Ring.{SameAtoms}
+use Rattle.leapfrog_search.specs.declared.Landed.{Landed}
+use Rattle.leapfrog_search.specs.declared.Landed.the-variants.{Key, Nothing}
 use Rattle.leapfrog_join.proofs.Laws.{agreed-key}
 use Rattle.stretches.specs.Stand.{State}
 use Rattle.stretches.specs.Whole.{WholeAgreed}
@@ -25,11 +25,12 @@ use Rattle.join_query.specs.declared.Query.{Query}
 use Rattle.join_query.specs.declared.Tables.{Tables}
 use Rattle.join_query.proofs.Accepted.{sized}
 use Rattle.join_window.specs.Window.{written, Fits}
-use Rattle.join_depths.specs.Depth.{variableAt, countAt, Standing, AgreedAt, IfFound, Steps}
+use Rattle.join_openings.specs.Openings.{variableAt, countAt}
+use Rattle.join_depths.specs.Depth.{Standing, AgreedAt, IfFound, Steps}
 use Rattle.join_depths.proofs.Standing.{variable-is}
 use Rattle.join_depths.proofs.Wholes.{whole-first}
-use Rattle.leapfrog_triejoin.specs.Descent.{Descended}
-use Rattle.leapfrog_triejoin.proofs.Walking.{first, rest, gained}
+use Rattle.descent.specs.Descent.{Descended}
+use Rattle.descent.proofs.Walking.{first, rest, gained}
 use Rattle.rest_of_depth.specs.Rest.{keysAt, KeysLeft, Underway, rowsUnder, rowsLeft, Walks}
 use Rattle.rest_of_depth.proofs.Keys.{if-found, key-stands, key-below, key-next}
 

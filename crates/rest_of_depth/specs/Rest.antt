@@ -10,15 +10,16 @@ use Rattle.query.specs.Meaning.{Atom}
 use Rattle.query.specs.Solve.{bind, extend}
 use Rattle.query.specs.Window.{emits}
 use Rattle.query.specs.Descend.{standings}
-use Rattle.leapfrog_join.specs.Ring.{SameAtoms}
-use Rattle.leapfrog_join.specs.Leapfrog.{leftOf}
-use Rattle.leapfrog_join.specs.declared.Landed.{Landed}
+use Rattle.leapfrog_search.specs.Ring.{SameAtoms}
+use Rattle.leapfrog_search.specs.Leapfrog.{leftOf}
+use Rattle.leapfrog_search.specs.declared.Landed.{Landed}
 use Rattle.stretches.specs.Stand.{State, wholesIn}
 use Rattle.join_query.specs.Query.{orderOf, atomsOf}
 use Rattle.join_query.specs.declared.Query.{Query}
 use Rattle.join_query.specs.declared.Tables.{Tables}
 use Rattle.join_window.specs.Window.{written}
-use Rattle.join_depths.specs.Depth.{countAt, Based, Opened, AgreedAt, IfFound, commonAt}
+use Rattle.join_openings.specs.Openings.{countAt}
+use Rattle.join_depths.specs.Depth.{Based, Opened, AgreedAt, IfFound, commonAt}
 
 -- the keys that are left where a leapfrog landed so
 abbrev pub keysAt : List ℕ → List ℕ → List ℕ → ℕ → State → List ℕ → Landed → List ℕ

@@ -1,9 +1,10 @@
 // Internal: the function here asks something of its caller by a `requires`. The rest of a depth from a key on: the rows under that key and under those that
-// follow it, each by the descent of crates/leapfrog_triejoin. A join that goes on after a given row does so at each depth, behind the row's word.
+// follow it, each by the descent of crates/descent. A join that goes on after a given row does so at each depth, behind the row's word.
 ghost use lib.ListN.{length};
 ghost use Rattle.stretches.specs.Stand.{state};
 ghost use Rattle.join_window.specs.Window.{Fits};
 ghost use Rattle.rest_of_depth.specs.Rest.{Underway, Walks};
+use descent::descend;
 use join_depths::depth::onward;
 use join_plan::COUNT;
 use join_plan::DEPTH_WORDS;
@@ -11,8 +12,7 @@ use join_plan::ENDS;
 use join_plan::PLAN_WORDS;
 use join_query::Query;
 use join_window::Written;
-use leapfrog_join::Landed;
-use leapfrog_triejoin::descent::descend;
+use leapfrog_search::Landed;
 use query::MAX_ATOMS;
 use seek::SeekStrategy;
 

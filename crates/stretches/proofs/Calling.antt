@@ -10,9 +10,10 @@ use Rattle.query.specs.Meet.{meet, total}
 use Rattle.leapfrog.specs.Search.{Went, runAt, first, searchOf, nextOf, sortedRuns, initOf, Comes}
 use Rattle.leapfrog.proofs.Onward.{next-comes}
 use Rattle.ring_sort.specs.Sorted.{keyAt}
-use Rattle.leapfrog_join.specs.Leapfrog.{part, runsIn, Ordered, Ran, Begun}
-use Rattle.leapfrog_join.specs.declared.Searched.{Searched}
-use Rattle.leapfrog_join.proofs.Parts.{part-cons}
+use Rattle.leapfrog_search.specs.Leapfrog.{part, runsIn, Ordered, Ran}
+use Rattle.leapfrog_join.specs.Calls.{Begun}
+use Rattle.leapfrog_search.specs.declared.Searched.{Searched}
+use Rattle.leapfrog_search.proofs.Parts.{part-cons}
 use Rattle.leapfrog_join.proofs.Laws.{agreed-agreeing, same-ready}
 use Rattle.leapfrog_join.proofs.Beginning.{some-none-not, sorted-runs, front, begun-same, begun-ordered, begun-runs}
 use Rattle.pieces.proofs.Longer.{Extends, next-extends, more-none}

@@ -12,7 +12,7 @@ use borrow.Author.Tests.{eq-eqb, ne-eqb}
 use Rattle.relation.specs.Order.{pick}
 use Rattle.relation.specs.Lists.{_∈_, Ascends}
 use Rattle.overlay.proofs.Stretch.{split}
-use Rattle.leapfrog_join.specs.Leapfrog.{part, Moved}
+use Rattle.leapfrog_search.specs.Leapfrog.{part, Moved}
 use Rattle.two_runs.proofs.Stretches.{part-split}
 use Rattle.stretches.specs.Stand.{State, Stand, standOf, tailOf, wholeOf, Tailed, Sized, schoolLeft, Laid}
 use Rattle.stretches.specs.Whole.{Forward, Carried}

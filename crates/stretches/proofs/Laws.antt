@@ -14,11 +14,11 @@ use Rattle.leapfrog.proofs.Search.{Ring}
 use Rattle.leapfrog.proofs.Onward.{Agreeing}
 use Rattle.ring_sort.specs.Sorted.{keyAt}
 use Rattle.ring_sort.proofs.Lists.{ascends-getD}
-use Rattle.leapfrog_join.specs.Leapfrog.{part, Ordered, answered}
-use Rattle.leapfrog_join.specs.declared.Landed.the-variants.{Key}
-use Rattle.leapfrog_join.proofs.Parts.{part-cons}
-use Rattle.leapfrog_join.proofs.Runs.{atom-place}
-use Rattle.leapfrog_join.proofs.Defined.{round-same}
+use Rattle.leapfrog_search.specs.Leapfrog.{part, Ordered, answered}
+use Rattle.leapfrog_search.specs.declared.Landed.the-variants.{Key}
+use Rattle.leapfrog_search.proofs.Parts.{part-cons}
+use Rattle.leapfrog_search.proofs.Runs.{atom-place}
+use Rattle.leapfrog_search.proofs.Defined.{round-same}
 use Rattle.stretches.specs.Stand.{State, standOf, tailOf, wholeOf, wholesIn}
 use Rattle.stretches.specs.Whole.{WholeReady, WholeAgreed}
 use Rattle.stretches.specs.Pause.{Held}

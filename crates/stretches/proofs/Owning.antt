@@ -11,8 +11,8 @@ use Rattle.relation.specs.Order.{pick}
 use Rattle.relation.specs.Lists.{_∈_, not-in-nil, Ascends}
 use Rattle.overlay.proofs.Merge.{merge-right}
 use Rattle.overlay.proofs.Stretch.{split}
-use Rattle.leapfrog_join.specs.Leapfrog.{part}
-use Rattle.leapfrog_join.proofs.Parts.{part-none}
+use Rattle.leapfrog_search.specs.Leapfrog.{part}
+use Rattle.leapfrog_search.proofs.Parts.{part-none}
 use Rattle.two_runs.specs.Runs.{runOf}
 use Rattle.stretches.specs.Stand.{Stand, restOf, tailOf, wholeOf, Tailed, schoolLeft, Laid}
 

@@ -24,14 +24,14 @@ use Rattle.leapfrog.specs.Search.{Went, out, runAt, first, placeAfter, more, st
 use Rattle.leapfrog.proofs.Steps.{cons-some}
 use Rattle.leapfrog.proofs.Search.{from-end, ring-comes}
 use Rattle.ring_sort.specs.Sorted.{keyAt}
-use Rattle.leapfrog_join.specs.Ring.{Follows}
-use Rattle.leapfrog_join.specs.Leapfrog.{part, runsIn, Ordered, Moved, answered, Ran}
-use Rattle.leapfrog_join.specs.declared.Landed.{Landed}
-use Rattle.leapfrog_join.specs.declared.Landed.the-variants.{Key, Nothing}
-use Rattle.leapfrog_join.specs.declared.Searched.{Searched}
-use Rattle.leapfrog_join.proofs.Parts.{part-length, part-cons, part-none}
-use Rattle.leapfrog_join.proofs.Runs.{atom-place}
-use Rattle.leapfrog_join.proofs.Defined.{follows-after, round-same, few, left-agreed, ready-ring}
+use Rattle.leapfrog_search.specs.Ring.{Follows}
+use Rattle.leapfrog_search.specs.Leapfrog.{part, runsIn, Ordered, Moved, answered, Ran}
+use Rattle.leapfrog_search.specs.declared.Landed.{Landed}
+use Rattle.leapfrog_search.specs.declared.Landed.the-variants.{Key, Nothing}
+use Rattle.leapfrog_search.specs.declared.Searched.{Searched}
+use Rattle.leapfrog_search.proofs.Parts.{part-length, part-cons, part-none}
+use Rattle.leapfrog_search.proofs.Runs.{atom-place}
+use Rattle.leapfrog_search.proofs.Defined.{follows-after, round-same, few, left-agreed, ready-ring}
 use Rattle.pieces.specs.Halted.{goalAt, Halted}
 use Rattle.pieces.proofs.Zip.{zipped, zipped-total, zipped-map}
 use Rattle.pieces.proofs.Longer.{Extends, ring-extends, go-out, go-some, more-more}

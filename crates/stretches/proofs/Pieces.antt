@@ -11,11 +11,11 @@ use Rattle.relation.specs.Lists.{_∈_}
 use Rattle.leapfrog.specs.Search.{runAt, first, placeBefore}
 use Rattle.ring_sort.specs.Sorted.{keyAt}
 use Rattle.ring_sort.proofs.Lists.{nth-in, getD-map}
-use Rattle.leapfrog_join.specs.Ring.{Follows}
-use Rattle.leapfrog_join.specs.Leapfrog.{part, runsIn}
-use Rattle.leapfrog_join.proofs.Parts.{part-length, part-cons, part-none}
-use Rattle.leapfrog_join.proofs.Runs.{runs-length, runs-at}
-use Rattle.leapfrog_join.proofs.Defined.{follows-before}
+use Rattle.leapfrog_search.specs.Ring.{Follows}
+use Rattle.leapfrog_search.specs.Leapfrog.{part, runsIn}
+use Rattle.leapfrog_search.proofs.Parts.{part-length, part-cons, part-none}
+use Rattle.leapfrog_search.proofs.Runs.{runs-length, runs-at}
+use Rattle.leapfrog_search.proofs.Defined.{follows-before}
 use Rattle.pieces.specs.Halted.{goalAt, Halted}
 use Rattle.pieces.proofs.Longer.{goal-one, goal-more, before-other}
 use Rattle.stretches.specs.Pause.{Pieces}

@@ -18,8 +18,8 @@ use Rattle.query.specs.Limits.{maxAtoms}
 use Rattle.overlay.specs.Merge.{merge}
 use Rattle.overlay.proofs.Merge.{merge-ascends, merge-swap}
 use Rattle.overlay.proofs.Stretch.{split}
-use Rattle.leapfrog_join.specs.Leapfrog.{part, Reached}
-use Rattle.leapfrog_join.proofs.Parts.{part-cons, part-none}
+use Rattle.leapfrog_search.specs.Leapfrog.{part, Reached}
+use Rattle.leapfrog_search.proofs.Parts.{part-cons, part-none}
 use Rattle.two_runs.specs.Runs.{turnedOf, runOf, Inside, Led, InOrder, Stays, Stretched}
 use Rattle.two_runs.specs.declared.Runs.{Runs}
 use Rattle.two_runs.specs.declared.Stretch.{Stretch}

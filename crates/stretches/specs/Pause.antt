@@ -13,10 +13,10 @@ use Rattle.query.specs.Limits.{maxAtoms}
 use Rattle.query.specs.Meet.{total}
 use Rattle.leapfrog.specs.Search.{Went, more, goOn}
 use Rattle.pieces.specs.Halted.{goalAt, Halted}
-use Rattle.leapfrog_join.specs.Leapfrog.{part, runsIn, Agreed, answered}
-use Rattle.leapfrog_join.specs.declared.Landed.{Landed}
-use Rattle.leapfrog_join.specs.declared.Landed.the-variants.{Key, Nothing}
-use Rattle.leapfrog_join.specs.declared.Searched.{Searched}
+use Rattle.leapfrog_search.specs.Leapfrog.{part, runsIn, Agreed, answered}
+use Rattle.leapfrog_search.specs.declared.Landed.{Landed}
+use Rattle.leapfrog_search.specs.declared.Landed.the-variants.{Key, Nothing}
+use Rattle.leapfrog_search.specs.declared.Searched.{Searched}
 use Rattle.two_runs.specs.Runs as two
 use Rattle.two_runs.specs.declared.Runs as rust
 use Rattle.stretches.specs.Stand.{State, standOf, tailOf, wholeOf, wholesIn, Tailed, Sized, Laid}

@@ -11,7 +11,7 @@ use lib.Dec.{eqb}
 use Rattle.relation.specs.Order.{pick}
 use Rattle.relation.specs.Lists.{_∈_, Ascends}
 use Rattle.query.specs.Limits.{maxAtoms}
-use Rattle.leapfrog_join.specs.Leapfrog.{part}
+use Rattle.leapfrog_search.specs.Leapfrog.{part}
 use Rattle.two_runs.specs.Runs.{runOf, Inside}
 use Rattle.two_runs.specs.declared.Runs.{Runs}
 

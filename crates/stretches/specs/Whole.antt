@@ -6,10 +6,10 @@ use lib.ListN.{getD, take, drop}
 use Rattle.relation.specs.Lists.{_∈_}
 use Rattle.leapfrog.specs.Search.{Went, initOf}
 use Rattle.ring_sort.specs.Sorted.{keyAt, sortedAtoms}
-use Rattle.leapfrog_join.specs.Leapfrog.{Ready, Agreed, answered}
-use Rattle.leapfrog_join.specs.declared.Landed.{Landed}
-use Rattle.leapfrog_join.specs.declared.Landed.the-variants.{Key, Nothing}
-use Rattle.leapfrog_join.specs.declared.Searched.{Searched}
+use Rattle.leapfrog_search.specs.Leapfrog.{Ready, Agreed, answered}
+use Rattle.leapfrog_search.specs.declared.Landed.{Landed}
+use Rattle.leapfrog_search.specs.declared.Landed.the-variants.{Key, Nothing}
+use Rattle.leapfrog_search.specs.declared.Searched.{Searched}
 use Rattle.stretches.specs.Stand.{State, Stand, standOf, wholesIn, Tailed, Sized, Laid}
 
 -- each of the first k atoms of the ring stands on a key of its piece

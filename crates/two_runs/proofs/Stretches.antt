@@ -12,8 +12,8 @@ use Rattle.relation.specs.Lists.{_∈_, hd, not-in-nil, Ascends}
 use Rattle.relation.proofs.Runs.{from-in, from-ascends, from-least, head-least}
 use Rattle.overlay.specs.Merge.{merge}
 use Rattle.overlay.proofs.Stretch.{split, stretch-merge}
-use Rattle.leapfrog_join.specs.Leapfrog.{part, Reached}
-use Rattle.leapfrog_join.proofs.Parts.{part-cons, part-none}
+use Rattle.leapfrog_search.specs.Leapfrog.{part, Reached}
+use Rattle.leapfrog_search.proofs.Parts.{part-cons, part-none}
 use Rattle.two_runs.specs.Runs.{Led, Stretched}
 use Rattle.two_runs.specs.declared.Runs.{Runs}
 

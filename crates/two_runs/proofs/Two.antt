@@ -12,8 +12,8 @@ use Rattle.relation.proofs.Runs.{from-drop, from-ascends}
 use Rattle.overlay.specs.Merge.{merge}
 use Rattle.overlay.proofs.Merge.{merge-swap, merge-from}
 use Rattle.overlay.proofs.Cutting.{from-past}
-use Rattle.leapfrog_join.specs.Leapfrog.{part, Reached}
-use Rattle.leapfrog_join.proofs.Parts.{part-length, part-at, part-cons, part-none}
+use Rattle.leapfrog_search.specs.Leapfrog.{part, Reached}
+use Rattle.leapfrog_search.proofs.Parts.{part-length, part-at, part-cons, part-none}
 use Rattle.two_runs.specs.Runs.{turnedOf, runOf, Inside, Led, InOrder, Stays}
 use Rattle.two_runs.specs.declared.Runs.{Runs}
 

@@ -7,7 +7,7 @@ use Prim.Native.Nat.{ℕ, _+_, _-_, _≤_, _<_}
 use lib.ListN.{length, getD}
 use Rattle.relation.specs.Lists.{_∈_, Ascends}
 use Rattle.overlay.specs.Merge.{merge}
-use Rattle.leapfrog_join.specs.Leapfrog.{part, Reached}
+use Rattle.leapfrog_search.specs.Leapfrog.{part, Reached}
 use Rattle.two_runs.specs.declared.Runs.{Runs}
 use Rattle.two_runs.specs.declared.Stretch.{Stretch}
 

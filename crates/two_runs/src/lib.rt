@@ -8,7 +8,7 @@ ghost use mathlib.Core.Path.{_≡_};
 ghost use Prim.Native.Nat.{_+_, _≤_, _<_};
 ghost use lib.ListN.{length, getD};
 ghost use Rattle.relation.specs.Lists.{Ascends};
-ghost use Rattle.leapfrog_join.specs.Leapfrog.{part, Reached};
+ghost use Rattle.leapfrog_search.specs.Leapfrog.{part, Reached};
 ghost use Rattle.two_runs.specs.Runs.{turnedOf, Inside, Led, Turns, InOrder, Stays, Stretched};
 use seek::SeekStrategy;
 use seek::probe;

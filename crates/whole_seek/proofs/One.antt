@@ -13,8 +13,8 @@ use Rattle.relation.specs.Order.{pick}
 use Rattle.relation.specs.Lists.{_∈_, not-in-nil, anone}
 use Rattle.relation.specs.Runs.{from}
 use Rattle.leapfrog.proofs.Steps.{cons-some}
-use Rattle.leapfrog_join.specs.Leapfrog.{part, OnKey, Reached}
-use Rattle.leapfrog_join.proofs.Parts.{part-cons, part-none}
+use Rattle.leapfrog_search.specs.Leapfrog.{part, OnKey, Reached}
+use Rattle.leapfrog_search.proofs.Parts.{part-cons, part-none}
 use Rattle.pieces.proofs.Zip.{from-behind, from-before}
 use Rattle.two_runs.specs.Runs as two
 use Rattle.stretches.specs.Stand.{State, standOf, restOf, tailOf, wholeOf, Tailed, Behind, Sized, Laid}

@@ -17,14 +17,14 @@ use Rattle.leapfrog.specs.Search.{Went, out, runAt, placeAfter, more, stopped, 
 use Rattle.leapfrog.proofs.Steps.{cons-some}
 use Rattle.leapfrog.proofs.Search.{search-seeks-bounded}
 use Rattle.ring_sort.specs.Sorted.{keyAt}
-use Rattle.leapfrog_join.specs.Ring.{Follows}
-use Rattle.leapfrog_join.specs.Leapfrog.{part, Ordered, answered}
-use Rattle.leapfrog_join.specs.declared.Landed.{Landed}
-use Rattle.leapfrog_join.specs.declared.Landed.the-variants.{Key, Nothing}
-use Rattle.leapfrog_join.specs.declared.Searched.{Searched}
-use Rattle.leapfrog_join.proofs.Parts.{part-cons}
-use Rattle.leapfrog_join.proofs.Runs.{enough, ring-in}
-use Rattle.leapfrog_join.proofs.Defined.{follows-after}
+use Rattle.leapfrog_search.specs.Ring.{Follows}
+use Rattle.leapfrog_search.specs.Leapfrog.{part, Ordered, answered}
+use Rattle.leapfrog_search.specs.declared.Landed.{Landed}
+use Rattle.leapfrog_search.specs.declared.Landed.the-variants.{Key, Nothing}
+use Rattle.leapfrog_search.specs.declared.Searched.{Searched}
+use Rattle.leapfrog_search.proofs.Parts.{part-cons}
+use Rattle.leapfrog_search.proofs.Runs.{enough, ring-in}
+use Rattle.leapfrog_search.proofs.Defined.{follows-after}
 use Rattle.leapfrog_join.proofs.Laws.{agreed-ordered}
 use Rattle.pieces.proofs.Longer.{go-out, go-some}
 use Rattle.stretches.specs.Stand.{State, Stand, standOf, tailOf, wholeOf, wholesIn, Tailed, Laid}

@@ -96,7 +96,7 @@ fn copied_params(function: &Function) -> Vec<usize> {
 
 /// The crates whose functions are the steps of a join's descent. They take a dozen arguments and answer with four words, so that where one is not compiled into the
 /// descent the call costs more than the step.
-const STEPS: [&str; 3] = ["join_depths::", "leapfrog_join::", "stretches::"];
+const STEPS: [&str; 5] = ["join_depths::", "join_openings::", "leapfrog_join::", "leapfrog_search::", "stretches::"];
 
 /// What a plain join never reaches of them.
 const SELDOM: [&str; 3] = ["stretches::go_on", "stretches::refill", "stretches::take_stretch"];

@@ -7,9 +7,9 @@ use native.Mathlib.Omega.{arith}
 use lib.ListN.{length}
 use Rattle.relation.proofs.Tests.{passed, failed}
 use Rattle.column_trie.specs.Table.{layersIn, undamaged}
-use Rattle.column_trie_listing.specs.Text.{text}
+use Rattle.layer_text.specs.Text.{text}
 use Rattle.column_trie_listing.specs.List.{Lists}
-use Rattle.column_trie_listing.specs.Piece.{PieceWritten}
+use Rattle.layer_text.specs.Piece.{PieceWritten}
 use Rattle.column_trie_listing.proofs.Lists.{none-before, damaged, too-long, listed}
 use borrow.Author.Needs.{needs}
 use Rattle.column_trie_listing.proofs.list.Statement.{statement}

@@ -7,8 +7,8 @@ use lib.ListN.{length}
 use borrow.Author.Needs.{needs}
 use Rattle.column_trie.proofs.Header.{LayerFits, layer-fits, header-told}
 use Rattle.column_trie.proofs.Groups.{keys-long, intervals-long}
-use Rattle.column_trie_listing.specs.Text.{layerText, lists}
-use Rattle.column_trie_listing.proofs.Texts.{written-as}
+use Rattle.layer_text.specs.Text.{layerText, lists}
+use Rattle.layer_text.proofs.Texts.{written-as}
 use Rattle.column_trie_listing.proofs.put_depth.Statement.{statement}
 use Rattle.column_trie_listing.proofs.put_depth.Tie as tie
 

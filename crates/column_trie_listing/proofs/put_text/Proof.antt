@@ -13,9 +13,9 @@ use Rattle.column_trie.proofs.Header.{InPool}
 use Rattle.column_trie.proofs.Layers.{Whole, layers-length, layers-at}
 use Rattle.column_trie.proofs.Damage.{undamaged-told, undamaged-header}
 use Rattle.column_trie.proofs.Stored.{in-pool}
-use Rattle.column_trie_listing.specs.Text.{layerText, text}
-use Rattle.column_trie_listing.specs.Piece.{PieceWritten}
-use Rattle.column_trie_listing.proofs.Texts.{no-text, text-more, written-none, written-more, written-as}
+use Rattle.layer_text.specs.Text.{layerText, text}
+use Rattle.layer_text.specs.Piece.{PieceWritten}
+use Rattle.layer_text.proofs.Texts.{no-text, text-more, written-none, written-more, written-as}
 use Rattle.column_trie_listing.proofs.put_text.Statement.{statement}
 use Rattle.column_trie_listing.proofs.put_text.Tie as tie
 use Rattle.column_trie_listing.proofs.put_text.Reads as reads

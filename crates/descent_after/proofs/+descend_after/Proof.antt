@@ -10,10 +10,11 @@ use borrow.Fn.PlainCycle.{Measures, is, falls, and}
 use Rattle.query.specs.Limits.{maxAtoms}
 use Rattle.join_query.specs.Query.{maxVariables}
 use Rattle.join_window.specs.Window.{Fits}
-use Rattle.join_depths.specs.Depth.{variableAt, Standing}
+use Rattle.join_openings.specs.Openings.{variableAt}
+use Rattle.join_depths.specs.Depth.{Standing}
 use Rattle.join_depths.proofs.depth.onward.Reads as onward-reads
-use Rattle.leapfrog_triejoin.proofs.Walking.{few-variables, deep-enough, variable-small}
-use Rattle.leapfrog_triejoin.proofs.Joining.{zeros}
+use Rattle.descent.proofs.Walking.{few-variables, deep-enough, variable-small}
+use Rattle.descent.proofs.Root.{zeros}
 use Rattle.bounded_depth.proofs.open_from.Reads as open-from-reads
 use Rattle.rest_of_depth.proofs.walk_rest.Reads as walk-rest-reads
 use Rattle.descent_after.proofs.Bounding.{after-leaf, after-least, after-underway, after-none, after-past, after-below, after-agreed, after-same, after-next, after-filled, after-fitting, after-rest}

@@ -1,7 +1,7 @@
 -- `list_after` meets its contract: from the root the descent with the bound leaves the rows after the given one, and that without it all of them.
 use native.Mathlib.Omega.{arith}
 use mathlib.Core.Path.{refl}
-use Rattle.leapfrog_triejoin.proofs.Joining.{plannable, standing-root}
+use Rattle.descent.proofs.Root.{plannable, standing-root}
 use Rattle.join_after.proofs.Answer.{fits-none, listed-on, listed-all}
 use borrow.Author.Needs.{needs}
 use Rattle.join_after.proofs.list_after.Statement.{statement}

@@ -1,7 +1,7 @@
 -- `leapfrog_join::hits` meets its contract, by how the search ended.
 use mathlib.Core.Path.{ap, sym}
 use borrow.Author.Needs.{needs}
-use Rattle.leapfrog_join.specs.Leapfrog.{hitOn}
+use Rattle.leapfrog_join.specs.Calls.{hitOn}
 use Rattle.leapfrog_join.proofs.hits.Statement.{statement}
 use Rattle.leapfrog_join.proofs.hits.Tie as tie
 

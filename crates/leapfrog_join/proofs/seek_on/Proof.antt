@@ -6,9 +6,9 @@ use lib.Arith.{lt-of-le-ne}
 use lib.ListN.{getD}
 use Rattle.leapfrog.specs.Search.{runAt, seekTo}
 use Rattle.leapfrog.proofs.Search.{from-end}
-use Rattle.leapfrog_join.specs.Leapfrog.{runsIn, Reached}
-use Rattle.leapfrog_join.proofs.Runs.{sought}
-use Rattle.leapfrog_join.proofs.Defined.{ready-few}
+use Rattle.leapfrog_search.specs.Leapfrog.{runsIn, Reached}
+use Rattle.leapfrog_search.proofs.Runs.{sought}
+use Rattle.leapfrog_search.proofs.Defined.{ready-few}
 use Rattle.leapfrog_join.proofs.Laws.{search-few}
 use Rattle.leapfrog_join.proofs.Stepping.{stands, ran-on, ran-more, step-moved, step-ready, step-ordered, step-out, step-on, target-run, target-ascends, target-in}
 use Rattle.leapfrog_join.proofs.seek_on.Statement.{statement}

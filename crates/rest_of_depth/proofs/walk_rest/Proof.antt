@@ -5,8 +5,8 @@ use lib.ListN.{length}
 use borrow.Author.Needs.{needs}
 use Rattle.stretches.specs.Stand.{state}
 use Rattle.join_query.specs.Query.{maxVariables}
-use Rattle.join_depths.specs.Depth.{countAt}
-use Rattle.leapfrog_triejoin.proofs.Walking.{keysLeft, steps-less}
+use Rattle.join_openings.specs.Openings.{countAt}
+use Rattle.descent.proofs.Walking.{keysLeft, steps-less}
 use Rattle.rest_of_depth.proofs.Resting.{Walking, walk-start, few-variables, variable-small, walk-below, walk-agreed, walk-same, walk-fits, walk-full, walk-next, walk-none}
 use Rattle.rest_of_depth.proofs.walk_rest.Statement.{statement}
 use Rattle.rest_of_depth.proofs.walk_rest.Tie as tie

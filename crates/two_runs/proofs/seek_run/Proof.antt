@@ -3,7 +3,7 @@ use mathlib.Core.Path.{ap}
 use native.Mathlib.Omega.{arith}
 use borrow.Author.Needs.{needs}
 use Rattle.seek.specs.declared.Probed.{Probed}
-use Rattle.leapfrog_join.proofs.Parts.{seek-within, seek-reached}
+use Rattle.leapfrog_search.proofs.Parts.{seek-within, seek-reached}
 use Rattle.two_runs.proofs.seek_run.Statement.{statement}
 use Rattle.two_runs.proofs.seek_run.Tie as tie
 

@@ -1,7 +1,7 @@
 -- `whole_seek::whole_seek` meets its contract: one atom is sought, and from the next place the ring is ordered.
 use native.Mathlib.Omega.{arith}
 use borrow.Author.Tests.{not-true, not-false}
-use Rattle.leapfrog_join.proofs.Runs.{ring-in, stands-at}
+use Rattle.leapfrog_search.proofs.Runs.{ring-in, stands-at}
 use Rattle.whole_seek.proofs.Ring.{seek-none, seek-ready, seek-ordered, seek-few, seek-found}
 use borrow.Author.Needs.{needs}
 use Rattle.whole_seek.proofs.whole_seek.Statement.{statement}

@@ -3,8 +3,8 @@ use native.Mathlib.Omega.{arith}
 use borrow.Author.Needs.{needs}
 use borrow.Author.Tests.{not-true, not-false}
 use Rattle.stretches.specs.Stand.{State, state}
-use Rattle.join_depths.specs.Depth.{Openable}
-use Rattle.join_depths.proofs.Openings.{all-true, all-false}
+use Rattle.join_openings.specs.Openings.{Openable}
+use Rattle.join_openings.proofs.Openings.{all-true, all-false}
 use Rattle.join_depths.proofs.Depths.{openable}
 use Rattle.join_depths.proofs.Beginnings.{begin-ready, begin-ascends, opening-refused, opening-opened}
 use Rattle.join_depths.proofs.depth.open.Statement.{statement}

@@ -4,7 +4,7 @@ use native.Mathlib.Omega.{arith}
 use mathlib.Core.Path.{_≡_, ap, _∙_}
 use borrow.Author.Needs.{needs}
 use Rattle.leapfrog.specs.Walk.{capped}
-use Rattle.leapfrog_join.specs.declared.Searched.{Searched}
+use Rattle.leapfrog_search.specs.declared.Searched.{Searched}
 use Rattle.join_depths.proofs.depth.since.Statement.{statement}
 use Rattle.join_depths.proofs.depth.since.Tie as tie
 

@@ -1,7 +1,7 @@
 -- `calls::begin` meets its contract: the ring is in atom order, so the leapfrog may begin, and where it ends is what the definition of its calls comes to.
 use mathlib.Core.Path.{sym, subst}
 use borrow.Author.Needs.{needs}
-use Rattle.leapfrog_join.specs.Leapfrog.{Ended}
+use Rattle.leapfrog_search.specs.Leapfrog.{Ended}
 use Rattle.leapfrog_join.proofs.Beginning.{begun-left}
 use Rattle.replay_leapfrogs.proofs.Order.{begin-asks}
 use Rattle.replay_leapfrogs.proofs.calls.begin.Statement.{statement}

@@ -1,6 +1,6 @@
 -- `calls::later` is safe and ends: each turn leaves one call fewer, and where the last call found a key all stand on it, so the next may be asked.
 use borrow.Author.Needs.{needs}
-use Rattle.leapfrog_join.specs.Leapfrog.{Ended}
+use Rattle.leapfrog_search.specs.Leapfrog.{Ended}
 use Rattle.replay_leapfrogs.proofs.Order.{ended-here}
 use Rattle.replay_leapfrogs.proofs.calls.later.Statement.{statement}
 use Rattle.replay_leapfrogs.proofs.calls.later.Tie as tie

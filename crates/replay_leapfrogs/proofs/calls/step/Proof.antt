@@ -1,7 +1,7 @@
 -- `calls::step` meets its contract: where the ring agrees both calls may be asked, and each ends as the definition of its algorithm comes to.
 use mathlib.Core.Path.{sym, subst}
 use borrow.Author.Needs.{needs}
-use Rattle.leapfrog_join.specs.Leapfrog.{Ended}
+use Rattle.leapfrog_search.specs.Leapfrog.{Ended}
 use Rattle.leapfrog_join.proofs.Laws.{went-next, went-seek}
 use Rattle.replay_leapfrogs.proofs.calls.step.Statement.{statement}
 use Rattle.replay_leapfrogs.proofs.calls.step.Tie as tie

@@ -1,0 +1,3 @@
+pub mod Walking
+mod Counting
+pub mod Root

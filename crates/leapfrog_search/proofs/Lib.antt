@@ -1,0 +1,4 @@
+pub mod Defined
+mod Going
+pub mod Parts
+pub mod Runs
