@@ -1,7 +1,8 @@
-// Internal: one pass over a recorded listing: the first of its rows that is not an answer, or does not come strictly after the one before it. No row is searched for: an
+// Internal: a pass over the rows of a recorded listing: the first that is not an answer, or does not come strictly after the one before it. No row is searched for: an
 // atom's part of a listed row is looked up in the atom's table, as the plain engine does once an atom is complete.
 ghost use mathlib.Core.Path.{_≡_};
-ghost use Prim.Native.Nat.{_+_, _*_, _≤_, _<_};
+ghost use mathlib.Core.Bool.{true};
+ghost use Prim.Native.Nat.{ℕ, _+_, _*_, _≤_, _<_};
 ghost use lib.ListN.{length, take, drop};
 ghost use Rattle.relation.specs.Order.{before};
 ghost use Rattle.relation.specs.Rows.{cut, same};
@@ -56,7 +57,7 @@ fn answers(pool: &[u64], tables: Tables, query: Query, row: [u64; Query::MAX_VAR
 {
     let mut v = 0;
     while v < query.n {
-        if !all_hold(pool, tables, query, row, v) {
+        if !all_hold(pool, tables, query, row, v, 0) {
             return false;
         }
         v += 1;
@@ -80,18 +81,19 @@ fn good(pool: &[u64], tables: Tables, query: Query, listing: &[u64], i: usize) -
     comes_before(query, last, row)
 }
 
-// The number of the first row that is not; that of the rows, where there is none.
+// The number of the first row that is not, where those before `from` are; that of the rows, where there is none.
 pub fn first_wrong(
     pool: &[u64],
     tables: Tables,
     query: Query,
     listing: &[u64],
     rows: usize,
+    from: usize,
 ) -> usize
-    requires { ⌜ Passed (now pool) tables query × (rows * query .n ≤ length (now listing)) ⌝ }
+    requires { ⌜ Passed (now pool) tables query × (rows * query .n ≤ length (now listing)) × (from ≤ rows) × ((k : ℕ) → k < from → good (orderOf query) (complete (now pool) tables query) (cut rows (query .n) (now listing)) k ≡ true) ⌝ }
     ensures { λ r. ⌜ r ≡ firstFail rows (good (orderOf query) (complete (now (pool .entry)) tables query) (cut rows (query .n) (now (listing .entry)))) ⌝ }
 {
-    let mut i = 0;
+    let mut i = from;
     while i < rows {
         if !good(pool, tables, query, listing, i) {
             return i;

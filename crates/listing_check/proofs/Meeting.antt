@@ -3,7 +3,7 @@ use Prim.Native.Nat.{ℕ, zero, suc, _+_, _*_, _-_, _/_, _≤_, _<_}
 use native.Mathlib.Omega.{arith}
 use native.Mathlib.Nat.{mul-zero, div-mul-le-self}
 use native.Mathlib.Numerals.{add-one}
-use mathlib.Core.Path.{_≡_, refl, sym, ap, subst, _∙_}
+use mathlib.Core.Path.{_≡_, refl, sym, ap, _∙_}
 use mathlib.Core.Bool.{Bool, true, false, _&&_}
 use mathlib.Core.List.{List, [], _∷_, _++_}
 use lib.ListN.{length, getD, set, take, drop, replicate, length-set, length-drop}
@@ -13,7 +13,9 @@ use lib.Dec.{ltb}
 use borrow.Author.Tests.{ltb-true, ltb-false, lt-ltb, le-ltb}
 use Rattle.relation.specs.Order.{Row, pick}
 use Rattle.relation.specs.Rows.{cut, same}
-use Rattle.relation.proofs.Words.{length-cut, cut-at}
+use Rattle.relation.proofs.Sorting.{same→eq}
+use Rattle.relation.proofs.Tests.{true-T}
+use Rattle.relation.proofs.Words.{cut-at}
 use Rattle.join_query.specs.Query.{maxVariables}
 use Rattle.listing_verdict.specs.Checked.{eight, noRow, says}
 use Rattle.listing_verdict.specs.Verdict.{accepted, missing, howMany}
@@ -114,40 +116,60 @@ meets-lacking rows s (x ∷ xs) e =
 
 -- the verdict of a walk that has come to its end
 unfoldable pub ended : Reached → Checked
-ended s = pick (s .lacks) (record { number = 0; verdict = 3; row = 0; missing = s .missing }) (record { number = 0; verdict = 1; row = 0; missing = noRow })
+ended s = record { number = 0; verdict = pick (s .lacks) 3 1; row = 0; missing = s .missing }
+
+-- the k rows listed from a place on are the first k of all
+abbrev Same : List Row → ℕ → List Row → ℕ → Type 0
+Same rows at all k = (j : ℕ) → j < k → (at + j < length rows) × (j < length all) × (getD rows (at + j) [] ≡ getD all j [])
+
+same-more : (rows : List Row) (at : ℕ) (r : Row) (all : List Row) (k : ℕ) → at < length rows → same (getD rows at []) r ≡ true → Same rows (at + 1) all k → Same rows at (r ∷ all) (suc k)
+same-more rows at r all k h e f zero l =
+    (omega arith, omega arith, ap (λ (i : ℕ). getD rows i []) (let z : at + 0 ≡ at = omega arith in z) ∙ same→eq (getD rows at []) r (true-T (same (getD rows at []) r) e))
+same-more rows at r all k h e f (suc j) l =
+    let i = f j (omega arith) in
+    (omega (arith, i .0), omega (arith, i .1), ap (λ (m : ℕ). getD rows m []) (let z : at + suc j ≡ at + 1 + j = omega arith in z) ∙ i .2)
 
 -- either the walk agrees to its end, or the row that it names is the first that differs
 data Came (rows : List Row) (at : ℕ) (all : List Row) : Type 0 where
-  whole : meets rows (agreed at) all ≡ agreed (at + length all) → differs (drop at rows) all ≡ accepted → Came rows at all
-  short : (k : ℕ) (r : Row) → meets rows (agreed at) all ≡ record { at = k; lacks = true; missing = eight r } → differs (drop at rows) all ≡ missing r → Came rows at all
+  whole : meets rows (agreed at) all ≡ agreed (at + length all) → differs (drop at rows) all ≡ accepted → Same rows at all (length all) → Came rows at all
+  short : (k : ℕ) (r : Row) → meets rows (agreed at) all ≡ record { at = at + k; lacks = true; missing = eight r } → differs (drop at rows) all ≡ missing r → Same rows at all k → Came rows at all
 
 came : (rows : List Row) (at : ℕ) (all : List Row) → Came rows at all
 unfolding meets differs
-came rows at [] = whole (ap agreed (let e : at ≡ at + 0 = omega arith in e)) refl
+came rows at [] = whole (ap agreed (let e : at ≡ at + 0 = omega arith in e)) refl (λ j h. absurd (omega arith))
 came rows at (r ∷ all) = go (ltb at (length rows)) refl (same (getD rows at []) r) refl (came rows (at + 1) all)
   where
+    -- it stops at this row
+    stop : meet rows (agreed at) r ≡ record { at = at; lacks = true; missing = eight r } → differs (drop at rows) (r ∷ all) ≡ missing r → Came rows at (r ∷ all)
+    stop e d =
+        short 0 r
+        (ap (λ (s : Reached). meets rows s all) e
+        ∙ meets-lacking rows (record { at = at; lacks = true; missing = eight r }) all refl
+        ∙ ap {B = Reached} (λ (k : ℕ). record { at = k; lacks = true; missing = eight r }) (let z : at ≡ at + 0 = omega arith in z))
+        d
+        (λ j h. absurd (omega arith))
+
     past : length rows ≤ at → Came rows at (r ∷ all)
-    past h =
-        short at r
-        (ap (λ (s : Reached). meets rows s all) (meet-past rows at r h) ∙ meets-lacking rows (record { at = at; lacks = true; missing = eight r }) all refl)
-        (ap (λ (l : List Row). differs l (r ∷ all)) (drop-of-length-le rows {i = at} h))
+    past h = stop (meet-past rows at r h) (ap (λ (l : List Row). differs l (r ∷ all)) (drop-of-length-le rows {i = at} h))
 
     split : at < length rows → drop at rows ≡ getD rows at [] ∷ drop (at + 1) rows
     split h = drop-cons rows at [] h ∙ ap (λ (k : ℕ). getD rows at [] ∷ drop k rows) (sym (add-one at))
 
+    by-row : at < length rows → {b : Bool} → same (getD rows at []) r ≡ b → differs (drop at rows) (r ∷ all) ≡ pick b (differs (drop (at + 1) rows) all) (missing r)
+    by-row h e = ap (λ (l : List Row). differs l (r ∷ all)) (split h) ∙ ap (λ (b : Bool). pick b (differs (drop (at + 1) rows) all) (missing r)) e
+
     next : at < length rows → (b : Bool) → same (getD rows at []) r ≡ b → Came rows (at + 1) all → Came rows at (r ∷ all)
-    next h false e c =
-        short at r
-        (ap (λ (s : Reached). meets rows s all) (meet-other rows at r e) ∙ meets-lacking rows (record { at = at; lacks = true; missing = eight r }) all refl)
-        (ap (λ (l : List Row). differs l (r ∷ all)) (split h) ∙ ap (λ (b : Bool). pick b (differs (drop (at + 1) rows) all) (missing r)) e)
-    next h true e (whole m d) =
+    next h false e c = stop (meet-other rows at r e) (by-row h e)
+    next h true e (whole m d f) =
         whole
         (ap (λ (s : Reached). meets rows s all) (meet-next rows at r h e) ∙ m ∙ ap agreed (let z : at + 1 + length all ≡ at + suc (length all) = omega arith in z))
-        (ap (λ (l : List Row). differs l (r ∷ all)) (split h) ∙ ap (λ (b : Bool). pick b (differs (drop (at + 1) rows) all) (missing r)) e ∙ d)
-    next h true e (short k q m d) =
-        short k q
-        (ap (λ (s : Reached). meets rows s all) (meet-next rows at r h e) ∙ m)
-        (ap (λ (l : List Row). differs l (r ∷ all)) (split h) ∙ ap (λ (b : Bool). pick b (differs (drop (at + 1) rows) all) (missing r)) e ∙ d)
+        (by-row h e ∙ d)
+        (same-more rows at r all (length all) h e f)
+    next h true e (short k q m d f) =
+        short (suc k) q
+        (ap (λ (s : Reached). meets rows s all) (meet-next rows at r h e) ∙ m ∙ ap {B = Reached} (λ (i : ℕ). record { at = i; lacks = true; missing = eight q }) (let z : at + 1 + k ≡ at + suc k = omega arith in z))
+        (by-row h e ∙ d)
+        (same-more rows at r all k h e f)
 
     go : (b : Bool) → ltb at (length rows) ≡ b → (d : Bool) → same (getD rows at []) r ≡ d → Came rows (at + 1) all → Came rows at (r ∷ all)
     go true e d f c = next (ltb-true at (length rows) e) d f c
@@ -158,13 +180,26 @@ unfolding ended says
 meets-ended rows all = go (came rows 0 all)
   where
     go : Came rows 0 all → ended (meets rows (agreed 0) all) ≡ says (differs rows all)
-    go (whole m d) = ap ended m ∙ ap says (sym d)
-    go (short k r m d) = ap ended m ∙ ap says (sym d)
+    go (whole m d f) = ap ended m ∙ ap says (sym d)
+    go (short k r m d f) = ap ended m ∙ ap says (sym d)
+
+-- the rows passed are the first of all
+pub meets-same : (rows all : List Row) {s : Reached} → s ≡ meets rows (agreed 0) all → (k : ℕ) → k < s .at → (k < length rows) × (k < length all) × (getD rows k [] ≡ getD all k [])
+meets-same rows all {s} e k h = go (came rows 0 all)
+  where
+    first : {i : ℕ} → Same rows 0 all i → s .at ≡ 0 + i → (k < length rows) × (k < length all) × (getD rows k [] ≡ getD all k [])
+    first f d =
+        let t = f k (omega arith) in
+        (omega (arith, t .0), t .1, ap (λ (i : ℕ). getD rows i []) (let z : k ≡ 0 + k = omega arith in z) ∙ t .2)
+
+    go : Came rows 0 all → (k < length rows) × (k < length all) × (getD rows k [] ≡ getD all k [])
+    go (whole m d f) = first f (ap (λ (u : Reached). u .at) (e ∙ m))
+    go (short i r m d f) = first f (ap (λ (u : Reached). u .at) (e ∙ m))
 
 -- a walk that lacks nothing has nothing in its third field
 pub meets-agreed : (rows : List Row) (at : ℕ) (all : List Row) {s : Reached} → s ≡ meets rows (agreed at) all → s .lacks ≡ false → s ≡ agreed (s .at)
 meets-agreed rows at all {s} e n = go (came rows at all)
   where
     go : Came rows at all → s ≡ agreed (s .at)
-    go (whole m d) = let t : s ≡ agreed (at + length all) = e ∙ m in t ∙ ap (λ (u : Reached). agreed (u .at)) (sym t)
-    go (short k r m d) = let t : s .lacks ≡ true = ap (λ (u : Reached). u .lacks) (e ∙ m) in let z : true ≡ false = sym t ∙ n in let y : _≡_ {A = ℕ} 0 1 = cc in absurd (omega arith)
+    go (whole m d f) = let t : s ≡ agreed (at + length all) = e ∙ m in t ∙ ap (λ (u : Reached). agreed (u .at)) (sym t)
+    go (short k r m d f) = let t : s .lacks ≡ true = ap (λ (u : Reached). u .lacks) (e ∙ m) in let z : true ≡ false = sym t ∙ n in let y : _≡_ {A = ℕ} 0 1 = cc in absurd (omega arith)

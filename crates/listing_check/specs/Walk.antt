@@ -14,6 +14,10 @@ use Rattle.listing_check.specs.declared.Reached.{Reached}
 abbrev pub agreed : ℕ → Reached
 agreed at = record { at = at; lacks = false; missing = noRow }
 
+-- all rows that were looked at do
+abbrev pub Agrees : Reached → Type 0
+Agrees s = s ≡ agreed (s .at)
+
 -- one row more of the complete listing: it is the next one listed, or it is missing. What comes behind a missing row is not looked at
 unfoldable pub meet : List Row → Reached → Row → Reached
 unfolding same

@@ -1,8 +1,10 @@
 // The checker of recorded listings: whether words from an unknown unit are the complete listing of a query, and if not, where they go wrong. No leapfrog, no plan, no cursor.
 //
-// Why it is right. First every listed row is looked at once (crates/listed_rows): it must be an answer, and come strictly after the row before it. Where all are, the listed
-// rows are some of the answers, in the listing's sequence; what can still be wrong is that one is missing. So the plain engine's search runs (crates/plain_join says why it
-// finds every answer, in sequence), and each answer that it comes upon is compared with the next listed row: the first that differs is the least row missing.
+// Why it is right. The plain engine's search runs (crates/plain_join says why it finds every answer, in sequence), and each answer that it comes upon is compared with the next
+// listed row, until one differs: up to there the two listings are the same. Where they are the same to the end of both, the listing is accepted, and no row was looked up. Else the
+// listed rows behind those that agree are looked at one by one (crates/listed_rows), and the first that is not an answer, or does not come strictly after the row before it, is
+// wrong. Where none is, the listed rows are some of the answers, in the listing's sequence: so the answer that differed is not among them, and all before it are. It is the least
+// row missing.
 //
 // The public call is `check_listing`; its contract is `Checks` of crates/listing_verdict, and crates/verdict_laws says what follows of it. Nothing is written.
 ghost use mathlib.Core.Path.{_≡_};
@@ -12,9 +14,9 @@ ghost use Rattle.relation.specs.Rows.{cut, same};
 ghost use Rattle.join_query.specs.Query.{maxVariables, orderOf, atomsOf};
 ghost use Rattle.plain.specs.Plain.{plainly};
 ghost use Rattle.plain_atoms.specs.Atoms.{Passed};
-ghost use Rattle.listing_verdict.specs.Checked.{Checks};
-ghost use Rattle.listing_verdict.specs.Verdict.{howMany};
-ghost use Rattle.listing_check.specs.Walk.{agreed, meet, meets, Padded};
+ghost use Rattle.listing_verdict.specs.Checked.{says, complete, Checks};
+ghost use Rattle.listing_verdict.specs.Verdict.{howMany, verdict};
+ghost use Rattle.listing_check.specs.Walk.{meet, meets, Padded, Agrees};
 use join_checks::refusal;
 use join_query::Query;
 use join_query::Tables;
@@ -22,7 +24,9 @@ use listed_rows::first_wrong;
 use listed_rows::row_at;
 use listing_verdict::Checked;
 use plain_atoms::all_hold;
-use plain_atoms::next_tried;
+use plain_atoms::column;
+use plain_atoms::holder;
+use plain_keys::next_key;
 
 // How many rows of the two listings agree; and whether the complete one then has a row that is not the next one listed, with that row.
 pub struct Reached {
@@ -46,17 +50,18 @@ fn same_words(n: usize, a: [u64; Query::MAX_VARIABLES], b: [u64; Query::MAX_VARI
     true
 }
 
-// Compares an answer with the row listed behind the `at` that agree.
+// Compares an answer with the row listed behind those that agree.
 fn meet(
     listing: &[u64],
     n: usize,
     rows: usize,
     found: [u64; Query::MAX_VARIABLES],
-    at: usize,
+    met: Reached,
 ) -> Reached
-    requires { ⌜ (n ≤ maxVariables) × (rows * n ≤ length (now listing)) × Padded n found ⌝ }
-    ensures { λ r. ⌜ r ≡ meet (cut rows n (now (listing .entry))) (agreed at) (take n found) ⌝ }
+    requires { ⌜ (n ≤ maxVariables) × (rows * n ≤ length (now listing)) × Padded n found × Agrees met ⌝ }
+    ensures { λ r. ⌜ r ≡ meet (cut rows n (now (listing .entry))) met (take n found) ⌝ }
 {
+    let at = met.at;
     if at >= rows {
         return Reached {
             at,
@@ -72,16 +77,12 @@ fn meet(
             missing: found,
         };
     }
-    let more = at + 1;
-    let none = [0u64; Query::MAX_VARIABLES];
-    Reached {
-        at: more,
-        lacks: false,
-        missing: none,
-    }
+    let mut more = met;
+    more.at = at + 1;
+    more
 }
 
-// Compares the rows that complete `found` by words for the last `left` variables of the order with those listed behind the `at` that agree, until one is missing.
+// Compares the rows that complete `found` by words for the last `left` variables of the order with those listed behind the ones that agree, until one is missing.
 fn search(
     pool: &[u64],
     tables: Tables,
@@ -90,37 +91,33 @@ fn search(
     found: [u64; Query::MAX_VARIABLES],
     listing: &[u64],
     rows: usize,
-    at: usize,
+    from: Reached,
 ) -> Reached
-    requires { ⌜ Passed (now pool) tables query × (left ≤ query .n) × (rows * query .n ≤ length (now listing)) × Padded (query .n) found ⌝ }
-    ensures { λ r. ⌜ r ≡ meets (cut rows (query .n) (now (listing .entry))) (agreed at) (plainly (query .n) (drop (query .n - left) (orderOf query)) (atomsOf (now (pool .entry)) tables query) found) ⌝ }
+    requires { ⌜ Passed (now pool) tables query × (left ≤ query .n) × (rows * query .n ≤ length (now listing)) × Padded (query .n) found × Agrees from ⌝ }
+    ensures { λ r. ⌜ r ≡ meets (cut rows (query .n) (now (listing .entry))) from (plainly (query .n) (drop (query .n - left) (orderOf query)) (atomsOf (now (pool .entry)) tables query) found) ⌝ }
 {
     if left == 0 {
-        return meet(listing, query.n, rows, found, at);
+        return meet(listing, query.n, rows, found, from);
     }
-    let depth = query.n - left;
-    let v = query.order[depth];
-    let mut next = next_tried(pool, tables, query, found, v, false, 0);
+    let v = query.order[query.n - left];
+    let first = holder(query, v);
+    let a = query.atoms[first];
+    let c = column(a, v);
     let mut row = found;
-    let mut met = at;
+    row[v] = 0; // so that the least key of all is tried first
+    let mut met = from;
+    let mut next = next_key(pool, tables, a, row, c, false);
     while next.found {
-        let key = next.key;
-        row[v] = key;
-        if all_hold(pool, tables, query, row, v) {
-            let below = search(pool, tables, query, left - 1, row, listing, rows, met);
-            if below.lacks {
-                return below;
+        row[v] = next.key;
+        if all_hold(pool, tables, query, row, v, first + 1) {
+            met = search(pool, tables, query, left - 1, row, listing, rows, met);
+            if met.lacks {
+                return met;
             }
-            met = below.at;
         }
-        next = next_tried(pool, tables, query, found, v, true, key);
+        next = next_key(pool, tables, a, row, c, true);
     }
-    let none = [0u64; Query::MAX_VARIABLES];
-    Reached {
-        at: met,
-        lacks: false,
-        missing: none,
-    }
+    met
 }
 
 // How many rows of n words are listed; rows without words are as many as the count says.
@@ -131,6 +128,40 @@ fn how_many(n: usize, len: usize, count: usize) -> usize
         return count;
     }
     len / n
+}
+
+// The verdict on the listed rows, of a query that passed its checks.
+fn verdict(pool: &[u64], tables: Tables, query: Query, listing: &[u64], rows: usize) -> Checked
+    requires { ⌜ Passed (now pool) tables query × (rows * query .n ≤ length (now listing)) ⌝ }
+    ensures { λ r. ⌜ r ≡ says (verdict (orderOf query) (complete (now (pool .entry)) tables query) (cut rows (query .n) (now (listing .entry)))) ⌝ }
+{
+    let none = [0u64; Query::MAX_VARIABLES];
+    let start = Reached {
+        at: 0,
+        lacks: false,
+        missing: none,
+    };
+    let end = search(pool, tables, query, query.n, none, listing, rows, start);
+    let row = first_wrong(pool, tables, query, listing, rows, end.at);
+    if row < rows {
+        return Checked {
+            number: 0,
+            verdict: Checked::WRONG,
+            row,
+            missing: none,
+        };
+    }
+    let missing = end.missing; // zeros, where none is
+    let mut verdict = Checked::ACCEPTED;
+    if end.lacks {
+        verdict = Checked::MISSING;
+    }
+    Checked {
+        number: 0,
+        verdict,
+        row: 0,
+        missing,
+    }
 }
 
 // Checks whether the words are the complete listing of the query, rows by variable number, ascending as read in the query's order; `count` is how many rows they are where the
@@ -144,9 +175,9 @@ pub fn check_listing(
 ) -> Checked
     ensures { λ r. ⌜ Checks (now (pool .entry)) tables query (now (listing .entry)) count r ⌝ }
 {
-    let none = [0u64; Query::MAX_VARIABLES];
     let number = refusal(pool, tables, query, listing.len());
     if number != 0 {
+        let none = [0u64; Query::MAX_VARIABLES];
         return Checked {
             number,
             verdict: Checked::UNCHECKED,
@@ -155,29 +186,5 @@ pub fn check_listing(
         };
     }
     let rows = how_many(query.n, listing.len(), count);
-    let row = first_wrong(pool, tables, query, listing, rows);
-    if row < rows {
-        return Checked {
-            number: 0,
-            verdict: Checked::WRONG,
-            row,
-            missing: none,
-        };
-    }
-    let end = search(pool, tables, query, query.n, none, listing, rows, 0);
-    let missing = end.missing;
-    if end.lacks {
-        return Checked {
-            number: 0,
-            verdict: Checked::MISSING,
-            row: 0,
-            missing,
-        };
-    }
-    Checked {
-        number: 0,
-        verdict: Checked::ACCEPTED,
-        row: 0,
-        missing: none,
-    }
+    verdict(pool, tables, query, listing, rows)
 }

@@ -1,2 +1,3 @@
 mod Places
 mod Searching
+pub mod First

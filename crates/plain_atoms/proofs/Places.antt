@@ -1,13 +1,12 @@
--- Where a loop finds a variable in an atom's list, and the words that a row has for the variables before it.
+-- Where a loop finds a variable in an atom's list, and the first words of a row's part.
 use Prim.Native.Nat.{ℕ, zero, suc, _≤_, _<_}
 use native.Mathlib.Omega.{arith}
 use mathlib.Core.Path.{_≡_, refl, ap, _∙_}
 use mathlib.Core.Bool.{Bool, true, false}
 use mathlib.Core.List.{List, [], _∷_}
-use lib.ListN.{length, getD, set, take}
-use lib.Seq.{getD-set-other}
+use lib.ListN.{length, getD, take}
 use lib.Dec.{eqb}
-use borrow.Author.Tests.{eqb-true, eqb-false, eq-eqb, ne-eqb}
+use borrow.Author.Tests.{eqb-true, eq-eqb, ne-eqb}
 use Rattle.relation.specs.Order.{Row, pick}
 use Rattle.query.specs.Meaning.{part}
 use Rattle.plain.specs.Plain.{column}
@@ -46,16 +45,6 @@ column-var v (x ∷ xs) h = go (eqb x v) refl (column-var v xs) h
     go : (b : Bool) → eqb x v ≡ b → (column v xs < length xs → getD xs (column v xs) 0 ≡ v) → pick b 0 (suc (column v xs)) < suc (length xs) → getD (x ∷ xs) (pick b 0 (suc (column v xs))) 0 ≡ v
     go true e ih h = eqb-true x v e
     go false e ih h = ih (omega arith)
-
--- the words before v's are the same, whatever the row has for v
-pub part-before : (v : ℕ) (xs : List ℕ) (row : Row) (k : ℕ) → take (column v xs) (part xs (set row v k)) ≡ take (column v xs) (part xs row)
-unfolding column
-part-before v [] row k = refl
-part-before v (x ∷ xs) row k = go (eqb x v) refl (part-before v xs row k)
-  where
-    go : (b : Bool) → eqb x v ≡ b → take (column v xs) (part xs (set row v k)) ≡ take (column v xs) (part xs row) → take (pick b 0 (suc (column v xs))) (part (x ∷ xs) (set row v k)) ≡ take (pick b 0 (suc (column v xs))) (part (x ∷ xs) row)
-    go true e ih = refl
-    go false e ih = ap (λ (y : ℕ). y ∷ take (column v xs) (part xs (set row v k))) (getD-set-other row v x k 0 (eqb-false x v e)) ∙ ap (λ (l : List ℕ). getD row x 0 ∷ l) ih
 
 pub take-part : (n : ℕ) (xs : List ℕ) (row : Row) → take n (part xs row) ≡ part (take n xs) row
 take-part zero xs row = refl

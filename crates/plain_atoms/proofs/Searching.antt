@@ -1,12 +1,12 @@
--- What may be relied on of the atoms of a query that passed the checks, and each answer of the code as the definition's: the keys that an atom allows, its test, the atom
--- whose keys are tried, and the test of all.
-use Prim.Native.Nat.{ℕ, suc, _≤_, _<_}
+-- What may be relied on of the atoms of a query that passed the checks, and each answer of the code as the definition's: the keys that an atom allows, its test, and the
+-- test of those from some atom on.
+use Prim.Native.Nat.{ℕ, suc, _+_, _≤_, _<_}
 use native.Mathlib.Omega.{arith}
 use native.Mathlib.Decide.{decLt}
-use mathlib.Core.Path.{_≡_, refl, sym, subst, ap, _∙_}
-use mathlib.Core.Bool.{Bool, true, false}
+use mathlib.Core.Path.{_≡_, sym, ap, _∙_}
+use mathlib.Core.Bool.{Bool, true, false, _&&_}
 use mathlib.Core.List.{List}
-use lib.ListN.{length, getD, take, length-take, List·getD-eq-default}
+use lib.ListN.{length, getD, take, drop, length-take, List·getD-eq-default}
 use lib.Seq.{take-take, getD-take}
 use lib.Dec.{eqb}
 use borrow.Author.Tests.{eq-eqb, ne-eqb}
@@ -14,12 +14,8 @@ use Rattle.relation.specs.Order.{Row, pick}
 use Rattle.relation.specs.Lists.{Ascends}
 use Rattle.relation.specs.Layers.{keysUnder}
 use Rattle.relation.specs.Runs.{from}
-use Rattle.relation.specs.Tests.{every}
 use Rattle.relation.proofs.Lists.{getD-in}
-use Rattle.relation.proofs.Tests.{every-fails}
 use Rattle.query.specs.Meaning.{part}
-use Rattle.query.specs.Meaning as meaning
-use Rattle.query.specs.Descend.{nobody}
 use Rattle.query.specs.Meet.{has}
 use Rattle.query.proofs.Beyond.{keys-ascend}
 use Rattle.query.proofs.Solved.{follow-in}
@@ -27,9 +23,9 @@ use Rattle.join_query.specs.Query.{maxVariables, orderOf, varsOf, varAt, atomAt
 use Rattle.join_query.specs.declared.Atom.{Atom}
 use Rattle.join_query.specs.declared.Query.{Query}
 use Rattle.join_query.specs.declared.Tables.{Tables}
-use Rattle.join_query.proofs.Accepted.{sized, names, lists, sound, sound-maker, shapes, atoms-length, atoms-at, passes}
-use Rattle.plain.specs.Plain.{column, holder, keysAt, tried, holds, allHold}
-use Rattle.plain.proofs.Columns.{Holds, holder-in, holder-is}
+use Rattle.join_query.proofs.Accepted.{sized, names, lists, sound, sound-maker, shapes, atoms-length, atoms-at}
+use Rattle.plain.specs.Plain.{column, keysAt, holds, allHold}
+use Rattle.plain.proofs.Rest.{rest-next, rest-none}
 use Rattle.plain_keys.specs.Keys.{words, bound, headOf}
 use Rattle.plain_keys.specs.declared.Next.{Next}
 use Rattle.plain_keys.proofs.Owners.{found-has, none-has, readable-wide}
@@ -40,17 +36,17 @@ use Rattle.plain_atoms.proofs.Places.{column-var, take-part}
 -- ---- one atom
 
 module _ (pool : List ℕ) (ts : Tables) (a : Atom) (v : ℕ) (row : Row) where
-  -- what a search of the atom's rows finds, in a row that has the words of `row` for the variables before v, and for v the key to start from
-  pub asked : (above : Bool) (key : ℕ) (r : Row) {c : ℕ} {x : Next} → c ≡ column v (varsOf a) → c < length (varsOf a) → getD r v 0 ≡ key → take (column v (varsOf a)) (part (varsOf a) r) ≡ take (column v (varsOf a)) (part (varsOf a) row) → x ≡ headOf (from (bound above (getD (words a r) c 0)) (keysUnder (take c (words a r)) (rowsAt pool ts a))) → x ≡ headOf (from (bound above key) (keysAt v row (atomOf pool ts a)))
+  -- what a search of the atom's rows finds beside the row's words for the variables before v
+  pub asked : (past : Bool) {c : ℕ} {x : Next} → c ≡ column v (varsOf a) → c < length (varsOf a) → x ≡ headOf (from (bound past (getD (words a row) c 0)) (keysUnder (take c (words a row)) (rowsAt pool ts a))) → x ≡ headOf (from (bound past (getD row v 0)) (keysAt v row (atomOf pool ts a)))
   unfolding keysAt
-  asked above key r {c} e h k t p =
+  asked past {c} e h p =
       let l : c < length (a .variables) = omega (arith, length-take (a .len) (a .variables)) in
       let n : c < a .len = omega (arith, length-take (a .len) (a .variables)) in
-      let w : getD (words a r) c 0 ≡ key =
-      words-at (a .variables) r c l ∙ ap (λ (x : ℕ). getD r x 0) (sym (getD-take (a .len) (a .variables) c 0 n) ∙ ap (λ (i : ℕ). getD (varsOf a) i 0) e ∙ column-var v (varsOf a) (omega arith)) ∙ k in
-      let q : take c (words a r) ≡ take (column v (varsOf a)) (part (varsOf a) row) =
-      sym (take-take c (a .len) (words a r) (omega arith)) ∙ ap (take c) (take-part (a .len) (a .variables) r) ∙ ap (λ (i : ℕ). take i (part (varsOf a) r)) e ∙ t in
-      p ∙ ap (λ (y : ℕ). headOf (from (bound above y) (keysUnder (take c (words a r)) (rowsAt pool ts a)))) w ∙ ap (λ (y : Row). headOf (from (bound above key) (keysUnder y (rowsAt pool ts a)))) q
+      let w : getD (words a row) c 0 ≡ getD row v 0 =
+      words-at (a .variables) row c l ∙ ap (λ (x : ℕ). getD row x 0) (sym (getD-take (a .len) (a .variables) c 0 n) ∙ ap (λ (i : ℕ). getD (varsOf a) i 0) e ∙ column-var v (varsOf a) (omega arith)) in
+      let q : take c (words a row) ≡ take (column v (varsOf a)) (part (varsOf a) row) =
+      sym (take-take c (a .len) (words a row) (omega arith)) ∙ ap (take c) (take-part (a .len) (a .variables) row) ∙ ap (λ (i : ℕ). take i (part (varsOf a) row)) e in
+      p ∙ ap (λ (y : ℕ). headOf (from (bound past y) (keysUnder (take c (words a row)) (rowsAt pool ts a)))) w ∙ ap (λ (y : Row). headOf (from (bound past (getD row v 0)) (keysUnder y (rowsAt pool ts a)))) q
 
   pub holds-skip : (suc (column v (varsOf a)) ≡ length (varsOf a) → ⊥) → true ≡ holds v row (atomOf pool ts a)
   unfolding holds
@@ -109,42 +105,12 @@ module _ {pool : List ℕ} {ts : Tables} {q : Query} {len : ℕ} (z : Accepted p
       };
     }
 
-  module _ (v : ℕ) where
-    -- an atom by its number
-    pub held : (i : ℕ) → i < q .«atom_count» → column v (varsOf (atomAt q i)) < length (varsOf (atomAt q i)) → Holds v (atomsOf pool ts q) i
-    held i h k = subst (λ (a : meaning.Atom). column v (a .vars) < length (a .vars)) (sym (atoms-at z i h)) k
+  -- the atoms from number i on: the first of them, and those behind it; and none
+  module _ (v : ℕ) (row : Row) (i : ℕ) where
+    pub left-next : i < q .«atom_count» → {b : Bool} → b ≡ holds v row (atomOf pool ts (atomAt q i)) → (b && allHold v row (drop (i + 1) (atomsOf pool ts q))) ≡ allHold v row (drop i (atomsOf pool ts q))
+    left-next h e =
+        ap (λ (b : Bool). b && allHold v row (drop (i + 1) (atomsOf pool ts q))) (e ∙ ap (holds v row) (sym (atoms-at z i h)))
+        ∙ sym (rest-next v row (atomsOf pool ts q) i (omega (arith, h, atoms-length z)))
 
-    pub not-held : (i : ℕ) → i < q .«atom_count» → length (varsOf (atomAt q i)) ≤ column v (varsOf (atomAt q i)) → Holds v (atomsOf pool ts q) i → ⊥
-    not-held i h k m = omega (arith, k, subst (λ (a : meaning.Atom). column v (a .vars) < length (a .vars)) (atoms-at z i h) m)
-
-    -- the first atom that holds v, where none before it does, is the one whose keys are tried
-    module _ (r : ℕ) (none : (j : ℕ) → j < r → Holds v (atomsOf pool ts q) j → ⊥) where
-      pub still : v < q .n → r < q .«atom_count»
-      still l = go (decLt r (q .«atom_count»))
-        where
-          go : Dec (r < q .«atom_count») → r < q .«atom_count»
-          go (yes h) = h
-          go (no n) =
-              let t = passes z .covered v l in
-              let o = holder-in v (atomsOf pool ts q) (t .1) (t .2) in
-              absurd (none (holder v (atomsOf pool ts q)) (omega (arith, o .0, atoms-length z)) (o .1))
-
-      pub tried-is : r < q .«atom_count» → Holds v (atomsOf pool ts q) r → (row : Row) → keysAt v row (atomOf pool ts (atomAt q r)) ≡ tried v row (atomsOf pool ts q)
-      unfolding tried
-      tried-is h m row = ap (keysAt v row) (sym (atoms-at z r h)) ∙ ap (λ (i : ℕ). keysAt v row (getD (atomsOf pool ts q) i nobody)) (sym (holder-is v (atomsOf pool ts q) r (omega (arith, h, atoms-length z)) m none))
-
-    -- the test of all, atom by atom
-    module _ (row : Row) where
-      abbrev test : ℕ → Bool
-      test i = holds v row (getD (atomsOf pool ts q) i nobody)
-
-      pub test-is : (i : ℕ) → i < q .«atom_count» → {b : Bool} → b ≡ holds v row (atomOf pool ts (atomAt q i)) → b ≡ holds v row (getD (atomsOf pool ts q) i nobody)
-      test-is i h e = e ∙ ap (holds v row) (sym (atoms-at z i h))
-
-      pub all-fail : (i : ℕ) → i < q .«atom_count» → holds v row (getD (atomsOf pool ts q) i nobody) ≡ false → false ≡ allHold v row (atomsOf pool ts q)
-      unfolding allHold
-      all-fail i h e = sym (every-fails test (length (atomsOf pool ts q)) i (omega (arith, h, atoms-length z)) e)
-
-      pub all-pass : every (q .«atom_count») (λ (i : ℕ). holds v row (getD (atomsOf pool ts q) i nobody)) ≡ true → true ≡ allHold v row (atomsOf pool ts q)
-      unfolding allHold
-      all-pass e = sym (ap (λ (n : ℕ). every n test) (atoms-length z) ∙ e)
+    pub left-none : q .«atom_count» ≤ i → allHold v row (drop i (atomsOf pool ts q)) ≡ true
+    left-none h = rest-none v row (atomsOf pool ts q) i (omega (arith, h, atoms-length z))

@@ -17,45 +17,43 @@ use Rattle.relation.proofs.Runs.{from-in, from-ascends, from-drop, head-least}
 use Rattle.query.specs.Meaning.{part}
 use Rattle.query.proofs.Meet.{none-left}
 use Rattle.query.proofs.Beyond.{in-keys, keys-in, keys-ascend}
-use Rattle.column_trie.specs.Table.{rowsIn}
-use Rattle.column_trie.specs.declared.ColumnTrie.{ColumnTrie}
 use Rattle.plain_keys.specs.Keys.{bound, Least, headOf}
 use Rattle.plain_keys.proofs.Descent.{Under, slice-at}
 
-module _ {pool : List ℕ} {t : ColumnTrie} {p : Row} {f e : ℕ} (u : Under pool t p f e) {key r : ℕ} (l : Least pool f e key r) where
-  cut : from key (keysUnder p (rowsIn pool t)) ≡ slice r e pool
+module _ {keys : List ℕ} {rows : List Row} {p : Row} {f e : ℕ} (u : Under keys rows p f e) {key r : ℕ} (l : Least keys f e key r) where
+  cut : from key (keysUnder p rows) ≡ slice r e keys
   cut =
-      let n = length-slice f e pool (u .rising .inside) in
+      let n = length-slice f e keys (u .rising .inside) in
       let z : f + (r - f) ≡ r = omega (arith, l .low) in
       ap (from key) (sym (u .run))
-      ∙ from-drop key (slice f e pool) (r - f) (omega (arith, n, l .low, l .high))
+      ∙ from-drop key (slice f e keys) (r - f) (omega (arith, n, l .low, l .high))
       (λ i h.
       let w : f + i - f ≡ i = omega arith in
-      let x = slice-at pool f e (f + i) (omega arith) (omega (arith, l .low, l .high)) in
+      let x = slice-at keys f e (f + i) (omega arith) (omega (arith, l .low, l .high)) in
       let y = l .below (f + i) (omega arith) (omega (arith, l .low)) in
       rw (← w) (rw x y))
-      (λ h. rw (slice-at pool f e r (l .low) (omega (arith, h, n, l .low))) (l .reached (omega (arith, h, n, l .low))))
-      ∙ drop-drop (r - f) f (take e pool)
-      ∙ ap (λ (x : ℕ). slice x e pool) z
+      (λ h. rw (slice-at keys f e r (l .low) (omega (arith, h, n, l .low))) (l .reached (omega (arith, h, n, l .low))))
+      ∙ drop-drop (r - f) f (take e keys)
+      ∙ ap (λ (x : ℕ). slice x e keys) z
 
-  pub head-none : r ≡ e → record { found = false; key = 0 } ≡ headOf (from key (keysUnder p (rowsIn pool t)))
+  pub head-none : r ≡ e → record { found = false; key = 0 } ≡ headOf (from key (keysUnder p rows))
   unfolding headOf
-  head-none d = ap headOf (sym (cut ∙ ap (λ (x : ℕ). slice x e pool) d ∙ slice-empty e pool))
+  head-none d = ap headOf (sym (cut ∙ ap (λ (x : ℕ). slice x e keys) d ∙ slice-empty e keys))
 
-  here : r < e → from key (keysUnder p (rowsIn pool t)) ≡ getD pool r 0 ∷ slice (suc r) e pool
-  here h = cut ∙ slice-cons r e pool 0 h (u .rising .inside)
+  here : r < e → from key (keysUnder p rows) ≡ getD keys r 0 ∷ slice (suc r) e keys
+  here h = cut ∙ slice-cons r e keys 0 h (u .rising .inside)
 
-  pub head-some : r < e → record { found = true; key = getD pool r 0 } ≡ headOf (from key (keysUnder p (rowsIn pool t)))
+  pub head-some : r < e → record { found = true; key = getD keys r 0 } ≡ headOf (from key (keysUnder p rows))
   unfolding headOf
   head-some h = ap headOf (sym (here h))
 
-  pub not-there : r ≡ e → key ∈ keysUnder p (rowsIn pool t) → ⊥
-  not-there d m = not-in-nil (subst (λ (x : List ℕ). key ∈ x) (cut ∙ ap (λ (x : ℕ). slice x e pool) d ∙ slice-empty e pool) (from-in key (keysUnder p (rowsIn pool t)) (omega arith) m))
+  pub not-there : r ≡ e → key ∈ keysUnder p rows → ⊥
+  not-there d m = not-in-nil (subst (λ (x : List ℕ). key ∈ x) (cut ∙ ap (λ (x : ℕ). slice x e keys) d ∙ slice-empty e keys) (from-in key (keysUnder p rows) (omega arith) m))
 
-  pub not-it : {a : ℕ} → Width a (rowsIn pool t) → length p < a → r < e → (getD pool r 0 ≡ key → ⊥) → key ∈ keysUnder p (rowsIn pool t) → ⊥
+  pub not-it : {a : ℕ} → Width a rows → length p < a → r < e → (getD keys r 0 ≡ key → ⊥) → key ∈ keysUnder p rows → ⊥
   not-it w b h n m =
-      let k : key ∈ (getD pool r 0 ∷ slice (suc r) e pool) = subst (λ (x : List ℕ). key ∈ x) (here h) (from-in key (keysUnder p (rowsIn pool t)) (omega arith) m) in
-      let s : Ascends _<_ (getD pool r 0 ∷ slice (suc r) e pool) = subst (Ascends _<_) (here h) (from-ascends key (keys-ascend p w b)) in
+      let k : key ∈ (getD keys r 0 ∷ slice (suc r) e keys) = subst (λ (x : List ℕ). key ∈ x) (here h) (from-in key (keysUnder p rows) (omega arith) m) in
+      let s : Ascends _<_ (getD keys r 0 ∷ slice (suc r) e keys) = subst (Ascends _<_) (here h) (from-ascends key (keys-ascend p w b)) in
       n (omega (arith, head-least s key k, l .reached h))
 
 -- words that no row begins with have no keys behind them
@@ -76,37 +74,37 @@ words-at (x ∷ xs) row zero h = refl
 words-at (x ∷ xs) row (suc d) h = words-at xs row d (omega arith)
 
 -- column d is searched: the last one for the bound that is sought, one before it for the word itself
-pub record Looked (pool : List ℕ) (t : ColumnTrie) (words : Row) (len : ℕ) (above : Bool) (d f e at : ℕ) : Type 0 where
-  pub under : Under pool t (take d words) f e
+pub record Looked (keys : List ℕ) (rows : List Row) (words : Row) (len : ℕ) (past : Bool) (d f e at : ℕ) : Type 0 where
+  pub under : Under keys rows (take d words) f e
   pub flag : Bool
-  pub least : Least pool f e (bound flag (getD words d 0)) at
-  pub last : d ≡ len → flag ≡ above
+  pub least : Least keys f e (bound flag (getD words d 0)) at
+  pub last : d ≡ len → flag ≡ past
   pub before : (d ≡ len → ⊥) → flag ≡ false
 
-module _ {pool : List ℕ} {t : ColumnTrie} {words : Row} {len : ℕ} {above : Bool} {d f e at : ℕ} (k : Looked pool t words len above d f e at) where
-  at-last : d ≡ len → Under pool t (take len words) f e × Least pool f e (bound above (getD words len 0)) at
+module _ {keys : List ℕ} {rows : List Row} {words : Row} {len : ℕ} {past : Bool} {d f e at : ℕ} (k : Looked keys rows words len past d f e at) where
+  at-last : d ≡ len → Under keys rows (take len words) f e × Least keys f e (bound past (getD words len 0)) at
   at-last g = (
-    subst (λ (n : ℕ). Under pool t (take n words) f e) g (k .under),
-    subst (λ (n : ℕ). Least pool f e (bound above (getD words n 0)) at) g (subst (λ (b : Bool). Least pool f e (bound b (getD words d 0)) at) (k .last g) (k .least)),
+    subst (λ (n : ℕ). Under keys rows (take n words) f e) g (k .under),
+    subst (λ (n : ℕ). Least keys f e (bound past (getD words n 0)) at) g (subst (λ (b : Bool). Least keys f e (bound b (getD words d 0)) at) (k .last g) (k .least)),
   )
 
-  pub looked-some : d ≡ len → at < e → record { found = true; key = getD pool at 0 } ≡ headOf (from (bound above (getD words len 0)) (keysUnder (take len words) (rowsIn pool t)))
+  pub looked-some : d ≡ len → at < e → record { found = true; key = getD keys at 0 } ≡ headOf (from (bound past (getD words len 0)) (keysUnder (take len words) rows))
   looked-some g h = let z = at-last g in head-some (z .0) (z .1) h
 
   -- no key, or not the word, in a column before the last
-  pub looked-none : {a : ℕ} → Width a (rowsIn pool t) → len < a → len ≤ length words → d ≤ len → (at < e → (d ≡ len → ⊥) × (getD pool at 0 ≡ getD words d 0 → ⊥)) → record { found = false; key = 0 } ≡ headOf (from (bound above (getD words len 0)) (keysUnder (take len words) (rowsIn pool t)))
+  pub looked-none : {a : ℕ} → Width a rows → len < a → len ≤ length words → d ≤ len → (at < e → (d ≡ len → ⊥) × (getD keys at 0 ≡ getD words d 0 → ⊥)) → record { found = false; key = 0 } ≡ headOf (from (bound past (getD words len 0)) (keysUnder (take len words) rows))
   unfolding headOf from
   looked-none {a} w b n h g = go (decLt d len)
     where
       top : (at < e → ⊥) → at ≡ e
       top z = omega (arith, k .least .high, z)
 
-      gone : Least pool f e (getD words d 0) at → d < len → Dec (at < e) → getD words d 0 ∈ keysUnder (take d words) (rowsIn pool t) → ⊥
+      gone : Least keys f e (getD words d 0) at → d < len → Dec (at < e) → getD words d 0 ∈ keysUnder (take d words) rows → ⊥
       gone l j (yes i) = not-it (k .under) l w (omega (arith, length-take-le d words (omega arith))) i (g i .1)
       gone l j (no i) = not-there (k .under) l (top i)
 
-      go : Dec (d < len) → record { found = false; key = 0 } ≡ headOf (from (bound above (getD words len 0)) (keysUnder (take len words) (rowsIn pool t)))
+      go : Dec (d < len) → record { found = false; key = 0 } ≡ headOf (from (bound past (getD words len 0)) (keysUnder (take len words) rows))
       go (yes j) =
-          let l = subst (λ (x : Bool). Least pool f e (bound x (getD words d 0)) at) (k .before (λ z. omega arith)) (k .least) in
-          ap (λ (ks : List ℕ). headOf (from (bound above (getD words len 0)) ks)) (sym (missing words d len w j n b (gone l j (decLt at e))))
+          let l = subst (λ (x : Bool). Least keys f e (bound x (getD words d 0)) at) (k .before (λ z. omega arith)) (k .least) in
+          ap (λ (ks : List ℕ). headOf (from (bound past (getD words len 0)) ks)) (sym (missing words d len w j n b (gone l j (decLt at e))))
       go (no j) = let q : d ≡ len = omega arith in let z = at-last q in head-none (z .0) (z .1) (top (λ i. g i .0 q))

@@ -1,4 +1,4 @@
--- Internal: contracts of the search for keys: places of the pool whose words ascend, the first key of a run, and what a search may rely on.
+-- Internal: contracts of the search for keys: places whose keys ascend, the first key of a run, and what a search may rely on.
 use Prim.Native.Nat.{ℕ, suc, _≤_, _<_}
 use mathlib.Core.Path.{_≡_}
 use mathlib.Core.Bool.{Bool, true, false}
@@ -11,25 +11,24 @@ use Rattle.laid_over.specs.Shape.{SameShape}
 use Rattle.join_query.specs.Query.{maxTables, maxVariables, tableAt, varAt}
 use Rattle.join_query.specs.declared.Atom.{Atom}
 use Rattle.join_query.specs.declared.Tables.{Tables}
-use Rattle.column_trie.specs.declared.ColumnTrie.{ColumnTrie}
 use Rattle.plain_keys.specs.declared.Next.{Next}
 
 -- the least key that is sought: one from `key` on, or above it
 abbrev pub bound : Bool → ℕ → ℕ
-bound above key = pick above (suc key) key
+bound past key = pick past (suc key) key
 
--- the words from place `from` up to place `to` of the pool ascend
-pub record Rising (pool : List ℕ) (from to : ℕ) : Type 0 where
+-- the keys from place `from` up to place `to` ascend
+pub record Rising (keys : List ℕ) (from to : ℕ) : Type 0 where
   pub forward : from ≤ to
-  pub inside : to ≤ length pool
-  pub rises : (i j : ℕ) → from ≤ i → i < j → j < to → getD pool i 0 < getD pool j 0
+  pub inside : to ≤ length keys
+  pub rises : (i j : ℕ) → from ≤ i → i < j → j < to → getD keys i 0 < getD keys j 0
 
--- r is the first of these places whose word is not below the key, or their end
-pub record Least (pool : List ℕ) (from to key r : ℕ) : Type 0 where
+-- r is the first of these places whose key is not below the one sought, or their end
+pub record Least (keys : List ℕ) (from to key r : ℕ) : Type 0 where
   pub low : from ≤ r
   pub high : r ≤ to
-  pub below : (i : ℕ) → from ≤ i → i < r → getD pool i 0 < key
-  pub reached : r < to → key ≤ getD pool r 0
+  pub below : (i : ℕ) → from ≤ i → i < r → getD keys i 0 < key
+  pub reached : r < to → key ≤ getD keys r 0
 
 -- the first key of a run, if it has one
 unfoldable pub headOf : List ℕ → Next

@@ -11,7 +11,7 @@ ghost use Rattle.join_query.specs.Query.{rowsAt};
 ghost use Rattle.plain_keys.specs.Keys.{words, bound, Rising, Least, headOf, Named, Readable};
 use column_trie::ColumnTrie;
 use column_trie::begins;
-use column_trie::layer_at;
+use column_trie::layer_keys;
 use join_query::Atom;
 use join_query::Query;
 use join_query::Tables;
@@ -25,48 +25,42 @@ pub struct Next {
     pub key: u64,
 }
 
-// The first place from `from` up to `to` whose word is not below the key or, where one above it is sought, the key itself; else `to`: the search halves the places left.
-fn least(pool: &[u64], from: usize, to: usize, above: bool, key: u64) -> usize
-    requires { ⌜ Rising (now pool) from to ⌝ }
-    ensures { λ r. ⌜ Least (now (pool .entry)) from to (bound above key) r ⌝ }
+// The first of the places from `from` up to `to` whose key is `key` or above it or, where one past it is sought, above it; else `to`. Each turn halves the places left.
+fn least(keys: &[u64], from: usize, to: usize, past: bool, key: u64) -> usize
+    requires { ⌜ Rising (now keys) from to ⌝ }
+    ensures { λ r. ⌜ Least (now (keys .entry)) from to (bound past key) r ⌝ }
 {
     let mut low = from;
     let mut high = to;
     while low < high {
         let middle = low + (high - low) / 2;
-        if pool[middle] < key || (above && pool[middle] == key) {
-            low = middle + 1;
-        } else {
-            high = middle;
-        }
+        let below = keys[middle] < key || (past && keys[middle] == key);
+        low = if below { middle + 1 } else { low };
+        high = if below { high } else { middle };
     }
     low
 }
 
 // The least key of the table in column `len`, from the row's word there on, or above it, that follows the row's words for the columns before. Column by column the word is found
 // among the keys, and its place there is the number of its interval below.
-fn next_in(pool: &[u64], t: ColumnTrie, a: Atom, row: Row, len: usize, above: bool) -> Next
+fn next_in(pool: &[u64], t: ColumnTrie, a: Atom, row: Row, len: usize, past: bool) -> Next
     requires { ⌜ Undamaged (now pool) t × (len < t .arity) × Named a len ⌝ }
-    ensures { λ r. ⌜ r ≡ headOf (from (bound above (getD (words a row) len 0)) (keysUnder (take len (words a row)) (rowsIn (now (pool .entry)) t))) ⌝ }
+    ensures { λ r. ⌜ r ≡ headOf (from (bound past (getD (words a row) len 0)) (keysUnder (take len (words a row)) (rowsIn (now (pool .entry)) t))) ⌝ }
 {
     let mut d = 0;
     let mut i = 0;
     loop {
-        let base = layer_at(t, d);
-        let from = base + begins(pool, t, d, i);
-        let to = base + begins(pool, t, d, i + 1);
+        let keys = layer_keys(pool, t, d);
+        let from = begins(pool, t, d, i);
+        let to = begins(pool, t, d, i + 1);
         let v = a.variables[d];
         let last = d == len;
-        let at = least(pool, from, to, above && last, row[v]);
-        let found = at < to && (last || pool[at] == row[v]);
-        if !found {
-            return Next { found, key: 0 };
-        }
-        if last {
-            let key = pool[at];
+        i = least(keys, from, to, past && last, row[v]);
+        let found = i < to && (last || keys[i] == row[v]);
+        if last || !found {
+            let key = if found { keys[i] } else { 0 };
             return Next { found, key };
         }
-        i = at - base;
         d += 1;
     }
 }
@@ -82,21 +76,19 @@ fn owns(pool: &[u64], t: ColumnTrie, a: Atom, row: Row) -> bool
 }
 
 // The least such key of an atom's rows. Where it is laid over, the first keys are both tables'; under a first key the rows are the school's if it has that key, else the maker's.
-pub fn next_key(pool: &[u64], tables: Tables, a: Atom, row: Row, len: usize, above: bool) -> Next
+pub fn next_key(pool: &[u64], tables: Tables, a: Atom, row: Row, len: usize, past: bool) -> Next
     requires { ⌜ Readable (now pool) tables a len ⌝ }
-    ensures { λ r. ⌜ r ≡ headOf (from (bound above (getD (words a row) len 0)) (keysUnder (take len (words a row)) (rowsAt (now (pool .entry)) tables a))) ⌝ }
+    ensures { λ r. ⌜ r ≡ headOf (from (bound past (getD (words a row) len 0)) (keysUnder (take len (words a row)) (rowsAt (now (pool .entry)) tables a))) ⌝ }
 {
     let named = a.table;
     let school = tables.tables[named];
-    let s = next_in(pool, school, a, row, len, above);
+    let s = next_in(pool, school, a, row, len, past);
     if !a.laid_over || (len > 0 && (s.found || owns(pool, school, a, row))) {
         return s;
     }
     let over = a.maker;
     let maker = tables.tables[over];
-    let m = next_in(pool, maker, a, row, len, above);
-    if s.found && (!m.found || s.key <= m.key) {
-        return s;
-    }
-    m
+    let m = next_in(pool, maker, a, row, len, past);
+    let school_first = s.found && (!m.found || s.key <= m.key);
+    if school_first { s } else { m }
 }

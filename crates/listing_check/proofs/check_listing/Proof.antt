@@ -1,16 +1,12 @@
--- `check_listing` meets its contract: refused by the checks, wrong at a row, or what the walk along the complete listing comes to.
-use Prim.Native.Nat.{_*_, _≤_}
-use native.Mathlib.Omega.{arith}
-use mathlib.Core.Path.{_≡_, sym, subst, _∙_}
+-- `check_listing` meets its contract: refused by the checks, or the verdict on the rows that there are.
+use mathlib.Core.Path.{_≡_, sym, _∙_}
 use lib.ListN.{length}
 use borrow.Author.Needs.{needs}
 use Rattle.query.specs.Limits.{maxAtoms}
 use Rattle.join_query.specs.Query.{Accepted}
-use Rattle.join_query.proofs.Accepted.{sized}
 use Rattle.join_query.proofs.Whole.{length-mapped}
-use Rattle.listing_verdict.specs.Checked.{Checks}
-use Rattle.listing_check.proofs.Meeting.{ended, many-inside, padded-none}
-use Rattle.listing_check.proofs.Checking.{checks-refused, checks-wrong, checks-ended, ended-lacks, ended-full}
+use Rattle.listing_check.proofs.Meeting.{many-inside}
+use Rattle.listing_check.proofs.Checking.{checks-refused, checks-says}
 use Rattle.listing_check.proofs.check_listing.Statement.{statement}
 use Rattle.listing_check.proofs.check_listing.Tie as tie
 
@@ -31,56 +27,19 @@ returns c = let a = c .before .before .before .before .args in checks-refused (a
 how-many-requires : tie.Need-how-many-requires
 how-many-requires c κs = search needs
 
--- the rows lie in the listing
-rows-inside : (c : tie.After-how-many) → let a = c .before .before .before .before .before .args in c .how-many .result * a .query .n ≤ length (a .listing .now)
-rows-inside c = let a = c .before .before .before .before .before .args in rw (c .how-many .ensures) (many-inside (a .query .n) (length (a .listing .now)) (a .count))
-
-first-wrong-requires : tie.Need-first-wrong-requires
-first-wrong-requires c κs = let a = c .before .before .before .before .before .args in (record { len = length (a .listing .now); accepted = accepted (c .before) }, rows-inside c)
+verdict-requires : tie.Need-verdict-requires
+verdict-requires c κs =
+    let p = c .before in
+    let a = p .before .before .before .before .args in
+    (record { len = length (a .listing .now); accepted = accepted p }, rw (c .how-many .ensures) (many-inside (a .query .n) (length (a .listing .now)) (a .count)))
 
 returns-2 : tie.Need-returns-2
 returns-2 c =
-    let w = c .before in
-    let p = w .before .before in
-    let a = p .before .before .before .before .args in
-    checks-wrong (a .pool .now) (a .tables) (a .query) (a .listing .now) (a .count) (sym (accepted p .passed)) (w .before .how-many .ensures) (w .first-wrong .ensures) (c .if2 .taken)
-
-search-requires : tie.Need-search-requires
-search-requires c κs =
-    let h = c .before .before in
+    let h = c .before in
     let p = h .before in
     let a = p .before .before .before .before .args in
-    (record { len = length (a .listing .now); accepted = accepted p }, omega arith, rows-inside h, padded-none (a .query .n) (sized (accepted p) .few))
-
--- what the walk comes to
-ends : (c : tie.After-search) → let a = c .before .before .before .before .before .before .before .before .args in Checks (a .pool .now) (a .tables) (a .query) (a .listing .now) (a .count) (ended (c .search .result))
-ends c =
-    let w = c .before .before in
-    let p = w .before .before in
-    let a = p .before .before .before .before .args in
-    checks-ended (a .pool .now) (a .tables) (a .query) (a .listing .now) (a .count) (sym (accepted p .passed)) (w .before .how-many .ensures) (w .first-wrong .ensures) (accepted p) (omega (arith, c .before .if2 .left)) (c .search .ensures)
-
-returns-3 : tie.Need-returns-3
-returns-3 c =
-    let e = c .before .before in
-    let a = e .before .before .before .before .before .before .before .before .args in
-    subst (Checks (a .pool .now) (a .tables) (a .query) (a .listing .now) (a .count)) (ended-lacks (e .search .result) (c .if3 .taken)) (ends e)
-
-returns-4 : tie.Need-returns-4
-returns-4 c =
-    let e = c .before .before in
-    let a = e .before .before .before .before .before .before .before .before .args in
-    subst (Checks (a .pool .now) (a .tables) (a .query) (a .listing .now) (a .count)) (ended-full (e .search .result) (c .if3 .left)) (ends e)
+    checks-says (a .pool .now) (a .tables) (a .query) (a .listing .now) (a .count) (sym (accepted p .passed)) (h .how-many .ensures) (c .verdict .ensures)
 
 pub check-listing-spec : {M : Type 1} → statement M
 check-listing-spec =
-    tie.close
-    (tie.spec
-    refusal-requires
-    returns
-    how-many-requires
-    first-wrong-requires
-    returns-2
-    search-requires
-    returns-3
-    returns-4)
+    tie.close (tie.spec refusal-requires returns how-many-requires verdict-requires returns-2)

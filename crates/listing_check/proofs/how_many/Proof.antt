@@ -1,19 +1,15 @@
+-- `how_many` meets its contract: the count where rows have no words, else how often n words fit.
 use Rattle.listing_check.proofs.Meeting.{many-none, many-some}
 use borrow.Author.Needs.{needs}
 use Rattle.listing_check.proofs.how_many.Statement.{statement}
 use Rattle.listing_check.proofs.how_many.Tie as tie
-use Rattle.listing_check.proofs.how_many.Reads as reads
-use Rattle.listing_check.proofs.how_many.Lts as lts
 
--- src/lib.rt:134:9
 returns : tie.Need-returns
 returns c = let a = c .before .args in many-none (a .n) (a .len) (a .count) (c .if1 .taken)
 
--- src/lib.rt:136:5
 div-result : tie.Need-div-result
 div-result c = search needs
 
--- src/lib.rt:130:1
 returns-2 : tie.Need-returns-2
 returns-2 c = let a = c .before .args in many-some (a .n) (a .len) (a .count) (c .if1 .left)
 

@@ -1,3 +1,4 @@
+-- `same_words` meets its contract: the words passed are the same in both rows.
 use Prim.Native.Nat.{ℕ, _-_, _≤_, _<_}
 use native.Mathlib.Omega.{arith}
 use mathlib.Core.Path.{_≡_}
@@ -8,8 +9,6 @@ use Rattle.join_query.specs.Query.{maxVariables}
 use Rattle.listing_check.proofs.Meeting.{words-same, words-differ}
 use Rattle.listing_check.proofs.same_words.Statement.{statement}
 use Rattle.listing_check.proofs.same_words.Tie as tie
-use Rattle.listing_check.proofs.same_words.Reads as reads
-use Rattle.listing_check.proofs.same_words.Lts as lts
 
 abbrev Inv-loop : tie.InvT-loop
 Inv-loop n a b v₀ v = (v ≤ n) × ((k : ℕ) → k < v → getD a k 0 ≡ getD b k 0)
@@ -17,7 +16,6 @@ Inv-loop n a b v₀ v = (v ≤ n) × ((k : ℕ) → k < v → getD a k 0 ≡ get
 abbrev μ-loop : tie.MeasureT-loop
 μ-loop n a b v₀ v = n - v
 
--- src/lib.rt:44:5
 -- what the parameters' types say
 long-a : (s : tie.Start Inv-loop μ-loop) → length (s .args .t2) ≡ maxVariables
 long-a s = search needs
@@ -28,39 +26,30 @@ long-b s = search needs
 loop-holds : tie.Need-loop-holds Inv-loop μ-loop
 loop-holds c = (omega arith, λ k h. absurd (omega arith))
 
--- src/lib.rt:45:12
 mul-if1 : tie.Need-mul-if1 Inv-loop μ-loop
 mul-if1 c = omega arith
 
--- src/lib.rt:45:12
 array-read-if1 : tie.Need-array-read-if1 Inv-loop μ-loop
 array-read-if1 c = omega arith
 
--- src/lib.rt:45:20
 mul-if1-2 : tie.Need-mul-if1-2 Inv-loop μ-loop
 mul-if1-2 c = omega arith
 
--- src/lib.rt:45:20
 array-read-if1-2 : tie.Need-array-read-if1-2 Inv-loop μ-loop
 array-read-if1-2 c = omega arith
 
--- src/lib.rt:46:13
 returns : tie.Need-returns Inv-loop μ-loop
 returns c = let l = c .before .before in let a = l .before .args in words-differ (a .n) (a .t2) (a .t3) (l .loop .v) (c .before .loop-test .taken) (c .if1 .taken)
 
--- src/lib.rt:48:9
 add-v : tie.Need-add-v Inv-loop μ-loop
 add-v c = omega arith
 
--- src/lib.rt:44:5
 loop-less : tie.Need-loop-less Inv-loop μ-loop
 loop-less c = omega arith
 
--- src/lib.rt:44:5
 loop-again : tie.Need-loop-again Inv-loop μ-loop
 loop-again c = let l = c .before .before in (omega arith, below-more _ (l .loop .v) (l .loop .inv .1) (c .if1 .left))
 
--- src/lib.rt:35:1
 returns-2 : tie.Need-returns-2 Inv-loop μ-loop
 returns-2 c = let l = c .before in let s = l .before in words-same (s .args .n) (s .args .t2) (s .args .t3) (omega (arith, s .pre, long-a s)) (omega (arith, s .pre, long-b s)) (λ k h. l .loop .inv .1 k (omega (arith, c .loop-test .left)))
 

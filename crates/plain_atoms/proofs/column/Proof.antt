@@ -6,6 +6,7 @@ use lib.ListN.{length, getD}
 use lib.Seq.{length-take-le}
 use borrow.Author.Count.{below-more}
 use borrow.Author.Needs.{needs}
+use borrow.Author.Tests.{eqb-true, eqb-false, not-true, not-false}
 use Rattle.column_trie.specs.Limits.{maxArity}
 use Rattle.join_query.specs.Query.{varsOf}
 use Rattle.plain_atoms.proofs.Places.{column-at, column-none}
@@ -36,12 +37,6 @@ mul-if1 c = omega (arith, short (c .before .before))
 element-copy-out-if1 : tie.Need-element-copy-out-if1 Inv-loop μ-loop
 element-copy-out-if1 c = omega (arith, short (c .before .before))
 
-returns : tie.Need-returns Inv-loop μ-loop
-returns c =
-    let l = c .before .before .before in
-    let s = l .before in
-    (sym (column-at (s .args .t1 .variables) (s .args .t1 .len) (l .loop .j) (s .args .v) (omega (arith, short s, long s)) (omega arith) (c .if1 .taken) (l .loop .inv .1)), listed s)
-
 add-j : tie.Need-add-j Inv-loop μ-loop
 add-j c = omega (arith, short (c .before .before .before .before))
 
@@ -49,7 +44,13 @@ loop-less : tie.Need-loop-less Inv-loop μ-loop
 loop-less c = omega arith
 
 loop-again : tie.Need-loop-again Inv-loop μ-loop
-loop-again c = (omega arith, below-more _ _ (c .before .before .before .loop .inv .1) (c .if1 .left))
+loop-again c = (omega arith, below-more _ _ (c .before .before .before .loop .inv .1) (eqb-false _ _ (not-true _ (c .if1 .taken))))
+
+returns : tie.Need-returns Inv-loop μ-loop
+returns c =
+    let l = c .before .before .before in
+    let s = l .before in
+    (sym (column-at (s .args .t1 .variables) (s .args .t1 .len) (l .loop .j) (s .args .v) (omega (arith, short s, long s)) (omega arith) (eqb-true _ _ (not-false _ (c .if1 .left))) (l .loop .inv .1)), listed s)
 
 returns-2 : tie.Need-returns-2 Inv-loop μ-loop
 returns-2 c =
@@ -67,8 +68,8 @@ column-spec =
     loop-holds
     mul-if1
     element-copy-out-if1
-    returns
     add-j
     loop-less
     loop-again
+    returns
     returns-2)

@@ -50,7 +50,7 @@ returns-3 c =
     let p = d .before .before in
     let a = p .before .before .before .before .args in
     let y = accepted p in
-    joins-listed (a .pool .now) (a .tables) (a .query) (a .window .now) (sym (y .passed)) (joined y (a .window .now) (d .search .ensures)) (p .if1 .left ∙ ap (λ (f : Bool). pick f 12 0) (sym (c .if2 .left)))
+    joins-listed (a .pool .now) (a .tables) (a .query) (a .window .now) (sym (y .passed)) (joined y (a .window .now) (d .search .ensures)) (ap (λ (f : Bool). pick f 12 0) (sym (c .if2 .left)))
 
 pub plain-join-spec : {M : Type 1} → statement M
 plain-join-spec =

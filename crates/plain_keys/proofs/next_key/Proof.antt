@@ -38,7 +38,7 @@ short s =
 
 -- where the search starts
 abbrev sought : tie.Start → ℕ
-sought s = bound (s .args .above) (getD (given s) (s .args .len) 0)
+sought s = bound (s .args .past) (getD (given s) (s .args .len) 0)
 
 abbrev school : tie.Start → List Row
 school s = rowsIn (s .args .pool .now) (tableAt (s .args .t2) (s .args .a .table))
@@ -141,37 +141,37 @@ next-in-requires-2 c κs =
     let l = laid (e .before .before) in
     (r .made l, omega (arith, r .short, r .shape l .arity), r .named)
 
+-- what the two tables give, and which comes first
+abbrev Chosen : Type 0
+Chosen = tie.Joined5
+
+abbrev schools : Chosen → Next
+schools j = j .before .before .before .before .before .before .before .next-in .result
+
+abbrev makers : Chosen → Next
+makers j = j .before .next-in2 .result
+
 returns-2 : tie.Need-returns-2
 returns-2 c =
     let j = c .before in
-    let t = j .before .before in
-    let m = t .before in
-    let own = m .before .before .before .before .before .before .next-in .result in
-    lesser-first own (m .next-in2 .result) (t .if5 .taken)
-    (⊎-elim (λ x. inl (not-true (m .next-in2 .result .found) (x .0 .taken))) (λ x. inr (leb-true (own .key) (m .next-in2 .result .key) (sym (x .3) ∙ c .if7 .taken))) (j .if6 .came))
-    ∙ both m
-
--- the maker's is below the school's
-below : (j : tie.Joined6) → j .if6 .if7 ≡ false → let m = j .before .before .before in let own = m .before .before .before .before .before .before .next-in .result in (m .next-in2 .result .found ≡ true) × (m .next-in2 .result .key < own .key)
-below j f =
-    let m = j .before .before .before in
-    let own = m .before .before .before .before .before .before .next-in .result in
-    ⊎-elim (λ x. absurd (false≢true (sym f ∙ x .1 ∙ x .0 .taken)))
-    (λ x. (not-false (m .next-in2 .result .found) (x .0 .left), leb-false (own .key) (m .next-in2 .result .key) (sym (x .3) ∙ f)))
-    (j .if6 .came)
+    ⊎-elim
+    (λ x. lesser-first (schools j) (makers j) (x .0 .taken) (inl (not-true (makers j .found) (x .2 .taken))))
+    (⊎-elim
+    (λ x. lesser-first (schools j) (makers j) (x .0 .taken) (inr (leb-true (schools j .key) (makers j .key) (sym (x .5) ∙ c .if7 .taken))))
+    (λ x. absurd (false≢true (sym (x .1 ∙ x .0 .left) ∙ c .if7 .taken))))
+    (j .if5 .came)
+    ∙ both (j .before)
 
 returns-3 : tie.Need-returns-3
 returns-3 c =
-    let m = c .before in
-    let own = m .before .before .before .before .before .before .next-in .result in
+    let j = c .before in
     ⊎-elim
-    (λ x.
-    let t : tie.Then5 = record { before = m; if5 = x .0 } in
-    let b = below (record { before = record { before = t; struct-known2 = x .1 }; if6 = x .2 }) (x .3 .left) in
-    lesser-below own (m .next-in2 .result) (x .0 .taken) (b .0) (b .1))
-    (λ x. lesser-second own (m .next-in2 .result) (x .left))
-    (c .if5 .came)
-    ∙ both m
+    (λ x. absurd (false≢true (sym (c .if7 .left) ∙ x .3 ∙ x .2 .taken)))
+    (⊎-elim
+    (λ x. lesser-below (schools j) (makers j) (x .0 .taken) (not-false (makers j .found) (x .2 .left)) (leb-false (schools j .key) (makers j .key) (sym (x .5) ∙ c .if7 .left)))
+    (λ x. lesser-second (schools j) (makers j) (x .0 .left)))
+    (j .if5 .came)
+    ∙ both (j .before)
 
 pub next-key-spec : {M : Type 1} → statement M
 next-key-spec =
