@@ -39,10 +39,16 @@ element-copy-out-if1 : tie.Need-element-copy-out-if1 Inv-loop μ-loop
 element-copy-out-if1 c = (c .before .before .before .before .loop .inv) .paused .held .pieces .atoms _ (here ((c .before .before .before .before .loop .inv) .paused .held) (loop-halted (c .before .before .before .before .loop .inv) (c .before .before .landed .given .1)))
 
 returns-2 : tie.Need-returns-2 Inv-loop μ-loop
-returns-2 c = loop-last (c .before .before .before .before .before .before .loop .inv) (c .before .before .before .before .landed .given .1) (c .if1 .taken)
+returns-2 c =
+    let i = c .before .before .before .before .before .before .loop .inv in
+    let p = c .before .before .before .before .landed .given .1 in
+    loop-last i p (c .if1 .taken)
 
 goal-requires : tie.Need-goal-requires Inv-loop μ-loop
-goal-requires c κs = ((c .before .before .before .before .before .before .before .before .loop .inv) .paused .held .pieces, (loop-halted (c .before .before .before .before .before .before .before .before .loop .inv) (c .before .before .before .before .before .before .landed .given .1)))
+goal-requires c κs =
+    let i = c .before .before .before .before .before .before .before .before .loop .inv in
+    let p = c .before .before .before .before .before .before .landed .given .1 in
+    (i .paused .held .pieces, (loop-halted i p))
 
 refill-requires : tie.Need-refill-requires Inv-loop μ-loop
 refill-requires c κs =
@@ -52,22 +58,62 @@ refill-requires c κs =
     ((i .paused .held .pieces .atoms _ b, halted-gone (i .paused .held .pieces) z, i .paused .held .sized), (c .before .before .before .before .before .before .before .if1 .left, i .paused .held .tailed _ b .behind (c .before .before .before .before .before .before .before .if1 .left)))
 
 returns-3 : tie.Need-returns-3 Inv-loop μ-loop
-returns-3 c = loop-none (c .before .before .before .before .before .before .before .before .before .before .before .before .before .before .before .loop .inv) (c .before .before .before .before .before .before .before .before .before .before .before .before .before .landed .given .1) (c .before .before .before .before .before .before .before .before .before .if1 .left) (c .before .before .before .before .before .before .goal .ensures) (c .before .refill .ensures) (not-true (c .before .refill .result) (c .if2 .taken))
+returns-3 c =
+    let i = c .before .before .before .before .before .before .before .before .before .before .before .before .before .before .before .loop .inv in
+    let p = c .before .before .before .before .before .before .before .before .before .before .before .before .before .landed .given .1 in
+    let gone = c .before .before .before .before .before .before .before .before .before .if1 .left in
+    let goal = c .before .before .before .before .before .before .goal .ensures in
+    loop-none i p gone goal (c .before .refill .ensures) (not-true (c .before .refill .result) (c .if2 .taken))
 
 after-requires : tie.Need-after-requires Inv-loop μ-loop
-after-requires c κs = halted-in ((c .before .before .before .before .before .before .before .before .before .before .before .before .before .before .before .before .before .loop .inv) .paused .held .pieces) (loop-halted (c .before .before .before .before .before .before .before .before .before .before .before .before .before .before .before .before .before .loop .inv) (c .before .before .before .before .before .before .before .before .before .before .before .before .before .before .before .landed .given .1))
+after-requires c κs =
+    let i = c .before .before .before .before .before .before .before .before .before .before .before .before .before .before .before .before .before .loop .inv in
+    let p = c .before .before .before .before .before .before .before .before .before .before .before .before .before .before .before .landed .given .1 in
+    halted-in (i .paused .held .pieces) (loop-halted i p)
 
 leapfrog-search-requires : tie.Need-leapfrog-search-requires Inv-loop μ-loop
-leapfrog-search-requires c κs = (loop-ready (c .before .before .before .before .before .before .before .before .before .before .before .before .before .before .before .before .before .before .loop .inv) (c .before .before .before .before .before .before .before .before .before .before .before .before .before .before .before .before .landed .given .1) (c .before .before .before .before .before .before .before .before .before .before .before .before .if1 .left) (c .before .before .before .before .before .before .before .before .before .goal .ensures) (c .before .before .before .before .refill .ensures) (not-false (c .before .before .before .before .refill .result) (c .before .before .before .if2 .left)) .ready, (loop-ordered (c .before .before .before .before .before .before .before .before .before .before .before .before .before .before .before .before .before .before .loop .inv) (c .before .before .before .before .before .before .before .before .before .before .before .before .before .before .before .before .landed .given .1) (c .before .before .before .before .before .before .before .before .before .before .before .before .if1 .left) (c .before .before .before .before .before .before .before .before .before .goal .ensures) (c .before .before .before .before .refill .ensures) (not-false (c .before .before .before .before .refill .result) (c .before .before .before .if2 .left)) (c .after .ensures), c .after .ensures .to))
+leapfrog-search-requires c κs =
+    let i = c .before .before .before .before .before .before .before .before .before .before .before .before .before .before .before .before .before .before .loop .inv in
+    let p = c .before .before .before .before .before .before .before .before .before .before .before .before .before .before .before .before .landed .given .1 in
+    let gone = c .before .before .before .before .before .before .before .before .before .before .before .before .if1 .left in
+    let goal = c .before .before .before .before .before .before .before .before .before .goal .ensures in
+    let filled = c .before .before .before .before .refill .ensures in
+    let more = c .before .before .before .before .refill .result in
+    let so = c .before .before .before .if2 .left in
+    (loop-ready i p gone goal filled (not-false more so) .ready, (loop-ordered i p gone goal filled (not-false more so) (c .after .ensures), c .after .ensures .to))
 
 add-seeks : tie.Need-add-seeks Inv-loop μ-loop
-add-seeks c = omega (arith, again (c .before .before .before .before .before .before .before .before .before .before .before .before .before .before .before .before .before .before .before .before .loop .inv) (c .before .before .before .before .before .before .before .before .before .before .before .before .before .before .before .before .before .before .landed .given .1) (c .before .before .before .before .before .before .before .before .before .before .before .before .before .before .if1 .left) (c .before .before .before .before .before .before .before .before .before .before .before .goal .ensures) (c .before .before .before .before .before .before .refill .ensures) (not-false (c .before .before .before .before .before .before .refill .result) (c .before .before .before .before .before .if2 .left)) (c .before .before .after .ensures) (c .before .leapfrog-search .ensures) .paused .count, c .before .before .before .before .before .before .before .before .before .before .before .before .before .before .before .before .before .before .before .before .before .before .good)
+add-seeks c =
+    let i = c .before .before .before .before .before .before .before .before .before .before .before .before .before .before .before .before .before .before .before .before .loop .inv in
+    let p = c .before .before .before .before .before .before .before .before .before .before .before .before .before .before .before .before .before .before .landed .given .1 in
+    let gone = c .before .before .before .before .before .before .before .before .before .before .before .before .before .before .if1 .left in
+    let goal = c .before .before .before .before .before .before .before .before .before .before .before .goal .ensures in
+    let filled = c .before .before .before .before .before .before .refill .ensures in
+    let more = c .before .before .before .before .before .before .refill .result in
+    let so = c .before .before .before .before .before .if2 .left in
+    omega (arith, again i p gone goal filled (not-false more so) (c .before .before .after .ensures) (c .before .leapfrog-search .ensures) .paused .count, c .before .before .before .before .before .before .before .before .before .before .before .before .before .before .before .before .before .before .before .before .before .before .good)
 
 loop-less : tie.Need-loop-less Inv-loop μ-loop
-loop-less c = falls (c .before .before .before .before .before .before .before .before .before .before .before .before .before .before .before .before .before .before .before .before .loop .inv) (c .before .before .before .before .before .before .before .before .before .before .before .before .before .before .before .before .before .before .landed .given .1) (c .before .before .before .before .before .before .before .before .before .before .before .before .before .before .if1 .left) (c .before .before .before .before .before .before .before .before .before .before .before .goal .ensures) (c .before .before .before .before .before .before .refill .ensures) (not-false (c .before .before .before .before .before .before .refill .result) (c .before .before .before .before .before .if2 .left)) _
+loop-less c =
+    let i = c .before .before .before .before .before .before .before .before .before .before .before .before .before .before .before .before .before .before .before .before .loop .inv in
+    let p = c .before .before .before .before .before .before .before .before .before .before .before .before .before .before .before .before .before .before .landed .given .1 in
+    let gone = c .before .before .before .before .before .before .before .before .before .before .before .before .before .before .if1 .left in
+    let goal = c .before .before .before .before .before .before .before .before .before .before .before .goal .ensures in
+    let filled = c .before .before .before .before .before .before .refill .ensures in
+    let more = c .before .before .before .before .before .before .refill .result in
+    let so = c .before .before .before .before .before .if2 .left in
+    falls i p gone goal filled (not-false more so) _
 
 loop-again : tie.Need-loop-again Inv-loop μ-loop
-loop-again c = again (c .before .before .before .before .before .before .before .before .before .before .before .before .before .before .before .before .before .before .before .before .loop .inv) (c .before .before .before .before .before .before .before .before .before .before .before .before .before .before .before .before .before .before .landed .given .1) (c .before .before .before .before .before .before .before .before .before .before .before .before .before .before .if1 .left) (c .before .before .before .before .before .before .before .before .before .before .before .goal .ensures) (c .before .before .before .before .before .before .refill .ensures) (not-false (c .before .before .before .before .before .before .refill .result) (c .before .before .before .before .before .if2 .left)) (c .before .before .after .ensures) (c .before .leapfrog-search .ensures)
+loop-again c =
+    let i = c .before .before .before .before .before .before .before .before .before .before .before .before .before .before .before .before .before .before .before .before .loop .inv in
+    let p = c .before .before .before .before .before .before .before .before .before .before .before .before .before .before .before .before .before .before .landed .given .1 in
+    let gone = c .before .before .before .before .before .before .before .before .before .before .before .before .before .before .if1 .left in
+    let goal = c .before .before .before .before .before .before .before .before .before .before .before .goal .ensures in
+    let filled = c .before .before .before .before .before .before .refill .ensures in
+    let more = c .before .before .before .before .before .before .refill .result in
+    let so = c .before .before .before .before .before .if2 .left in
+    again i p gone goal filled (not-false more so) (c .before .before .after .ensures) (c .before .leapfrog-search .ensures)
 
 pub go-on-spec : {M : Type 1} → statement M
 go-on-spec =
