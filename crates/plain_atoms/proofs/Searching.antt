@@ -93,7 +93,7 @@ module _ {pool : List ℕ} {ts : Tables} {q : Query} {len : ℕ} (z : Accepted p
 
     pub searched : Searched pool ts (atomAt q i)
     searched = record {
-      listing = record { short = lists z i h .short; below = low };
+      list = record { short = lists z i h .short; below = low };
       reads = λ c k. record {
         names = omega (arith, names z .each i h, names z .bounded);
         sound = sound z i h;

@@ -12,13 +12,13 @@ use Rattle.plain.specs.Plain.{holder}
 use Rattle.plain_keys.specs.Keys.{Readable}
 
 -- an atom's list: no longer than its array, of variables below 8
-pub record Listing (a : Atom) : Type 0 where
+pub record ListFits (a : Atom) : Type 0 where
   pub short : a .len ≤ maxArity
   pub below : (j : ℕ) → j < a .len → varAt a j < maxVariables
 
 -- an atom whose rows can be searched behind the words of any of its variables but the last
 pub record Searched (pool : List ℕ) (ts : Tables) (a : Atom) : Type 0 where
-  pub listing : Listing a
+  pub list : ListFits a
   pub reads : (c : ℕ) → c < length (varsOf a) → Readable pool ts a c
 
 -- a query that passed the checks, with some window

@@ -97,13 +97,13 @@ element-copy-out-a : tie.Need-element-copy-out-a Inv-loop μ-loop
 element-copy-out-a c = omega (arith, more c, few (start (loop c)))
 
 column-requires : tie.Need-column-requires Inv-loop μ-loop
-column-requires c κs = sought (c .before) .listing .short
+column-requires c κs = sought (c .before) .list .short
 
 add-if2 : tie.Need-add-if2 Inv-loop μ-loop
 add-if2 c =
     let t = c .before .before in
     let l = loop t in
-    omega (arith, c .column .ensures .0, c .column .ensures .1, column-le (start l .args .v) (varsOf (atomAt (start l .args .t3) (l .loop .i))), sought t .listing .short)
+    omega (arith, c .column .ensures .0, c .column .ensures .1, column-le (start l .args .v) (varsOf (atomAt (start l .args .t3) (l .loop .i))), sought t .list .short)
 
 next-key-requires : tie.Need-next-key-requires Inv-loop μ-loop
 next-key-requires c κs = let k = c .before .before .column in sought (turn (c .before)) .reads (k .result) (omega (arith, last c, k .ensures .0))
