@@ -10,7 +10,7 @@ use lib.ListN.{length, get_or, take, length-take, get_or-eq_default}
 use borrow.Author.Tests.{ltb-true}
 use Rattle.relation.specs.Order.{Row, pick}
 use Rattle.relation.specs.Rows.{cut}
-use Rattle.relation.proofs.Lists.{get_d_in}
+use Rattle.relation.proofs.Lists.{get_or_in}
 use Rattle.query.specs.Window.{fit, windowed}
 use Rattle.query.specs.Outcome.{Comes, told}
 use Rattle.join_query.specs.Query.{max_variables, join_number, Accepted}
@@ -20,7 +20,7 @@ use Rattle.join_query.specs.declared.Tables.{Tables}
 use Rattle.join_query.proofs.Exactly.{checks_0, not_12, answered_late}
 use Rattle.rows_after.specs.After.{rows_asked, listed_after, last_of, stood_at, padded, outcome_after, JoinsAfter}
 use Rattle.rows_after.specs.declared.JoinedAfter.{JoinedAfter}
-use Rattle.rows_after.proofs.Last.{get_d_zeros, padded_length, last_at, count_le, written_rows, last_none}
+use Rattle.rows_after.proofs.Last.{get_or_zeros, padded_length, last_at, count_le, written_rows, last_none}
 use Rattle.rows_after.proofs.Outcome.{outcome_listed, last_listed}
 use Rattle.after_laws.specs.Calls.{piece}
 use Rattle.after_laws.proofs.Asked.{asked_wide}
@@ -91,7 +91,7 @@ module _ {pool : List ℕ} {ts : Tables} {q : Query} {goes_on : Bool} {given win
         go : (m : ℕ) → r.rows ≡ m → (row : Row) × (length row ≤ q.n) × (r.last ≡ padded row)
         go zero e = (stood_at q.n goes_on given, stood_short goes_on, last_stood e)
         go (suc i) e =
-            let wide = asked_wide a given goes_on (get_or rows i []) (get_d_in rows i [] (omega (arith, count_le window q.n rows, rows_is, e))) in
+            let wide = asked_wide a given goes_on (get_or rows i []) (get_or_in rows i [] (omega (arith, count_le window q.n rows, rows_is, e))) in
             (get_or rows i [], omega (arith, wide), last_some i e)
 
     -- "eight words", "words past n are zero"
@@ -103,7 +103,7 @@ module _ {pool : List ℕ} {ts : Tables} {q : Query} {goes_on : Bool} {given win
     pub zero_past_n : (i : ℕ) → q.n ≤ i → get_or r.last i 0 ≡ 0
     zero_past_n i h =
         let t = handed in
-        ap (λ (l : List ℕ). get_or l i 0) t.2 ∙ get_d_zeros t.0 (max_variables - length t.0) i ∙ get_or-eq_default t.0 0 (let g : length t.0 ≤ i = omega (arith, t.1) in g)
+        ap (λ (l : List ℕ). get_or l i 0) t.2 ∙ get_or_zeros t.0 (max_variables - length t.0) i ∙ get_or-eq_default t.0 0 (let g : length t.0 ≤ i = omega (arith, t.1) in g)
 
     -- the rows written, read from the window
     pub piece_is : piece q r after ≡ take (listed_after pool ts q goes_on given window).count (rows_asked pool ts q goes_on given)

@@ -8,7 +8,7 @@ use lib.Seq.{split_at}
 use Rattle.relation.specs.Order.{Row, ◌≺◌}
 use Rattle.relation.specs.Lists.{Ascends}
 use Rattle.relation.specs.Rows.{Width}
-use Rattle.relation.proofs.Lists.{get_d_in}
+use Rattle.relation.proofs.Lists.{get_or_in}
 use Rattle.query.specs.Meaning.{part, Listing}
 use Rattle.query.specs.Solve.{listing}
 use Rattle.query.proofs.Listed.{listing_listing}
@@ -43,7 +43,7 @@ module _ {pool : List ℕ} {ts : Tables} {q : Query} {len : ℕ} (a : Accepted p
   among : (goes_on : Bool) (i : ℕ) → i < length (rows_asked pool ts q goes_on given) → after_row (order_of q) (get_or (rows_asked pool ts q goes_on given) i []) answers ≡ after_row (order_of q) (get_or (rows_asked pool ts q goes_on given) i []) (rows_asked pool ts q goes_on given)
   among true i h =
       let rows = rows_asked pool ts q true given in
-      sym (after_after (order_of q) given (get_or rows i []) (in_after (order_of q) given answers (get_d_in rows i [] h)).1 answers)
+      sym (after_after (order_of q) given (get_or rows i []) (in_after (order_of q) given answers (get_or_in rows i [] h)).1 answers)
   among false i h = refl
 
   -- a call that goes on after row i lists the rows behind it

@@ -8,7 +8,7 @@ use native.Mathlib.Omega.{arith}
 use native.Mathlib.Numerals.{add-one}
 use lib.ListN.{length, get_or, take, drop, get_or-eq_default}
 use borrow.Author.Tests.{lt-ltb, le-ltb, le-leb, lt-leb}
-use Rattle.relation.proofs.Lists.{get_d_any}
+use Rattle.relation.proofs.Lists.{get_or_any}
 use Rattle.relation.specs.Layers.{Layer}
 use Rattle.column_trie.specs.Groups.{group_from, group_to, lies, outside, group_of}
 use Rattle.column_trie.specs.Pool.{spot}
@@ -23,7 +23,7 @@ module _ (pool : List ℕ) (at n i past : ℕ) (fits : at + n ≤ length pool) w
   interval_past h = sym (get_or-eq_default (take n (drop at pool)) past {n = i} (omega (arith, length_part pool at n fits)))
 
   pub interval_here : i < n → get_or pool (at + i) 0 ≡ get_or (take n (drop at pool)) i past
-  interval_here h = sym (part_at pool at n i h) ∙ get_d_any (take n (drop at pool)) i 0 past (omega (arith, length_part pool at n fits))
+  interval_here h = sym (part_at pool at n i h) ∙ get_or_any (take n (drop at pool)) i 0 past (omega (arith, length_part pool at n fits))
 
 -- the layer's lists are as long as the header says ..
 module _ (pool : List ℕ) {t : ColumnTrie} {d : ℕ} (f : LayerFits (length pool) t d) where
@@ -40,7 +40,7 @@ module _ (pool : List ℕ) {t : ColumnTrie} {d : ℕ} (f : LayerFits (length poo
   -- a group runs from where its interval's children start to where the next one's do
   module _ {r : ℕ} (i : ℕ) where
     pub starts_group : i < interval_len_at t d → r ≡ get_or (layer_in pool t d).intervals i (data_len_at t d) → r ≡ group_from (layer_in pool t d) i
-    starts_group h e = e ∙ get_d_any (layer_in pool t d).intervals i (data_len_at t d) 0 (omega (arith, intervals_long))
+    starts_group h e = e ∙ get_or_any (layer_in pool t d).intervals i (data_len_at t d) 0 (omega (arith, intervals_long))
 
     pub ends_group : r ≡ get_or (layer_in pool t d).intervals (i + 1) (data_len_at t d) → r ≡ group_to (layer_in pool t d) i
     ends_group e =

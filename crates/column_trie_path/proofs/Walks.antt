@@ -11,7 +11,7 @@ use native.Mathlib.Numerals.{add-one}
 use lib.ListN.{length, take, get_or, get_or-eq_default}
 use lib.Seq.{take-take}
 use borrow.Author.Tests.{ltb-true, ltb-false}
-use Rattle.relation.proofs.Lists.{get_d_any, get_d_in}
+use Rattle.relation.proofs.Lists.{get_or_any, get_or_in}
 use Rattle.relation.specs.Order.{Row}
 use Rattle.relation.specs.Lists.{◌∈◌, hd}
 use Rattle.relation.specs.Rows.{Width}
@@ -45,7 +45,7 @@ grouped a rows d i w h k =
     there = omega (arith, length_intervals d rows)
 
     go : Dec (suc i < length (intervals_at d rows)) → get_or (intervals_at d rows) i 0 ≤ get_or (intervals_at d rows) (suc i) (length (keys_at d rows))
-    go (yes l) = omega (arith, o.ascend i l, get_d_any (intervals_at d rows) (suc i) (length (keys_at d rows)) 0 l)
+    go (yes l) = omega (arith, o.ascend i l, get_or_any (intervals_at d rows) (suc i) (length (keys_at d rows)) 0 l)
     go (no l) = omega (arith, o.inside i (omega (arith, there)), get_or-eq_default (intervals_at d rows) (length (keys_at d rows)) {n = suc i} (omega arith))
 
     climbs : (n j m : ℕ) → get_or (intervals_at d rows) i 0 ≤ j → m ≡ j + n → m < get_or (intervals_at d rows) (suc i) (length (keys_at d rows)) → get_or (keys_at d rows) j 0 ≤ get_or (keys_at d rows) m 0
@@ -113,7 +113,7 @@ module _ {a : ℕ} {rows : List Row} {r : Row} {d i : ℕ} (w : Width a rows) (l
       other : (j : ℕ) → group_from (ranked_at d rows) i ≤ j → j < group_to (ranked_at d rows) i → (j ≡ p.at → ⊥) → Another rows r d
       other j lo hi n =
           let k : j < length (prefixes (suc d) rows) = omega (arith, hi, end_le a d rows w h i index_inside, length_keys d rows) in
-          let x = prefix_of (suc d) rows (get_d_in (prefixes (suc d) rows) j [] k) in
+          let x = prefix_of (suc d) rows (get_or_in (prefixes (suc d) rows) j [] k) in
           let s =
           group_in d (prefixes d rows) (prefixes (suc d) rows) (prefixes_asc d rows) (prefixes_width d w (omega arith)) (prefixes_asc (suc d) rows) (prefixes_width (suc d) w h) (λ q m. parent_in d rows m)
           i j index_inside k (omega (arith, lo, begin_is a d rows w h i index_inside)) (omega (arith, hi, end_is a d rows w h i)) in

@@ -8,7 +8,7 @@ use native.Mathlib.Decide.{ℕ_discrete}
 use borrow.Author.Count.{below_more}
 use lib.ListN.{length, take, get_or, set, replicate, length-set, length-map}
 use lib.Seq.{get_or-take, length-take-le, get_or-set_same, get_or-set_other}
-use Rattle.relation.proofs.Lists.{get_d_in, in_get_d}
+use Rattle.relation.proofs.Lists.{get_or_in, in_get_or}
 use Rattle.query.specs.Meaning.{Permutation}
 use Rattle.query.specs.Checks.{permutes}
 use Rattle.query.proofs.Checks.{true_permutes, permutes_false, distinct_at, at_distinct}
@@ -53,14 +53,14 @@ module _ (n : ℕ) (cs : List ℕ) (few : n ≤ max_arity) (long : length cs ≡
       sym (true_permutes n (take n cs) (record {
         size = size;
         below = λ x m.
-            let t = in_get_d 0 m in
+            let t = in_get_or 0 m in
             let k : t.0 < n = omega (arith, t.1, size) in
             omega (arith, p.below t.0 (omega arith), at t.0 k, t.2);
         single = at_distinct (take n cs) (λ j k lt g d. p.apart j k lt (omega (arith, size)) (sym (at j (omega (arith, size))) ∙ d ∙ at k (omega (arith, size))));
       }))
 
   pub too_large : (i : ℕ) → i < n → n ≤ get_or cs i 0 → false ≡ permutes n (take n cs)
-  too_large i h g = sym (permutes_false n (take n cs) (λ p. omega (arith, p.below (get_or (take n cs) i 0) (get_d_in (take n cs) i 0 (omega (arith, size))), at i h)))
+  too_large i h g = sym (permutes_false n (take n cs) (λ p. omega (arith, p.below (get_or (take n cs) i 0) (get_or_in (take n cs) i 0 (omega (arith, size))), at i h)))
 
   pub twice : {marks : List Bool} {i : ℕ} → Marked n cs marks i → i < n → get_or marks (get_or cs i 0) false ≡ true → false ≡ permutes n (take n cs)
   twice {i = i} m h e =
@@ -92,7 +92,7 @@ module _ (n : ℕ) (cs : List ℕ) (few : n ≤ max_arity) (long : length cs ≡
 
   -- a permutation's numbers are columns
   pub columns_inside : Permutation n (take n cs) → (k : ℕ) → k < n → get_or cs k 0 < n
-  columns_inside p k h = omega (arith, p.below (get_or (take n cs) k 0) (get_d_in (take n cs) k 0 (omega (arith, size))), at k h)
+  columns_inside p k h = omega (arith, p.below (get_or (take n cs) k 0) (get_or_in (take n cs) k 0 (omega (arith, size))), at k h)
 
 -- one column's kind more
 pub map_at : (f : ℕ → Bool) (cs : List ℕ) (k : ℕ) → k < length cs → get_or (map f cs) k false ≡ f (get_or cs k 0)

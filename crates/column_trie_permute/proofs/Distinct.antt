@@ -9,7 +9,7 @@ use lib.Seq.{ext_get_or}
 use Rattle.relation.specs.Order.{Row, pick, before, ◌≺◌}
 use Rattle.relation.specs.Lists.{◌∈◌, hd, tl, Ascends, anone, amore}
 use Rattle.relation.specs.Rows.{Asc, Width, place, put, sort, as_set}
-use Rattle.relation.proofs.Lists.{ascends_map, in_get_d}
+use Rattle.relation.proofs.Lists.{ascends_map, in_get_or}
 use Rattle.relation.proofs.Order.{Tri, lt, eq, gt, tri, irrefl, asym, before→≺, ≺→before}
 use Rattle.relation.proofs.Tests.{T_true, true_T}
 use Rattle.relation.proofs.Sorting.{put_lt, put_gt, as_set_members}
@@ -21,7 +21,7 @@ use Rattle.permuted_rows.proofs.Rows.{part_word}
 -- rows of n words are determined by how they read in a permutation of their places
 pub same_row : {n : ℕ} {cs : List ℕ} → Permutation n cs → (u v : Row) → length u ≡ n → length v ≡ n → part cs u ≡ part cs v → u ≡ v
 same_row {n} {cs} q u v l m e = ext_get_or 0 u v (l ∙ sym m) (λ i h.
-    let t = in_get_d 0 (cover q i (omega arith)) in
+    let t = in_get_or 0 (cover q i (omega arith)) in
     let w = ap (λ (r : Row). get_or r t.0 0) e in
     ap (λ (z : ℕ). get_or u z 0) (sym t.2) ∙ sym (part_word cs u t.0 t.1) ∙ w ∙ part_word cs v t.0 t.1 ∙ ap (λ (z : ℕ). get_or v z 0) t.2)
 

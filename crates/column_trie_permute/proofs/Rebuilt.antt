@@ -7,7 +7,7 @@ use lib.ListN.{length, take, get_or}
 use Rattle.relation.specs.Order.{Row}
 use Rattle.relation.specs.Rows.{Asc, Width, sort, as_set}
 use Rattle.relation.specs.Layers.{layers_of}
-use Rattle.relation.proofs.Lists.{in_get_d}
+use Rattle.relation.proofs.Lists.{in_get_or}
 use Rattle.relation.proofs.Sorting.{sort_sorted, sort_members, as_set_asc, as_set_cong}
 use Rattle.relation.proofs.Tables.{layers_count, layers_undamaged}
 use Rattle.column_trie.specs.Limits.{max_arity}
@@ -50,7 +50,7 @@ module _ {pool : List ℕ} {t : ColumnTrie} {columns : List ℕ} {len start capa
 
   -- the permuted rows, and as they are sorted
   width : Width t.arity (rows_permuted pool t columns)
-  width q m = let p = in_get_d [] m in sym (ap length p.2) ∙ row_long o legible long p.0 (omega (arith, p.1, rows_count o legible))
+  width q m = let p = in_get_or [] m in sym (ap length p.2) ∙ row_long o legible long p.0 (omega (arith, p.1, rows_count o legible))
 
   width_sort : Width t.arity (sort (rows_permuted pool t columns))
   width_sort q m = width q ((sort_members (rows_permuted pool t columns) q).0 m)

@@ -46,10 +46,10 @@ pub record Shrinking (pool₀ : List ℕ) (t : ColumnTrie) (rest : List Row) (r 
   pub leaves : Leaves t.arity rest r d i at lone
 
 -- the word that stands behind n others
-get_d_behind : (n w : ℕ) (xs ys : List ℕ) (z : ℕ) → n ≤ length xs → get_or (take n xs ++ w ∷ ys) n z ≡ w
-get_d_behind zero w xs ys z h = refl
-get_d_behind (suc n) w [] ys z h = absurd (omega arith)
-get_d_behind (suc n) w (x ∷ xs) ys z h = get_d_behind n w xs ys z (omega arith)
+get_or_behind : (n w : ℕ) (xs ys : List ℕ) (z : ℕ) → n ≤ length xs → get_or (take n xs ++ w ∷ ys) n z ≡ w
+get_or_behind zero w xs ys z h = refl
+get_or_behind (suc n) w [] ys z h = absurd (omega arith)
+get_or_behind (suc n) w (x ∷ xs) ys z h = get_or_behind n w xs ys z (omega arith)
 
 module _ {pool₀ : List ℕ} {t : ColumnTrie} {rest : List Row} {r : Row} (y : Ready pool₀ t rest r) where
   pub rest_width : Width t.arity rest
@@ -81,7 +81,7 @@ module _ {pool₀ : List ℕ} {t : ColumnTrie} {rest : List Row} {r : Row} (y : 
       begins_place f =
           ap (λ (l : Layer). get_or l.intervals i (data_len_at out d)) (layer_old change g.layers h)
           ∙ ap₂ (λ (is : List ℕ) (n : ℕ). get_or is n (data_len_at out d)) (insert_new t.arity rest r rest_width y.long d h (g.leaves.new f)) g.leaves.place
-          ∙ get_d_behind (rank_of rest r d) (rank_of rest r (suc d)) (intervals_at d rest) _ (data_len_at out d) (omega (arith, rank_le (take d r) (prefixes d rest), length_intervals d rest))
+          ∙ get_or_behind (rank_of rest r d) (rank_of rest r (suc d)) (intervals_at d rest) _ (data_len_at out d) (omega (arith, rank_le (take d r) (prefixes d rest), length_intervals d rest))
 
       -- later intervals aren't 0
       positive_words : PositiveFrom (spot out.start out.capacity d + out.capacity + suc i) (spot out.start out.capacity d + out.capacity + interval_len_at out d) pool

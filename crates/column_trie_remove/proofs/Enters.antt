@@ -14,7 +14,7 @@ use Rattle.relation.specs.Lists.{◌∈◌, hd}
 use Rattle.relation.specs.Rows.{put}
 use Rattle.relation.specs.Layers.{prefixes}
 use Rattle.relation.proofs.Tests.{not_both}
-use Rattle.relation.proofs.Lists.{in_get_d}
+use Rattle.relation.proofs.Lists.{in_get_or}
 use Rattle.relation.proofs.Layers.{prefix_in, prefix_of}
 use Rattle.relation.proofs.Insert.{PrefixStored, rank_of, root, no_root}
 use Rattle.column_trie.specs.Table.{rows_in}
@@ -94,7 +94,7 @@ module _ {pool : List ℕ} {t : ColumnTrie} {r : Row} {f : Fork} (o : Whole t) (
         }
 
     others : t.tuple_count ≡ 1 → ⊥
-    others e = omega (arith, count, (in_get_d [] another_left).1)
+    others e = omega (arith, count, (in_get_or [] another_left).1)
 
   module _ (k : NoFork rows r t.arity f) where
     none_left : rest ≡ []

@@ -12,7 +12,7 @@ use borrow.Author.Tests.{eq-eqb, ne_eqb}
 use Rattle.relation.specs.Order.{Row, pick}
 use Rattle.relation.specs.Lists.{◌∈◌}
 use Rattle.relation.specs.Layers.{layers_of}
-use Rattle.relation.proofs.Lists.{in_get_d}
+use Rattle.relation.proofs.Lists.{in_get_or}
 use Rattle.column_trie.specs.Pool.{store}
 use Rattle.column_trie.specs.Table.{rows_in, refilled, undamaged}
 use Rattle.column_trie.specs.declared.ColumnTrie.{ColumnTrie}
@@ -82,7 +82,7 @@ module _ {pool : List ℕ} {t : ColumnTrie} {tuple : Row} (l : Accepted pool t t
 
   -- a table without rows
   pub no_row : t.tuple_count ≡ 0 → (r : Removed) → (r.number ≡ 0) × (r.was_there ≡ false) × (r.table ≡ t) → Removes pool pool t tuple r
-  no_row z = absent (λ m. omega (arith, held.counted, (in_get_d [] m).1))
+  no_row z = absent (λ m. omega (arith, held.counted, (in_get_or [] m).1))
 
   module _ {p : Path} (q : PathOf t.arity (rows_in pool t) tuple p) where
     -- a path that ends before the last layer

@@ -7,7 +7,7 @@ use mathlib.Core.Bool.{Bool, true, false}
 use mathlib.Core.List.{List, []}
 use lib.ListN.{length, get_or, replicate}
 use Rattle.relation.specs.Order.{Row, pick}
-use Rattle.query.proofs.Meet.{get_d_in}
+use Rattle.query.proofs.Meet.{get_or_in}
 use Rattle.relation.proofs.Intervals.{prefix_root, root_there}
 use Rattle.query.proofs.Engine.{engine_ready, engine_root}
 use Rattle.column_trie.specs.Table.{rows_in, Undamaged}
@@ -44,7 +44,7 @@ placed_root pool t =
     record {
       above = omega arith;
       under = prefix_root rows;
-      inside = λ h. root_there (get_d_in rows 0 [] h);
+      inside = λ h. root_there (get_or_in rows 0 [] h);
     }
 
 -- no atom has a word yet, and its place is said to be in its own table

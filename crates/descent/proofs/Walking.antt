@@ -16,7 +16,7 @@ use Rattle.query.specs.Solve.{headed}
 use Rattle.query.specs.Window.{Progress, emit}
 use Rattle.query.specs.Descend.{standings, nobody, Joinable, Descends}
 use Rattle.query.proofs.Descend.{ToGo, leaf, descends_fits, to_go_same, to_go_none, to_go_full}
-use Rattle.query.proofs.Meet.{get_d_in}
+use Rattle.query.proofs.Meet.{get_or_in}
 use Rattle.query.proofs.Under.{Gains}
 use Rattle.query.proofs.Engine.{engine_start, engine_key, engine_joinable}
 use Rattle.ring_sort.specs.Sorted.{key_at}
@@ -273,7 +273,7 @@ module _ {pool plan ends : List ℕ} {n d : ℕ} {above owned : List ℕ} (st : 
         variable_is st.stands.based h,
         few_variables,
         st.stands.based.size,
-        z.permutation.below (get_or (order_of q) d 0) (get_d_in (order_of q) d 0 (omega (arith, z.permutation.size, st.stands.based.size))),
+        z.permutation.below (get_or (order_of q) d 0) (get_or_in (order_of q) d 0 (omega (arith, z.permutation.size, st.stands.based.size))),
       )
 
 -- ---- no variable is left

@@ -9,7 +9,7 @@ use lib.Seq.{drop-drop}
 use Rattle.relation.specs.Tests.{every}
 use Rattle.relation.specs.Order.{Row, before}
 use Rattle.relation.specs.Lists.{◌∈◌}
-use Rattle.relation.proofs.Lists.{get_d_in}
+use Rattle.relation.proofs.Lists.{get_or_in}
 use Rattle.relation.proofs.Tests.{every_none, every_more, every_fails, every_fewer, not_both}
 use Rattle.table_file.specs.Bytes.{decode, Bytes}
 use Rattle.table_file.specs.File.{end, head, Read, nothing, found, kinds_read, head_ok, ascending, if_ascending, parse_as, parse}
@@ -59,7 +59,7 @@ module _ {bytes : List ℕ} {at a n : ℕ} (b : Bytes bytes) (h : HasRows bytes 
 
   pub row_is : (i : ℕ) → i < n → decode a (drop (at + place a i) bytes) ≡ get_or (given (rows_from bytes at a)) i []
   row_is i k =
-      let m : get_or rows i [] ∈ rows = get_d_in rows i [] (omega (arith, how_many)) in
+      let m : get_or rows i [] ∈ rows = get_or_in rows i [] (omega (arith, how_many)) in
       ap (decode a) (sym (drop-drop (place a i) at bytes)) ∙ row_read a h.some (per_some a h.some h.few) (lies i k) (w.width (get_or rows i []) m) (w.words (get_or rows i []) m)
 
   module _ {i : ℕ} {x y : Row} {r : Bool} (s : Ascended (given (rows_from bytes at a)) i) (k : i < n) (p : x ≡ get_or (given (rows_from bytes at a)) (i - 1) []) (q : y ≡ get_or (given (rows_from bytes at a)) i []) (e : r ≡ before x y) where

@@ -10,7 +10,7 @@ use lib.Seq.{length-take-le, take_all, take_at}
 use Rattle.relation.specs.Order.{Row}
 use Rattle.relation.specs.Lists.{◌∈◌}
 use Rattle.relation.specs.Layers.{layers_of}
-use Rattle.relation.proofs.Lists.{get_d_in, in_get_d}
+use Rattle.relation.proofs.Lists.{get_or_in, in_get_or}
 use Rattle.column_trie.specs.Limits.{max_arity}
 use Rattle.column_trie.specs.Pool.{spot}
 use Rattle.column_trie.specs.Table.{table_of, layers_in, rows_in, Undamaged}
@@ -39,7 +39,7 @@ use Rattle.file_laws.proofs.Written.{written_sound, written_len, written_bytes, 
 
 -- a row's words are words of the pool
 rows_words : {pool : List ℕ} {t : ColumnTrie} → Whole t → Undamaged pool t → Words pool → (r : Row) → r ∈ rows_in pool t → Words r
-rows_words {pool} {t} o u p r m w n = go (in_get_d [] m) (in_get_d 0 n)
+rows_words {pool} {t} o u p r m w n = go (in_get_or [] m) (in_get_or 0 n)
   where
     h : Holds pool t (rows_in pool t)
     h = holds o u
@@ -50,7 +50,7 @@ rows_words {pool} {t} o u p r m w n = go (in_get_d [] m) (in_get_d 0 n)
         let k = key_at o u i (omega (arith, b, h.counted)) d a in
         let g = layer_fits (in_pool u) a in
         let at = spot t.start t.capacity d + ancestor (drop (suc d) (layers_in pool t)) i in
-        p w (subst (λ (x : ℕ). x ∈ pool) (k.word ∙ ap (λ (q : Row). get_or q d 0) e ∙ f) (get_d_in pool at 0 (omega (arith, k.inside, g.inside, g.keys))))
+        p w (subst (λ (x : ℕ). x ∈ pool) (k.word ∙ ap (λ (q : Row). get_or q d 0) e ∙ f) (get_or_in pool at 0 (omega (arith, k.inside, g.inside, g.keys))))
 
 pub holds_a_file : {pool : List ℕ} {t : ColumnTrie} → Whole t → length t.grade ≡ max_arity → Undamaged pool t → Words pool → Table t.arity (kinds_of t) (rows_in pool t)
 holds_a_file {pool} {t} o g u p =

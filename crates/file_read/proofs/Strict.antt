@@ -10,7 +10,7 @@ use lib.Seq.{take_all}
 use borrow.Author.Tests.{leb-true, leb-false}
 use Rattle.relation.specs.Order.{Row, ◌≺◌}
 use Rattle.relation.specs.Rows.{Asc, Width}
-use Rattle.relation.proofs.Lists.{get_d_in}
+use Rattle.relation.proofs.Lists.{get_or_in}
 use Rattle.relation.proofs.Order.{shared, shared_take, irrefl}
 use Rattle.table_file.proofs.Laws.{neighbours_asc}
 
@@ -28,4 +28,4 @@ pub neighbours_differ : {a : ℕ} {rows : List Row} → Asc rows → Width a row
 neighbours_differ s w zero p h = absurd (omega arith)
 neighbours_differ {rows = rows} s w (suc i) p h =
     let e : suc i - 1 ≡ i = omega arith in
-    rw e (apart (w (get_or rows i []) (get_d_in rows i [] (omega arith))) (w (get_or rows (suc i) []) (get_d_in rows (suc i) [] h)) (neighbours_asc s i h))
+    rw e (apart (w (get_or rows i []) (get_or_in rows i [] (omega arith))) (w (get_or rows (suc i) []) (get_or_in rows (suc i) [] h)) (neighbours_asc s i h))

@@ -8,7 +8,7 @@ use native.Mathlib.Numerals.{add-one}
 use lib.ListN.{length, take, drop, get_or, length-drop}
 use lib.Seq.{length-take-le}
 use Rattle.relation.specs.Rows.{Width, flat}
-use Rattle.relation.proofs.Lists.{get_d_in}
+use Rattle.relation.proofs.Lists.{get_or_in}
 use Rattle.column_trie.specs.Table.{layers_in, rows_in, Undamaged}
 use Rattle.column_trie.specs.declared.ColumnTrie.{ColumnTrie}
 use Rattle.column_trie.proofs.Damage.{undamaged_told}
@@ -30,7 +30,7 @@ module _ {pool : List ℕ} {t : ColumnTrie} (o : Whole t) (u : Undamaged pool t)
   rows_many = sym (holds o u).counted
 
   pub row_long : (i : ℕ) → i < t.tuple_count → length (get_or (rows_in pool t) i []) ≡ t.arity
-  row_long i h = rows_wide (get_or (rows_in pool t) i []) (get_d_in (rows_in pool t) i [] (omega (arith, rows_many)))
+  row_long i h = rows_wide (get_or (rows_in pool t) i []) (get_or_in (rows_in pool t) i [] (omega (arith, rows_many)))
 
   pub rows_left : (i k : ℕ) → i + k < t.tuple_count → k < length (drop i (rows_in pool t))
   rows_left i k h = omega (arith, rows_many, length-drop i (rows_in pool t))

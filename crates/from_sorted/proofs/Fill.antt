@@ -9,7 +9,7 @@ use lib.Seq.{take_all, take-suc, length-take-le}
 use Rattle.relation.specs.Order.{Row}
 use Rattle.relation.specs.Rows.{as_set, Width}
 use Rattle.relation.specs.Layers.{Layer, no_layer, prefixes, groups_at, joined, starts, layer_at, layers_from, layers_of}
-use Rattle.relation.proofs.Lists.{get_d_in}
+use Rattle.relation.proofs.Lists.{get_or_in}
 use Rattle.relation.proofs.Order.{shared}
 use Rattle.relation.proofs.Sorting.{as_set_members, as_set_asc}
 use Rattle.relation.proofs.Tables.{layers_count, layers_members, layers_undamaged}
@@ -99,7 +99,7 @@ module _ {len : ℕ} {t : ColumnTrie} {rows : List Row} (f : Filling len t rows)
         small = f.small;
         fits = f.fits;
         width = width_take i w;
-        wide = w (get_or rows i []) (get_d_in rows i [] h);
+        wide = w (get_or rows i []) (get_or_in rows i [] h);
         room = omega (arith, length-take-le i rows (omega arith), f.room);
         keys = k;
         intervals = n;

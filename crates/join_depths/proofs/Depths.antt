@@ -13,7 +13,7 @@ use Rattle.relation.specs.Lists.{◌∈◌, hd, tl, Ascends, anone, amore}
 use Rattle.relation.specs.Layers.{keys_under}
 use Rattle.query.specs.Meaning as meaning
 use Rattle.query.specs.Descend.{standings, nobody, holders, Joinable}
-use Rattle.query.proofs.Meet.{get_d_in}
+use Rattle.query.proofs.Meet.{get_or_in}
 use Rattle.query.proofs.Leap.{meet_nil}
 use Rattle.query.proofs.Holders.{holders_some}
 use Rattle.query.specs.Limits.{max_atoms}
@@ -36,7 +36,7 @@ use Rattle.join_depths.proofs.Takers.{takes, can_open, none_under, open_within, 
 rises : {l : List ℕ} → Ascends ◌<◌ l → (i j : ℕ) → i < j → j < length l → get_or l i 0 < get_or l j 0
 rises anone i j h k = absurd (omega arith)
 rises (amore {r = r} {rs = rs} g s) i zero h k = absurd (omega arith)
-rises (amore {r = r} {rs = rs} g s) zero (suc j) h k = g (get_or rs j 0) (get_d_in rs j 0 (omega arith))
+rises (amore {r = r} {rs = rs} g s) zero (suc j) h k = g (get_or rs j 0) (get_or_in rs j 0 (omega arith))
 rises (amore {r = r} {rs = rs} g s) (suc i) (suc j) h k = rises s i j (omega arith) (omega arith)
 
 module _ {pool : List ℕ} {ts : Tables} {q : Query} {plan ends : List ℕ} {n d : ℕ} (z₀ : State) {f : ℕ → Row} (s : Stands pool ts q plan ends n d z₀.at z₀.own f) (below : d < n) where

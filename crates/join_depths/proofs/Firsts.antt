@@ -13,7 +13,7 @@ use Rattle.relation.specs.Layers.{Layer, prefixes, under, keys_under, groups_at,
 use Rattle.relation.proofs.Sorting.{as_set_is}
 use Rattle.relation.proofs.Intervals.{prefix_root}
 use Rattle.query.specs.Descend.{prefix_at}
-use Rattle.query.proofs.Meet.{get_d_in}
+use Rattle.query.proofs.Meet.{get_or_in}
 use Rattle.query.proofs.Beyond.{keys_ascend}
 use Rattle.column_trie.specs.Pool.{spot}
 use Rattle.column_trie.specs.Table.{data_len_at, rows_in, Undamaged}
@@ -87,7 +87,7 @@ module _ {pool : List ℕ} {t : ColumnTrie} (u : Undamaged pool t) where
       let e : s + (at - s) ≡ at = omega arith in
       subst (λ (l : List ℕ). get_or pool at 0 ∈ l) first_run
       (subst (λ (x : ℕ). x ∈ part pool s (firsts_end t)) (part_at pool s (firsts_end t) (at - s) (omega arith) ∙ ap (λ (i : ℕ). get_or pool i 0) e)
-      (get_d_in (part pool s (firsts_end t)) (at - s) 0 (omega (arith, part_length pool s (firsts_end t) firsts_in))))
+      (get_or_in (part pool s (firsts_end t)) (at - s) 0 (omega (arith, part_length pool s (firsts_end t) firsts_in))))
 
   -- the place of a first key stands for that word
   pub first_placed : (at : ℕ) → spot t.start t.capacity 0 ≤ at → at < firsts_end t → Placed pool t at (get_or pool at 0 ∷ [])

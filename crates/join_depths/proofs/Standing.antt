@@ -12,7 +12,7 @@ use Rattle.relation.specs.Lists.{◌∈◌, Ascends}
 use Rattle.query.specs.Meaning as meaning
 use Rattle.query.specs.Solve.{headed, standing}
 use Rattle.query.specs.Descend.{standings, nobody, holders}
-use Rattle.query.proofs.Meet.{get_d_in, in_get_d}
+use Rattle.query.proofs.Meet.{get_or_in, in_get_or}
 use Rattle.query.proofs.Holders.{in_holders, holders_in, holders_ascend}
 use Rattle.query.proofs.Under.{length_standings, standings_at}
 use Rattle.join_query.specs.Query.{no_atom, atom_at, table_at, order_of, vars_of, atoms_of, atom_table}
@@ -22,7 +22,7 @@ use Rattle.join_depths.specs.Depth.{Based, takes_part}
 use Rattle.join_query.specs.declared.Query.{Query}
 use Rattle.join_query.specs.declared.Tables.{Tables}
 use Rattle.join_query.proofs.Lists.{headed_inside}
-use Rattle.join_query.proofs.Accepted.{get_d_default, sized, names, lists, atoms_length, atoms_at}
+use Rattle.join_query.proofs.Accepted.{get_or_default, sized, names, lists, atoms_length, atoms_at}
 
 -- ---- the atoms that take part at a depth
 
@@ -73,7 +73,7 @@ module _ {pool : List ℕ} {ts : Tables} {q : Query} {plan ends : List ℕ} {n d
         ap (λ (b : meaning.Atom). b.vars) (standings_at f (atoms_of pool ts q) i (omega (arith, atoms_length a)))
         ∙ left_vars i g
         ∙ ap (λ (x : ℕ). drop x (vars_of (atom_at q i))) (s.words i g)
-        ∙ ap (λ (b : meaning.Atom). b.vars) (sym (get_or-take q.atom_count l i nobody g ∙ get_d_default l i nobody (left_at q d no_atom) (omega (arith, length-map q.atoms (left_at q d), a.whole, (names a).few)) ∙ get_or-map (left_at q d) q.atoms i no_atom)))
+        ∙ ap (λ (b : meaning.Atom). b.vars) (sym (get_or-take q.atom_count l i nobody g ∙ get_or_default l i nobody (left_at q d no_atom) (omega (arith, length-map q.atoms (left_at q d), a.whole, (names a).few)) ∙ get_or-map (left_at q d) q.atoms i no_atom)))
 
     -- the plan's are those of the theory
     pub count_is : count_at plan d ≡ length (takers q d)
@@ -97,7 +97,7 @@ module _ {pool : List ℕ} {ts : Tables} {q : Query} {plan ends : List ℕ} {n d
         }
 
     pub taker_at : (j : ℕ) → j < count_at plan d → Taker (who_at plan d j)
-    taker_at j h = subst Taker (sym (who_is j h)) (taker (get_d_in (takers q d) j 0 (omega (arith, count_is))))
+    taker_at j h = subst Taker (sym (who_is j h)) (taker (get_or_in (takers q d) j 0 (omega (arith, count_is))))
 
     pub taker_in : {i : ℕ} → Taker i → i ∈ takers q d
     taker_in {i} t =
@@ -107,7 +107,7 @@ module _ {pool : List ℕ} {ts : Tables} {q : Query} {plan ends : List ℕ} {n d
 
     pub taker_place : {i : ℕ} → Taker i → (j : ℕ) × (j < count_at plan d) × (who_at plan d j ≡ i)
     taker_place t =
-        let p = in_get_d 0 (taker_in t) in
+        let p = in_get_or 0 (taker_in t) in
         let h : p.0 < count_at plan d = omega (arith, count_is, p.1) in
         (p.0, h, who_is p.0 h ∙ p.2)
 
@@ -120,7 +120,7 @@ module _ {pool : List ℕ} {ts : Tables} {q : Query} {plan ends : List ℕ} {n d
         let a = get_or (takers q d) j 0 in
         let w = who_is j h in
         subst (λ (x : ℕ). AtomOpening plan (opening_at d j) x (atom_at q x).laid_over (atom_table ts q x) (table_at ts (second_of (atom_at q x))) (length (f x))) (sym w)
-        (subst (AtomOpening plan (opening_at d j) a (atom_at q a).laid_over (atom_table ts q a) (table_at ts (second_of (atom_at q a)))) (sym (s.words a (taker (get_d_in (takers q d) j 0 (omega (arith, count_is)))).atom)) (at_depth.openings j (omega (arith, count_is))))
+        (subst (AtomOpening plan (opening_at d j) a (atom_at q a).laid_over (atom_table ts q a) (table_at ts (second_of (atom_at q a)))) (sym (s.words a (taker (get_or_in (takers q d) j 0 (omega (arith, count_is)))).atom)) (at_depth.openings j (omega (arith, count_is))))
 
     pub layer_in_lem : {i : ℕ} → Taker i → length (f i) < (atom_table ts q i).arity
     layer_in_lem {i} t = omega (arith, headed_inside v (length (f i)) (vars_of (atom_at q i)) t.takes, (lists s.accepted i t.atom).exact)

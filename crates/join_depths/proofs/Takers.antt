@@ -13,7 +13,7 @@ use Rattle.relation.specs.Order.{Row, pick}
 use Rattle.relation.specs.Lists.{◌∈◌, Ascends}
 use Rattle.relation.specs.Rows.{as_set}
 use Rattle.relation.specs.Layers.{prefixes, keys_under, layer_at}
-use Rattle.relation.proofs.Lists.{get_d_any}
+use Rattle.relation.proofs.Lists.{get_or_any}
 use Rattle.query.proofs.Under.{keys_none}
 use Rattle.query.specs.Limits.{max_atoms}
 use Rattle.overlay.specs.Merge.{merge}
@@ -148,7 +148,7 @@ module _ {pool : List ℕ} {ts : Tables} {q : Query} {plan ends : List ℕ} {n d
     low_is =
         ap (group_start pool plan from) interval_is
         ∙ starts x
-        ∙ ap (λ (m : ℕ). groups.keys_from u L b + m) (get_d_any (layer_at L rows).intervals x (length (layer_at L rows).keys) 0 (omega (arith, inside, groups.interval_count u L b, groups.interval_each u L b)))
+        ∙ ap (λ (m : ℕ). groups.keys_from u L b + m) (get_or_any (layer_at L rows).intervals x (length (layer_at L rows).keys) 0 (omega (arith, inside, groups.interval_count u L b, groups.interval_each u L b)))
 
     high_is : group_high pool plan from place ≡ groups.high u L b x
     high_is = ap (group_start pool plan from) (let e : interval_at plan from place + 1 ≡ suc x = omega (arith, interval_is) in e) ∙ starts (suc x)

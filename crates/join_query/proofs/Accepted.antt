@@ -15,7 +15,7 @@ use Rattle.query.specs.Meaning as meaning
 use Rattle.query.specs.Meaning.{follows, Table, Passes}
 use Rattle.query.specs.Descend.{nobody}
 use Rattle.query.specs.Checks.{covers}
-use Rattle.query.proofs.Meet.{in_get_d}
+use Rattle.query.proofs.Meet.{in_get_or}
 use Rattle.query.proofs.Checks.{true_permutes, passes_of}
 use Rattle.column_trie.specs.Table.{layers_in, rows_in, Undamaged}
 use Rattle.column_trie.specs.declared.ColumnTrie.{ColumnTrie}
@@ -55,10 +55,10 @@ module _ (pool : List ℕ) (ts : Tables) (a : Atom) where
   rows_laid e = ap (λ (b : Bool). pick b (laid (rows_in pool (table_at ts a.table)) (rows_in pool (table_at ts a.maker))) (rows_in pool (table_at ts a.table))) e
 
 -- inside a list the default does not matter
-pub get_d_default : (l : List meaning.Atom) (i : ℕ) (a b : meaning.Atom) → i < length l → get_or l i a ≡ get_or l i b
-get_d_default [] i a b k = absurd (omega arith)
-get_d_default (x ∷ l) zero a b k = refl
-get_d_default (x ∷ l) (suc i) a b k = get_d_default l i a b (omega arith)
+pub get_or_default : (l : List meaning.Atom) (i : ℕ) (a b : meaning.Atom) → i < length l → get_or l i a ≡ get_or l i b
+get_or_default [] i a b k = absurd (omega arith)
+get_or_default (x ∷ l) zero a b k = refl
+get_or_default (x ∷ l) (suc i) a b k = get_or_default l i a b (omega arith)
 
 -- ---- a query that passed
 
@@ -118,14 +118,14 @@ module _ {pool : List ℕ} {ts : Tables} {q : Query} {len : ℕ} (z : Accepted p
 
   pub atoms_at : (i : ℕ) → i < q.atom_count → get_or (atoms_of pool ts q) i nobody ≡ atom_of pool ts (atom_at q i)
   atoms_at i h =
-      get_d_default (atoms_of pool ts q) i nobody (atom_of pool ts no_atom) (omega (arith, atoms_length))
+      get_or_default (atoms_of pool ts q) i nobody (atom_of pool ts no_atom) (omega (arith, atoms_length))
       ∙ get_or-map (atom_of pool ts) (atoms_in q) i no_atom
       ∙ ap (atom_of pool ts) (get_or-take q.atom_count q.atoms i no_atom h)
 
   -- what holds of each by number holds of each
   by_number : (P : meaning.Atom → Type 0) → ((i : ℕ) → i < q.atom_count → P (atom_of pool ts (atom_at q i))) → (a : meaning.Atom) → a ∈ atoms_of pool ts q → P a
   by_number P f a m =
-      let t = in_get_d nobody m in
+      let t = in_get_or nobody m in
       let h : t.0 < q.atom_count = omega (arith, t.1, atoms_length) in
       subst P (sym (atoms_at t.0 h) ∙ t.2) (f t.0 h)
 

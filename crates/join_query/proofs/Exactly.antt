@@ -22,7 +22,7 @@ use Rattle.query.specs.Meaning.{follows}
 use Rattle.query.specs.Checks.{permutes, listed, covers}
 use Rattle.query.specs.Window.{Progress}
 use Rattle.query.specs.Outcome.{told, refused}
-use Rattle.query.proofs.Meet.{get_d_in, in_get_d}
+use Rattle.query.proofs.Meet.{get_or_in, in_get_or}
 use Rattle.query.proofs.Checks.{true_permutes, listed_is, follows_sublist, sublist_follows, some_in, covers_true, true_covers}
 use Rattle.query.proofs.Solved.{follow_in}
 use Rattle.column_trie.specs.Limits.{max_arity}
@@ -140,11 +140,11 @@ module _ (q : Query) (y : Typed q) where
     size = length-take-le q.atom_count q.atoms (omega (arith, n.few, y.atoms))
 
     atom_in : (i : ℕ) → i < q.atom_count → atom_at q i ∈ atoms_in q
-    atom_in i h = subst (λ (a : Atom). a ∈ atoms_in q) (get_or-take q.atom_count q.atoms i no_atom h) (get_d_in (atoms_in q) i no_atom (omega (arith, size)))
+    atom_in i h = subst (λ (a : Atom). a ∈ atoms_in q) (get_or-take q.atom_count q.atoms i no_atom h) (get_or_in (atoms_in q) i no_atom (omega (arith, size)))
 
     in_atom : {a : Atom} → a ∈ atoms_in q → (i : ℕ) × (i < q.atom_count) × (atom_at q i ≡ a)
     in_atom m =
-        let t = in_get_d no_atom m in
+        let t = in_get_or no_atom m in
         let h : t.0 < q.atom_count = omega (arith, t.1, size) in
         (t.0, h, sym (get_or-take q.atom_count q.atoms t.0 no_atom h) ∙ t.2)
 
@@ -163,7 +163,7 @@ module _ (q : Query) (y : Typed q) where
     variable_below ts f {i} {j} c =
         let a = atom_at q i in
         let long : length (vars_of a) ≡ a.len = length-take-le a.len a.variables (omega (arith, y.variables i (omega (arith, c.atom, n.few)), (f i c.atom).short)) in
-        (f i c.atom).below (var_at (atom_at q i) j) (subst (λ (x : ℕ). x ∈ vars_of a) (get_or-take a.len a.variables j 0 c.place) (get_d_in (vars_of a) j 0 (omega (arith, long, c.place))))
+        (f i c.atom).below (var_at (atom_at q i) j) (subst (λ (x : ℕ). x ∈ vars_of a) (get_or-take a.len a.variables j 0 c.place) (get_or_in (vars_of a) j 0 (omega (arith, long, c.place))))
 
     kinds_decide : (ts : Tables) → AllFollow ts q → Exactly (index.every q.n (one_kind ts q) ≡ true) (SameKinds ts q)
     kinds_decide ts f = (

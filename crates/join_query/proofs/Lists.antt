@@ -21,7 +21,7 @@ use Rattle.query.specs.Meaning.{Permutation, follows}
 use Rattle.query.specs.Meet.{has}
 use Rattle.query.specs.Solve.{headed}
 use Rattle.query.specs.Checks.{some, permutes, listed, covers}
-use Rattle.query.proofs.Meet.{in_has, has_in, has_not, get_d_in, in_get_d}
+use Rattle.query.proofs.Meet.{in_has, has_in, has_not, get_or_in, in_get_or}
 use Rattle.query.proofs.Checks.{permutes_true, true_permutes, permutes_false, distinct_at, at_distinct, listed_is, listed_true, some_in, in_some, covers_false}
 use Rattle.column_trie.specs.Limits.{max_arity}
 use Rattle.column_trie.specs.Table.{grade_at, undamaged}
@@ -63,10 +63,10 @@ module _ (l : List ℕ) (n : ℕ) (fits : n ≤ length l) where
   long = length-take-le n l fits
 
   pub has_at : (i v : ℕ) → i < n → get_or l i 0 ≡ v → has (take n l) v ≡ true
-  has_at i v h e = in_has (subst (λ (x : ℕ). x ∈ take n l) (get_or-take n l i 0 h ∙ e) (get_d_in (take n l) i 0 (omega (arith, long))))
+  has_at i v h e = in_has (subst (λ (x : ℕ). x ∈ take n l) (get_or-take n l i 0 h ∙ e) (get_or_in (take n l) i 0 (omega (arith, long))))
 
   pub has_none : (v : ℕ) → ((i : ℕ) → i < n → get_or l i 0 ≡ v → ⊥) → has (take n l) v ≡ false
-  has_none v f = has_not (take n l) v (λ m. let t = in_get_d 0 m in let h : t.0 < n = omega (arith, long, t.1) in f t.0 h (sym (get_or-take n l t.0 0 h) ∙ t.2))
+  has_none v f = has_not (take n l) v (λ m. let t = in_get_or 0 m in let h : t.0 < n = omega (arith, long, t.1) in f t.0 h (sym (get_or-take n l t.0 0 h) ∙ t.2))
 
   pub headed_at : (v j : ℕ) → j < n → headed v (drop j (take n l)) ≡ eqb (get_or l j 0) v
   unfolding headed
@@ -163,7 +163,7 @@ module _ (q : Query) (long : length q.order ≡ max_variables) where
         (sym (true_permutes n (order_of q) (record {
           size = size;
           below = λ x m.
-              let t = in_get_d 0 m in
+              let t = in_get_or 0 m in
               let k : t.0 < n = omega (arith, t.1, size) in
               omega (arith, p.below t.0 (omega arith), at t.0 k, t.2);
           single = at_distinct (order_of q) (λ j k lt g d. p.apart j k lt (omega (arith, size)) (sym (at j (omega (arith, size))) ∙ d ∙ at k (omega (arith, size))));
@@ -175,12 +175,12 @@ module _ (q : Query) (long : length q.order ≡ max_variables) where
     not_permuted f = gate_open (leb n max_variables) (permutes n (order_of q)) false (le-leb n max_variables few) (sym (permutes_false n (order_of q) f))
 
     pub too_large : (i : ℕ) → i < n → n ≤ get_or q.order i 0 → false ≡ order_ok q
-    too_large i h g = not_permuted (λ p. omega (arith, p.below (get_or (order_of q) i 0) (get_d_in (order_of q) i 0 (omega (arith, size))), at i h))
+    too_large i h g = not_permuted (λ p. omega (arith, p.below (get_or (order_of q) i 0) (get_or_in (order_of q) i 0 (omega (arith, size))), at i h))
 
     pub twice : (i : ℕ) → i < n → has (take i q.order) (get_or q.order i 0) ≡ true → false ≡ order_ok q
     twice i h e =
         not_permuted (λ p.
-        let t = in_get_d 0 (has_in (take i q.order) (get_or q.order i 0) e) in
+        let t = in_get_or 0 (has_in (take i q.order) (get_or q.order i 0) e) in
         let j : t.0 < i = omega (arith, t.1, length-take-le i q.order (omega (arith, long))) in
         distinct_at p.single t.0 i j (omega (arith, size))
         (at t.0 (omega arith) ∙ sym (get_or-take i q.order t.0 0 j) ∙ t.2 ∙ sym (at i h)))
@@ -256,7 +256,7 @@ module _ (q : Query) (o : order_ok q ≡ true) (a : Atom) (arity : ℕ) (whole :
 
 module _ {A : Type 0} (p : A → Bool) (l : List A) (n : ℕ) (d : A) (fits : n ≤ length l) where
   some_here : (i : ℕ) → i < n → p (get_or l i d) ≡ true → some p (take n l) ≡ true
-  some_here i h e = in_some p (get_d_in (take n l) i d (omega (arith, length-take-le n l fits))) (ap p (get_or-take n l i d h) ∙ e)
+  some_here i h e = in_some p (get_or_in (take n l) i d (omega (arith, length-take-le n l fits))) (ap p (get_or-take n l i d h) ∙ e)
 
   some_nowhere : ((i : ℕ) → i < n → p (get_or l i d) ≡ false) → some p (take n l) ≡ false
   some_nowhere f = go (some p (take n l)) refl
@@ -264,7 +264,7 @@ module _ {A : Type 0} (p : A → Bool) (l : List A) (n : ℕ) (d : A) (fits : n 
       go : (b : Bool) → some p (take n l) ≡ b → b ≡ false
       go true e =
           let t = some_in p (take n l) e in
-          let u = in_get_d d t.1 in
+          let u = in_get_or d t.1 in
           let h : u.0 < n = omega (arith, u.1, length-take-le n l fits) in
           absurd (false≢true (sym (f u.0 h) ∙ ap p (sym (get_or-take n l u.0 d h) ∙ u.2) ∙ t.2))
       go false e = refl

@@ -10,7 +10,7 @@ use lib.ListN.{length, get_or, set, take, drop, replicate, length-set, length-dr
 use lib.Seq.{get_or-take, get_or-drop, get_or-set_same, get_or-set_other, length-take-le}
 use Rattle.join_query.specs.Query.{max_variables}
 use Rattle.rows_after.specs.After.{padded}
-use Rattle.rows_after.proofs.Last.{get_d_zeros, padded_only}
+use Rattle.rows_after.proofs.Last.{get_or_zeros, padded_only}
 use Rattle.last_row.specs.Last.{last_read}
 
 -- what stands past the end
@@ -28,7 +28,7 @@ pub record Copied (words : List ℕ) (base n v : ℕ) (row : List ℕ) : Type 0 
 
 module _ (words : List ℕ) (base n : ℕ) where
   pub copied_start : Copied words base n 0 (replicate max_variables 0)
-  copied_start = record { size = refl; within = omega arith; done = λ i h. absurd (omega arith); behind = λ i h. get_d_zeros [] max_variables i }
+  copied_start = record { size = refl; within = omega arith; done = λ i h. absurd (omega arith); behind = λ i h. get_or_zeros [] max_variables i }
 
   module _ (few : n ≤ max_variables) {v : ℕ} {row : List ℕ} (c : Copied words base n v row) where
     pub copied_more : v < n → Copied words base n (v + 1) (set row v (get_or words (base + v) 0))

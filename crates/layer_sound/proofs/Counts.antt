@@ -10,7 +10,7 @@ use native.Mathlib.Decide.{dec_lt}
 use lib.ListN.{length, get_or, get_or-eq_default}
 use lib.Dec.{leb, eqb}
 use borrow.Author.Tests.{le-leb, lt-leb, leb-false, eqb-true, eqb-false}
-use Rattle.relation.proofs.Lists.{get_d_any}
+use Rattle.relation.proofs.Lists.{get_or_any}
 use Rattle.relation.specs.Order.{pick}
 use Rattle.relation.specs.Undamaged.{Ordered, sound}
 use Rattle.relation.proofs.Walks.{sound→, →sound, sound_ordered, ordered_sound}
@@ -137,7 +137,7 @@ module _ {ints keys : List ℕ} (s : Starts ints keys) where
         go : Dec (suc i < length ints) → get_or keys j 0 < get_or keys (suc j) 0
         go (yes l) =
             calm keys (get_or ints i 0) (get_or ints (suc i) 0 - 1) (omega (arith, step i l, starts_step i, tight i h, tight (suc i) l)) j a
-            (omega (arith, get_d_any ints (suc i) (length keys) 0 l))
+            (omega (arith, get_or_any ints (suc i) (length keys) 0 l))
         go (no n) =
             let q : i ≡ last = omega arith in
             calm keys (get_or ints i 0) (length keys - 1) (omega (arith, tight i h, ap starts q)) j a (omega (arith, get_or-eq_default ints (length keys) {n = suc i} (omega arith)))
@@ -147,7 +147,7 @@ module _ {ints keys : List ℕ} (s : Starts ints keys) where
     equal : (i : ℕ) → i < length ints → falls i ≡ starts i
     equal zero h = none
     equal (suc i) h =
-        omega (arith, equal i (omega arith), step i h, starts_step i, level keys (get_or ints i 0) (get_or ints (suc i) 0 - 1) (omega (arith, s.ascend i h)) (λ j a b. rise keys refl (o.groups i j (omega arith) a (omega (arith, get_d_any ints (suc i) (length keys) 0 h)))))
+        omega (arith, equal i (omega arith), step i h, starts_step i, level keys (get_or ints i 0) (get_or ints (suc i) 0 - 1) (omega (arith, s.ascend i h)) (λ j a b. rise keys refl (o.groups i j (omega arith) a (omega (arith, get_or_any ints (suc i) (length keys) 0 h)))))
 
     equal_all : falls_in keys (length keys - 1) ≡ starts last
     equal_all =

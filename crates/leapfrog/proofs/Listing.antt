@@ -25,7 +25,7 @@ use Rattle.query.proofs.Beyond.{keys_ascend}
 use Rattle.query.proofs.Descend.{leaf, root, ToGo, to_go_start, to_go_same, to_go_key, to_go_none, to_go_full, to_go_joinable}
 use Rattle.query.proofs.Listed.{joinable}
 use Rattle.query.proofs.Leap.{agree_tails, meet_nil}
-use Rattle.query.proofs.Meet.{in_get_d, get_d_in, meet_all, meet_to, meet_of, meet_asc, same_keys}
+use Rattle.query.proofs.Meet.{in_get_or, get_or_in, meet_all, meet_to, meet_of, meet_asc, same_keys}
 use Rattle.query.proofs.Solved.{takes_part}
 use Rattle.leapfrog.specs.Search.{Stop, on, out, Went, none, run_at, search_of, next_of, sorted_runs, some_none, init_of, left_in, EndsOn, Comes}
 use Rattle.leapfrog.specs.Walk.{Tally, counted, onward_of, depth_of, walk_of}
@@ -52,10 +52,10 @@ module _ (rs : List (List ℕ)) (asc : Runs rs) (nonempty : 0 < length rs) where
   ranked = sorted_runs rs (length rs)
 
   member : {r : List ℕ} → r ∈ rs → Ascends ◌<◌ r
-  member m = let t = in_get_d [] m in subst (Ascends ◌<◌) t.2 (asc t.0 t.1)
+  member m = let t = in_get_or [] m in subst (Ascends ◌<◌) t.2 (asc t.0 t.1)
 
   ranked_at_lem : (j : ℕ) → j < length ranked → run_at ranked j ∈ rs
-  ranked_at_lem j l = sorted_in rs (length rs) (le_refl (length rs)) (get_d_in ranked j [] l)
+  ranked_at_lem j l = sorted_in rs (length rs) (le_refl (length rs)) (get_or_in ranked j [] l)
 
   ranked_runs : Runs ranked
   ranked_runs j l = member (ranked_at_lem j l)
@@ -231,7 +231,7 @@ runs_ascend v (a ∷ l) f = go (runs_ascend v l (λ b m. f b (tl m))) (headed v 
     go ih true q (suc j) h = ih j (omega arith)
     go ih false q j h = ih j h
 
-runs_some : (v : ℕ) {l : List Atom} {a : Atom} → a ∈ l → headed v a.vars ≡ true → 0 < length (runs v l)
+runs_some : (v : ℕ) {a : Atom} {l : List Atom} → a ∈ l → headed v a.vars ≡ true → 0 < length (runs v l)
 unfolding runs
 runs_some v {a = a} (hd {x = b} {xs = l} e) q = rw (ap (λ (c : Atom). headed v c.vars) (sym e) ∙ q) (omega arith)
 runs_some v (tl {x = b} {xs = l} m) q = go (headed v b.vars) (runs_some v m q)

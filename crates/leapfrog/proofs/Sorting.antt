@@ -11,7 +11,7 @@ use lib.ListN.{length, get_or}
 use lib.Dec.{ltb}
 use borrow.Author.Tests.{ltb-true, ltb-false}
 use Rattle.relation.specs.Lists.{◌∈◌, hd, tl, not_in_nil, in_cons, Ascends, anone, amore}
-use Rattle.query.proofs.Meet.{get_d_in}
+use Rattle.query.proofs.Meet.{get_or_in}
 use Rattle.leapfrog.specs.Search.{first, place_run, sorted_runs}
 use Rattle.leapfrog.proofs.Steps.{place_before_lem, place_behind}
 
@@ -73,7 +73,7 @@ module _ (runs : List (List ℕ)) where
   unfolding sorted_runs
   sorted_in zero h m = absurd (not_in_nil m)
   sorted_in (suc k) h {x} m =
-      ⊎_elim (λ (e : x ≡ get_or runs k []). rw e (get_d_in runs k [] h)) (λ (i : x ∈ sorted_runs runs k). sorted_in k (omega arith) i)
+      ⊎_elim (λ (e : x ≡ get_or runs k []). rw e (get_or_in runs k [] h)) (λ (i : x ∈ sorted_runs runs k). sorted_in k (omega arith) i)
       (place_in (get_or runs k []) (sorted_runs runs k) m)
 
   pub in_sorted : (k j : ℕ) → j < k → get_or runs j [] ∈ sorted_runs runs k
@@ -92,6 +92,6 @@ module _ (runs : List (List ℕ)) where
 pub rises_at : {rs : List (List ℕ)} → Rises rs → (i j : ℕ) → i < j → j < length rs → first (get_or rs i []) ≤ first (get_or rs j [])
 rises_at anone i j h g = absurd (omega arith)
 rises_at (amore f s) zero zero h g = absurd (omega arith)
-rises_at (amore {rs = l} f s) zero (suc j) h g = f (get_or l j []) (get_d_in l j [] (le_of_suc-le-suc g))
+rises_at (amore {rs = l} f s) zero (suc j) h g = f (get_or l j []) (get_or_in l j [] (le_of_suc-le-suc g))
 rises_at (amore f s) (suc i) zero h g = absurd (omega arith)
 rises_at (amore f s) (suc i) (suc j) h g = rises_at s i j (le_of_suc-le-suc h) (le_of_suc-le-suc g)

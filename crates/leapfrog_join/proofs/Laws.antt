@@ -21,7 +21,7 @@ use Rattle.leapfrog_search.specs.declared.Searched.{Searched}
 use Rattle.ring_sort.specs.Sorted.{key_at}
 use Rattle.leapfrog_search.specs.Ring.{SameAtoms}
 use Rattle.leapfrog_search.specs.Leapfrog.{part, run_of, runs_in, Ready, Ordered, Agreed, Moved, answered, Ran, Left}
-use Rattle.ring_sort.proofs.Lists.{ascends_get_d, ascends_apart}
+use Rattle.ring_sort.proofs.Lists.{ascends_get_or, ascends_apart}
 use Rattle.leapfrog_search.proofs.Parts.{part_length, part_at, part_drop}
 use Rattle.leapfrog_search.proofs.Runs.{ring_in, ready_length, ready_runs, ready_heads, seek_from}
 use Rattle.leapfrog_search.proofs.Defined.{ready_ring, ran_left}
@@ -96,7 +96,7 @@ agreed_from {pool} {at₀} {at} {end} {ring} {k} {x} r m g = cut (take k ring) (
         let h : get_or at a 0 < get_or end a 0 = (g.ready.each a i).inside in
         let stands : get_or (run_of pool at₀ end a) (get_or at a 0 - get_or at₀ a 0) 0 ≡ x = part_at pool (get_or at₀ a 0) (get_or end a 0) (get_or at a 0 - get_or at₀ a 0) (omega (arith, m.forward a)) ∙ (ap (λ (y : ℕ). get_or pool y 0) e ∙ g.all a i) in
         sym
-        (from_drop x (run_of pool at₀ end a) (get_or at a 0 - get_or at₀ a 0) (omega arith) (λ j b. omega (arith, stands, ascends_get_d o.ascends j (get_or at a 0 - get_or at₀ a 0) 0 b (omega (arith, l, m.forward a)))) (λ b. omega (arith, stands))
+        (from_drop x (run_of pool at₀ end a) (get_or at a 0 - get_or at₀ a 0) (omega arith) (λ j b. omega (arith, stands, ascends_get_or o.ascends j (get_or at a 0 - get_or at₀ a 0) 0 b (omega (arith, l, m.forward a)))) (λ b. omega (arith, stands))
         ∙ (part_drop pool (get_or at₀ a 0) (get_or end a 0) (get_or at a 0 - get_or at₀ a 0) (omega arith) o.ends ∙ ap (λ (y : ℕ). part pool y (get_or end a 0)) e))
 
     cut : (l : List ℕ) → ((a : ℕ) → a ∈ l → a ∈ take k ring) → map (run_of pool at end) l ≡ map (from x) (map (run_of pool at₀ end) l)

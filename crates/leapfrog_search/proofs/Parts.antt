@@ -14,7 +14,7 @@ use Rattle.seek.specs.Offset.{NonFalling}
 use Rattle.seek.proofs.Laws.{leading}
 use Rattle.relation.proofs.Runs.{from_drop}
 use Rattle.leapfrog_search.specs.Leapfrog.{part, Reached}
-use Rattle.ring_sort.proofs.Lists.{ascends_get_d}
+use Rattle.ring_sort.proofs.Lists.{ascends_get_or}
 
 module _ (pool : List ℕ) where
   pub part_length : (x e : ℕ) → e ≤ length pool → length (part pool x e) ≡ e - x
@@ -48,7 +48,7 @@ module _ (pool : List ℕ) where
   ascending : (x e : ℕ) → Ascends ◌<◌ (part pool x e) → NonFalling (part pool x e)
   ascending x e s a b h l =
       ⊎_elim (λ (d : a ≡ b). subst (λ (n : ℕ). get_or (part pool x e) a 0 ≤ get_or (part pool x e) n 0) d (le_refl (get_or (part pool x e) a 0)))
-      (λ g. omega (arith, ascends_get_d s a b 0 g l))
+      (λ g. omega (arith, ascends_get_or s a b 0 g l))
       (eq-or-lt_of_le h)
 
   module _ (x e : ℕ) (h : x ≤ e) (l : e ≤ length pool) (s : Ascends ◌<◌ (part pool x e)) where

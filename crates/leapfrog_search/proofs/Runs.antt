@@ -12,14 +12,14 @@ use Rattle.relation.specs.Lists.{◌∈◌, Ascends}
 use Rattle.query.specs.Meet as meets
 use Rattle.relation.specs.Runs.{from}
 use Rattle.query.specs.Meet.{meet}
-use Rattle.query.proofs.Meet.{in_get_d, meet_to, meet_of, meet_asc, same_keys}
+use Rattle.query.proofs.Meet.{in_get_or, meet_to, meet_of, meet_asc, same_keys}
 use Rattle.relation.proofs.Runs.{in_from, from_in, from_ascends, from_least}
 use Rattle.query.proofs.Leap.{seek_runs}
 use Rattle.query.proofs.Ring.{Passed, step, turn}
 use Rattle.ring_sort.specs.Sorted.{key_at}
 use Rattle.leapfrog_search.specs.Ring.{Follows}
 use Rattle.leapfrog_search.specs.Leapfrog.{part, run_of, runs_in, OnKey, Ready, Ordered, Moved, Reached}
-use Rattle.ring_sort.proofs.Lists.{nth_in, set_each, get_d_map}
+use Rattle.ring_sort.proofs.Lists.{nth_in, set_each, get_or_map}
 use Rattle.seek.specs.declared.SeekStrategy.{SeekStrategy}
 use Rattle.seek.specs.declared.Probed.{Probed}
 use Rattle.seek.specs.Seek.{probed_by}
@@ -35,13 +35,13 @@ module _ (pool at end ring : List ℕ) (k : ℕ) (h : k ≤ length ring) where
   pub runs_at : (j : ℕ) → j < k → get_or (runs_in pool at end ring k) j [] ≡ run_of pool at end (get_or ring j 0)
   unfolding runs_in
   runs_at j l =
-      get_d_map (run_of pool at end) (take k ring) j 0 [] (omega (arith, length-take-le k ring h))
+      get_or_map (run_of pool at end) (take k ring) j 0 [] (omega (arith, length-take-le k ring h))
       ∙ ap (run_of pool at end) (get_or-take k ring j 0 l)
 
   -- an atom of the ring has a place there
   pub atom_place : {a : ℕ} → a ∈ take k ring → (j : ℕ) × (j < k) × (get_or ring j 0 ≡ a)
   atom_place m =
-      let t = in_get_d 0 m in
+      let t = in_get_or 0 m in
       let l : t.0 < k = omega (arith, t.1, length-take-le k ring h) in
       (t.0, l, sym (get_or-take k ring t.0 0 l) ∙ t.2)
 

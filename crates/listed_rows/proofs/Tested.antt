@@ -10,7 +10,7 @@ use lib.Seq.{get_or-take, length-take-le, split_at}
 use Rattle.relation.specs.Order.{Row}
 use Rattle.relation.specs.Lists.{◌∈◌, hd, tl, not_in_nil, in_cons}
 use Rattle.relation.specs.Rows.{same}
-use Rattle.relation.proofs.Lists.{get_d_in, in_get_d}
+use Rattle.relation.proofs.Lists.{get_or_in, in_get_or}
 use Rattle.relation.proofs.Tests.{not_both}
 use Rattle.query.specs.Checks.{some}
 use Rattle.query.specs.Meaning.{Atom, part, Answer, Passes, Listing}
@@ -36,12 +36,12 @@ module _ {n : ℕ} {order : List ℕ} {atoms : List Atom} (q : Passes n order at
 
   tests_answer : ((v : ℕ) → v < n → all_hold v row atoms ≡ true) → Answer atoms row
   tests_answer f a i =
-      let j = get_d_in a.vars 0 0 (q.tables a i).positive in
+      let j = get_or_in a.vars 0 0 (q.tables a i).positive in
       stored [] order refl (λ x m. f x (q.permutation.below x m)) a i j (follow_in order a.vars (q.follow a i) j)
 
   answer_tests : Answer atoms row → (v : ℕ) → v < n → all_hold v row atoms ≡ true
   answer_tests g v h =
-      let t = in_get_d 0 (cover q.permutation v h) in
+      let t = in_get_or 0 (cover q.permutation v h) in
       let o : order ≡ take t.0 order ++ v ∷ drop (suc t.0) order = split_at order t.0 0 t.1 ∙ ap (λ (x : ℕ). take t.0 order ++ x ∷ drop (suc t.0) order) t.2 in
       passing q (take t.0 order) v (drop (suc t.0) order) o row (λ a i c. key_of q (take t.0 order) v (drop (suc t.0) order) o a i c row row (λ x m. refl) (g a i))
 

@@ -10,7 +10,7 @@ use lib.Dec.{ltb}
 use borrow.Author.Tests.{lt-ltb, le-ltb}
 use Rattle.relation.specs.Order.{Row, pick}
 use Rattle.relation.specs.Rows.{cut}
-use Rattle.relation.proofs.Lists.{get_d_in}
+use Rattle.relation.proofs.Lists.{get_or_in}
 use Rattle.relation.proofs.Words.{length_cut}
 use Rattle.query.proofs.Listed.{listing_listing}
 use Rattle.join_query.specs.Query.{max_variables, order_of, atoms_of, join_number, Accepted}
@@ -77,7 +77,7 @@ module _ {pool : List ℕ} {ts : Tables} {q : Query} {len : ℕ} (z : Accepted p
         let i = f k h in
         right_good (order_of q) all lines k
         (record {
-          among = rw i.2 (get_d_in all k [] i.1);
+          among = rw i.2 (get_or_in all k [] i.1);
           after = λ j d. let p = f j (omega arith) in rw (p.2, i.2) (rise (order_of q) ordered j k (omega arith) i.1);
         })
 

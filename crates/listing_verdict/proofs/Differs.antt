@@ -9,7 +9,7 @@ use lib.ListN.{length, get_or}
 use Rattle.relation.specs.Order.{Row, pick}
 use Rattle.relation.specs.Lists.{◌∈◌, hd, tl, not_in_nil, in_cons, anone, amore}
 use Rattle.relation.specs.Rows.{same}
-use Rattle.relation.proofs.Lists.{in_get_d}
+use Rattle.relation.proofs.Lists.{in_get_or}
 use Rattle.relation.proofs.Order.{irrefl, asym}
 use Rattle.relation.proofs.Sorting.{same→eq, same_refl}
 use Rattle.relation.proofs.Tests.{T_true, true_T, not_both}
@@ -24,7 +24,7 @@ pub right_ascend : (order : List ℕ) (all rows : List Row) → AllRight order a
 right_ascend order all rows f = ascend order rows (λ i h. (f (suc i) h).after i refl)
 
 pub right_among : (order : List ℕ) (all rows : List Row) → AllRight order all rows → (r : Row) → r ∈ rows → r ∈ all
-right_among order all rows f r m = let t = in_get_d [] m in subst (λ (q : Row). q ∈ all) t.2 (f t.0 t.1).among
+right_among order all rows f r m = let t = in_get_or [] m in subst (λ (q : Row). q ∈ all) t.2 (f t.0 t.1).among
 
 -- the walk
 unfoldable pub differs : List Row → List Row → Verdict

@@ -11,7 +11,7 @@ use borrow.Author.Tests.{ltb-true, ltb-false, lt-ltb, le-ltb}
 use Rattle.relation.specs.Order.{Row, pick, before}
 use Rattle.relation.specs.Lists.{◌∈◌, hd, tl, not_in_nil, in_cons, anone, amore}
 use Rattle.relation.specs.Rows.{same}
-use Rattle.relation.proofs.Lists.{ascends_head, ascends_tail, get_d_in, in_get_d, same_members}
+use Rattle.relation.proofs.Lists.{ascends_head, ascends_tail, get_or_in, in_get_or, same_members}
 use Rattle.relation.proofs.Order.{≺→before, before→≺, irrefl, trans, asym}
 use Rattle.relation.proofs.Tests.{T_true, true_T, and_true, and_left, and_right, not_both}
 use Rattle.query.specs.Meaning.{part}
@@ -34,7 +34,7 @@ ascend order (r ∷ (s ∷ rows)) f =
 pub rise : (order : List ℕ) {rows : List Row} → InOrder order rows → (i j : ℕ) → i < j → j < length rows → Earlier order (get_or rows i []) (get_or rows j [])
 rise order anone i j h k = absurd (omega arith)
 rise order (amore f s) zero zero h k = absurd (omega arith)
-rise order (amore {rs = rows} f s) zero (suc j) h k = f (get_or rows j []) (get_d_in rows j [] (omega arith))
+rise order (amore {rs = rows} f s) zero (suc j) h k = f (get_or rows j []) (get_or_in rows j [] (omega arith))
 rise order (amore f s) (suc i) zero h k = absurd (omega arith)
 rise order (amore f s) (suc i) (suc j) h k = rise order s i j (omega arith) (omega arith)
 

@@ -9,7 +9,7 @@ use lib.Seq.{slice, take-take, drop-drop}
 use Rattle.relation.specs.Order.{Row}
 use Rattle.relation.specs.Lists.{◌∈◌, hd}
 use Rattle.relation.specs.Layers.{keys_under}
-use Rattle.relation.proofs.Lists.{get_d_in, in_get_d}
+use Rattle.relation.proofs.Lists.{get_or_in, in_get_or}
 use Rattle.relation.proofs.Intervals.{prefix_root, root_there}
 use Rattle.relation.proofs.Tests.{not_both}
 use Rattle.query.proofs.Beyond.{in_keys}
@@ -72,13 +72,13 @@ module _ {pool : List ℕ} {t : ColumnTrie} {rows : List Row} (H : Layered pool 
 
   first_hit : k ∈ keys_under [] rows → sought.hit ≡ true
   first_hit i =
-      let p = in_get_d 0 (subst (λ (ks : List ℕ). k ∈ ks) (sym keys) i) in
+      let p = in_get_or 0 (subst (λ (ks : List ℕ). k ∈ ks) (sym keys) i) in
       a_key_is_hit Binary (layer_in pool t 0).keys k rises (record { place = p.0; inside = p.1; there = p.2 })
 
   hit_owns : sought.hit ≡ true → owns rows k ≡ true
   hit_owns e =
       let p = hit_first e in
-      let q = key_first {s = rows} {m = rows} H.width H.width H.width some (subst (λ (x : ℕ). x ∈ keys_under [] rows) p.1 (get_d_in (keys_under [] rows) sought.offset 0 p.0)) in
+      let q = key_first {s = rows} {m = rows} H.width H.width H.width some (subst (λ (x : ℕ). x ∈ keys_under [] rows) p.1 (get_or_in (keys_under [] rows) sought.offset 0 p.0)) in
       subst (λ (x : ℕ). owns rows x ≡ true) q.2 (row_owns q.1)
 
   owned_hit : owns rows k ≡ true → sought.hit ≡ true

@@ -10,7 +10,7 @@ use lib.Seq.{ext_get_or}
 use Rattle.relation.specs.Order.{Row}
 use Rattle.relation.specs.Lists.{◌∈◌}
 use Rattle.relation.specs.Exactly.{Exactly}
-use Rattle.relation.proofs.Lists.{get_d_in}
+use Rattle.relation.proofs.Lists.{get_or_in}
 use Rattle.relation.proofs.Sequence.{exactly_then}
 use Rattle.query.specs.Meaning as meaning
 use Rattle.query.specs.Meaning.{part, Permutation}
@@ -34,7 +34,7 @@ part_part cs xs v inside =
     let l : k < length cs = omega (arith, h, many) in
     part_word (part cs xs) v k (omega (arith, l, length-map cs (λ (x : ℕ). get_or xs x 0)))
     ∙ ap (λ (x : ℕ). get_or v x 0) (part_word cs xs k l)
-    ∙ sym (part_word cs (part xs v) k l ∙ part_word xs v (get_or cs k 0) (inside (get_or cs k 0) (get_d_in cs k 0 l))))
+    ∙ sym (part_word cs (part xs v) k l ∙ part_word xs v (get_or cs k 0) (inside (get_or cs k 0) (get_or_in cs k 0 l))))
   where
     many : length (part (part cs xs) v) ≡ length cs
     many = length-map (part cs xs) (λ (x : ℕ). get_or v x 0) ∙ length-map cs (λ (x : ℕ). get_or xs x 0)

@@ -11,7 +11,7 @@ use lib.Seq.{take_all}
 use Rattle.relation.specs.Order.{Row}
 use Rattle.relation.specs.Lists.{◌∈◌}
 use Rattle.relation.specs.Rows.{Members, flat}
-use Rattle.relation.proofs.Lists.{in_get_d, get_d_in}
+use Rattle.relation.proofs.Lists.{in_get_or, get_or_in}
 use Rattle.query.specs.Meaning as meaning
 use Rattle.query.specs.Meaning.{part, Answer, Listing}
 use Rattle.query.specs.Descend.{nobody}
@@ -30,12 +30,12 @@ use Rattle.orders.proofs.Alike.{Allows, alike_allows}
 module _ {pool : List ℕ} {ts : Tables} {q : Query} {len : ℕ} (a : Accepted pool ts q len) where
   atom_of_lem : (x : meaning.Atom) → x ∈ atoms_of pool ts q → (i : ℕ) × (i < q.atom_count) × (atom_of pool ts (atom_at q i) ≡ x)
   atom_of_lem x m =
-      let t = in_get_d nobody m in
+      let t = in_get_or nobody m in
       let h : t.0 < q.atom_count = omega (arith, t.1, atoms_length a) in
       (t.0, h, sym (atoms_at a t.0 h) ∙ t.2)
 
   atom_in : (i : ℕ) → i < q.atom_count → atom_of pool ts (atom_at q i) ∈ atoms_of pool ts q
-  atom_in i h = subst (λ (x : meaning.Atom). x ∈ atoms_of pool ts q) (atoms_at a i h) (get_d_in (atoms_of pool ts q) i nobody (omega (arith, h, atoms_length a)))
+  atom_in i h = subst (λ (x : meaning.Atom). x ∈ atoms_of pool ts q) (atoms_at a i h) (get_or_in (atoms_of pool ts q) i nobody (omega (arith, h, atoms_length a)))
 
 -- each atom of the second query is one of the first
 answers_go_over : {pool : List ℕ} {ts : Tables} {q : Query} {len : ℕ} {pool' : List ℕ} {ts' : Tables} {q' : Query} {len' : ℕ} → Accepted pool ts q len → Accepted pool' ts' q' len' → ((v : Row) (j : ℕ) → j < q'.atom_count → (i : ℕ) × (i < q.atom_count) × (Allows (sited pool ts q i) v → Allows (sited pool' ts' q' j) v)) → (v : Row) → Answer (atoms_of pool ts q) v → Answer (atoms_of pool' ts' q') v

@@ -15,7 +15,7 @@ use Rattle.relation.specs.Runs.{from}
 use Rattle.relation.specs.Layers.{prefixes, keys_under}
 use Rattle.relation.proofs.Runs.{from_drop}
 use Rattle.relation.proofs.Intervals.{prefix_length}
-use Rattle.relation.proofs.Lists.{in_get_d}
+use Rattle.relation.proofs.Lists.{in_get_or}
 use Rattle.relation.proofs.Relations.{length_prefixes}
 use Rattle.query.proofs.Beyond.{keys_ascend}
 use Rattle.column_trie.specs.Table.{data_len_at}
@@ -101,7 +101,7 @@ module _ {pool : List ℕ} {t : ColumnTrie} {rows : List Row} (H : Layered pool 
       go [] e = e
       go (q ∷ qs) e =
           let i = first_key {s = rows} {m = rows} H.width H.width H.width some {q = q} (subst (λ (rs : List Row). q ∈ rs) (sym e) (hd refl)) in
-          let o = in_get_d 0 i in
+          let o = in_get_or 0 i in
           absurd (omega (arith, z, o.1, keys_long pool (layer_fits (header_told (length pool) t H.sound) some), ap length (first_keys H some)))
 
   -- the first keys cut at k, where what is passed is below k and what is left is not

@@ -14,7 +14,7 @@ use Rattle.relation.specs.Order.{Row, pick}
 use Rattle.relation.specs.Lists.{◌∈◌, Ascends, nonempty}
 use Rattle.relation.specs.Runs.{from}
 use Rattle.relation.specs.Layers.{keys_under}
-use Rattle.relation.proofs.Lists.{ascends_head, ascends_tail, get_d_in}
+use Rattle.relation.proofs.Lists.{ascends_head, ascends_tail, get_or_in}
 use Rattle.relation.proofs.Runs.{from_in}
 use Rattle.query.proofs.Beyond.{keys_ascend}
 use Rattle.seek.specs.declared.SeekStrategy.{SeekStrategy}
@@ -106,7 +106,7 @@ module _ {pool : List ℕ} {t : ColumnTrie} {rows : List Row} (H : Layered pool 
           let c = before_stands b (omega arith) in
           let i : key_of pool t (cursor it.depth it.interval_i o) ≡ key_in (x ∷ from n (keys_under [] rows)) = key_is H (at_level (at_the_root e) c) in
           let up = subst (Ascends ◌<◌) c.rest (ascends_drop o (keys_ascend [] H.width b.deep)) in
-          let f : x < n = below x (get_d_in (keys_under [] rows) o 0 (omega (arith, b.inside))) up (dec_lt x n) in
+          let f : x < n = below x (get_or_in (keys_under [] rows) o 0 (omega (arith, b.inside))) up (dec_lt x n) in
           sym (passed_some pool t it k z) ∙ ap (λ (y : KeyAnswer). ltb y.key k) i ∙ lt-ltb x k (omega arith)
         where
           below : (x : ℕ) → x ∈ keys_under [] rows → Ascends ◌<◌ (x ∷ from n (keys_under [] rows)) → Dec (x < n) → x < n

@@ -11,7 +11,7 @@ use borrow.Author.Tests.{eqb-true, eq-eqb}
 use Rattle.relation.specs.Order.{Row, pick}
 use Rattle.relation.specs.Lists.{◌∈◌}
 use Rattle.relation.specs.Layers.{Layer, prefixes, keys_under, layer_at}
-use Rattle.relation.proofs.Lists.{get_d_in, in_get_d}
+use Rattle.relation.proofs.Lists.{get_or_in, in_get_or}
 use Rattle.relation.proofs.Tests.{and_left, and_right}
 use Rattle.relation.proofs.Layers.{prefix_of, parent_in, prefixes_width}
 use Rattle.relation.proofs.Relations.{snoc_form}
@@ -38,19 +38,19 @@ module _ {pool : List ℕ} {t : ColumnTrie} {rows : List Row} (H : Layered pool 
 
   -- each beginning of d words is the way to one
   reach : (d n : ℕ) → d ≤ t.arity → n < length (prefixes d rows) → Place d (get_or (prefixes d rows) n [])
-  reach zero n l h = record { above = root; parent = at_root; at = at_the_root refl; deep = refl; keys = sym (prefix_of 0 rows (get_d_in (prefixes 0 rows) n [] h)).2 }
+  reach zero n l h = record { above = root; parent = at_root; at = at_the_root refl; deep = refl; keys = sym (prefix_of 0 rows (get_or_in (prefixes 0 rows) n [] h)).2 }
   reach (suc d) n l h =
       let q = get_or (prefixes (suc d) rows) n [] in
-      let i = get_d_in (prefixes (suc d) rows) n [] h in
+      let i = get_or_in (prefixes (suc d) rows) n [] h in
       let long : length q ≡ suc d = prefixes_width (suc d) H.width l q i in
-      let o = in_get_d [] (parent_in d rows i) in
+      let o = in_get_or [] (parent_in d rows i) in
       let p = reach d o.0 (omega arith) o.1 in
       let pq : path p.above ≡ take d q = p.keys ∙ o.2 in
       let f : q ≡ take d q ++ (get_or q d 0 ∷ []) = snoc_form d q long in
       let tl : length (take d q) ≡ d = omega (arith, length-take d q) in
       let k : get_or q d 0 ∈ keys_under (take d q) rows =
       (key_under (take d q) (get_or q d 0) H.width (omega arith)).1 (subst (λ (x : ℕ). (take d q ++ (get_or q d 0 ∷ [])) ∈ prefixes (suc x) rows) (sym tl) (subst (λ (x : Row). x ∈ prefixes (suc d) rows) f i)) in
-      let g = in_get_d 0 (subst (λ (x : Row). get_or q d 0 ∈ keys_under x rows) (sym pq) k) in
+      let g = in_get_or 0 (subst (λ (x : Row). get_or q d 0 ∈ keys_under x rows) (sym pq) k) in
       let ks = keys_under (path p.above) rows in
       record {
         above = level (get_or q d 0 ∷ drop (suc g.0) ks) p.above;

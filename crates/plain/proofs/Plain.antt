@@ -15,7 +15,7 @@ use borrow.Author.Tests.{eqb-true, eq-eqb}
 use Rattle.relation.specs.Order.{Row, pick, ◌≺◌, word≺, rest≺}
 use Rattle.relation.specs.Lists.{◌∈◌, hd, tl, not_in_nil, in_cons, Ascends, anone, amore}
 use Rattle.relation.specs.Layers.{keys_under}
-use Rattle.relation.proofs.Lists.{get_d_in, in_get_d, ascends_append}
+use Rattle.relation.proofs.Lists.{get_or_in, in_get_or, ascends_append}
 use Rattle.relation.proofs.Tests.{every_at, every_all}
 use Rattle.query.specs.Meaning.{Atom, part, Answer, Distinct, follows, Listing, Passes}
 use Rattle.query.specs.Descend.{nobody}
@@ -161,13 +161,13 @@ module _ {n : ℕ} {order : List ℕ} {atoms : List Atom} (q : Passes n order at
     tested : (row : Row) → all_hold v row atoms ≡ true → (a : Atom) → a ∈ atoms → suc (column v a.vars) ≡ length a.vars → get_or row v 0 ∈ keys_at v row a
     unfolding all_hold holds
     tested row e a i l =
-        let t = in_get_d nobody i in
+        let t = in_get_or nobody i in
         let h : holds v row a ≡ true = subst (λ (b : Atom). holds v row b ≡ true) t.2 (every_at (λ (j : ℕ). holds v row (get_or atoms j nobody)) (length atoms) e t.0 t.1) in
         has_in (keys_at v row a) (get_or row v 0) (sym (ap (λ (b : Bool). pick b (has (keys_at v row a) (get_or row v 0)) true) (eq-eqb (suc (column v a.vars)) (length a.vars) l)) ∙ h)
 
     pub passing : (row : Row) → ((a : Atom) → a ∈ atoms → column v a.vars < length a.vars → get_or row v 0 ∈ keys_at v row a) → all_hold v row atoms ≡ true
     unfolding all_hold holds
-    passing row f = every_all (λ (j : ℕ). holds v row (get_or atoms j nobody)) (length atoms) (λ j h. one (get_or atoms j nobody) (get_d_in atoms j nobody h))
+    passing row f = every_all (λ (j : ℕ). holds v row (get_or atoms j nobody)) (length atoms) (λ j h. one (get_or atoms j nobody) (get_or_in atoms j nobody h))
       where
         one : (a : Atom) → a ∈ atoms → holds v row a ≡ true
         one a i = go (eqb (suc (column v a.vars)) (length a.vars)) refl
@@ -197,7 +197,7 @@ module _ {n : ℕ} {order : List ℕ} {atoms : List Atom} (q : Passes n order at
 
     -- the atom whose keys are tried
     chosen : (get_or atoms (holder v atoms) nobody ∈ atoms) × (column v (get_or atoms (holder v atoms) nobody).vars < length (get_or atoms (holder v atoms) nobody).vars)
-    chosen = let t = q.covered v next.0 in let h = holder_in v atoms t.1 t.2 in (get_d_in atoms (holder v atoms) nobody h.0, h.1)
+    chosen = let t = q.covered v next.0 in let h = holder_in v atoms t.1 t.2 in (get_or_in atoms (holder v atoms) nobody h.0, h.1)
 
     pub tried_ascend : (row : Row) → Ascends ◌<◌ (tried v row atoms)
     unfolding tried
@@ -274,7 +274,7 @@ module _ {n : ℕ} {order : List ℕ} {atoms : List Atom} (q : Passes n order at
     wide = λ v m. (keeps n atoms order row h m).0;
     sound = λ v m a i.
         let x = get_or a.vars 0 0 in
-        let j = get_d_in a.vars 0 0 (q.tables a i).positive in
+        let j = get_or_in a.vars 0 0 (q.tables a i).positive in
         sound [] order refl row h m a i j (in_order a i j);
     complete = λ v e f. complete [] order refl row h v e (λ x m. absurd (not_in_nil m)) f;
     ascending = ascends [] order refl row h;

@@ -14,7 +14,7 @@ use Rattle.relation.specs.Order.{Row, pick}
 use Rattle.relation.specs.Lists.{Ascends}
 use Rattle.relation.specs.Layers.{keys_under}
 use Rattle.relation.specs.Runs.{from}
-use Rattle.relation.proofs.Lists.{get_d_in}
+use Rattle.relation.proofs.Lists.{get_or_in}
 use Rattle.query.specs.Meaning.{part}
 use Rattle.query.specs.Meet.{has}
 use Rattle.query.proofs.Beyond.{keys_ascend}
@@ -84,7 +84,7 @@ module _ {pool : List ℕ} {ts : Tables} {q : Query} {len : ℕ} (z : Accepted p
       where
         go : Dec (j < length (vars_of (atom_at q i))) → var_at (atom_at q i) j < max_variables
         go (yes l) =
-            let m = get_d_in (vars_of (atom_at q i)) j 0 l in
+            let m = get_or_in (vars_of (atom_at q i)) j 0 l in
             let o = follow_in (order_of q) (vars_of (atom_at q i)) (lists z i h).follow m in
             omega (arith, get_or-take (atom_at q i).len (atom_at q i).variables j 0 k, (sized z).permutation.below (get_or (vars_of (atom_at q i)) j 0) o, (sized z).few)
         go (no n) =

@@ -12,7 +12,7 @@ use Rattle.relation.specs.Order.{Row, pick}
 use Rattle.relation.specs.Lists.{◌∈◌, hd, not_in_nil, Ascends}
 use Rattle.relation.specs.Rows.{Width}
 use Rattle.relation.specs.Runs.{from}
-use Rattle.relation.proofs.Lists.{get_d_in}
+use Rattle.relation.proofs.Lists.{get_or_in}
 use Rattle.relation.proofs.Runs.{in_from, from_ascends, from_least}
 use Rattle.query.specs.Meaning as meaning
 use Rattle.query.specs.Window.{Progress, emit, emits}
@@ -91,7 +91,7 @@ module _ {pool : List ℕ} {ts : Tables} {q : Query} {len : ℕ} (z : Accepted p
   variable_is = get_or-take q.n q.order depth 0 (omega arith)
 
   pub variable_below : get_or q.order (q.n - left) 0 < q.n
-  variable_below = rw (← variable_is) ((sized z).permutation.below (get_or (order_of q) depth 0) (get_d_in (order_of q) depth 0 inside))
+  variable_below = rw (← variable_is) ((sized z).permutation.below (get_or (order_of q) depth 0) (get_or_in (order_of q) depth 0 inside))
 
   behind : drop (suc depth) (order_of q) ≡ vs
   behind = ap (λ (n : ℕ). drop n (order_of q)) (let e : suc (q.n - left) ≡ q.n - (left - 1) = omega arith in e)

@@ -12,7 +12,7 @@ use Rattle.relation.specs.Order.{Row}
 use Rattle.relation.specs.Lists.{Ascends, anone, amore}
 use Rattle.relation.specs.Rows.{Width}
 use Rattle.relation.specs.Layers.{Layer, prefixes, keys_under, layer_at}
-use Rattle.relation.proofs.Lists.{get_d_any, get_d_in}
+use Rattle.relation.proofs.Lists.{get_or_any, get_or_in}
 use Rattle.relation.proofs.Relations.{length_prefixes}
 use Rattle.relation.proofs.Tables.{ranked_at_lem}
 use Rattle.relation.proofs.Intervals.{intervals_many, keys_many, group_under, group_end, group_rises, group_child, prefix_root, root_there}
@@ -33,7 +33,7 @@ use Rattle.plain_keys.specs.Keys.{Rising}
 ascends_at : {l : List ℕ} → Ascends ◌<◌ l → (i j : ℕ) → i < j → j < length l → get_or l i 0 < get_or l j 0
 ascends_at anone i j h k = absurd (omega arith)
 ascends_at (amore f s) i zero h k = absurd (omega arith)
-ascends_at (amore {r = x} {rs = xs} f s) zero (suc j) h k = f (get_or xs j 0) (get_d_in xs j 0 (omega arith))
+ascends_at (amore {r = x} {rs = xs} f s) zero (suc j) h k = f (get_or xs j 0) (get_or_in xs j 0 (omega arith))
 ascends_at (amore f s) (suc i) (suc j) h k = ascends_at s i j (omega arith) (omega arith)
 
 pub slice_at : (keys : List ℕ) (from to i : ℕ) → from ≤ i → i < to → get_or (slice from to keys) (i - from) 0 ≡ get_or keys i 0
@@ -65,7 +65,7 @@ pub record At (pool : List ℕ) (t : ColumnTrie) (d i : ℕ) (p : Row) : Type 0 
   pub inside : 0 < length (rows_in pool t) → i < length (prefixes d (rows_in pool t))
 
 pub at_the_root : (pool : List ℕ) (t : ColumnTrie) → At pool t 0 0 []
-at_the_root pool t = record { long = refl; under = λ h. prefix_root (rows_in pool t); inside = λ h. root_there (get_d_in (rows_in pool t) 0 [] h) }
+at_the_root pool t = record { long = refl; under = λ h. prefix_root (rows_in pool t); inside = λ h. root_there (get_or_in (rows_in pool t) 0 [] h) }
 
 -- the keys of layer d, and the group of interval i among them, as the code finds them
 pub record Ends (pool : List ℕ) (t : ColumnTrie) (d i : ℕ) (keys : List ℕ) (from to : ℕ) : Type 0 where
@@ -95,7 +95,7 @@ module _ {pool : List ℕ} {t : ColumnTrie} (o : Whole t) (u : Undamaged pool t)
 
     module _ (i : ℕ) (k : i < length (prefixes d rows)) where
       starts : get_or (layer_in pool t d).intervals i (data_len_at t d) ≡ get_or lay.intervals i 0
-      starts = ap (λ (l : Layer). get_or l.intervals i (data_len_at t d)) here ∙ get_d_any lay.intervals i (data_len_at t d) 0 (omega (arith, intervals_many wide d b))
+      starts = ap (λ (l : Layer). get_or l.intervals i (data_len_at t d)) here ∙ get_or_any lay.intervals i (data_len_at t d) 0 (omega (arith, intervals_many wide d b))
 
       stops : get_or (layer_in pool t d).intervals (i + 1) (data_len_at t d) ≡ get_or lay.intervals (suc i) (length lay.keys)
       stops = ap (λ (l : Layer). get_or l.intervals (i + 1) (data_len_at t d)) here ∙ ap (λ (n : ℕ). get_or lay.intervals n (data_len_at t d)) (add-one i) ∙ ap (get_or lay.intervals (suc i)) many

@@ -18,7 +18,7 @@ use Rattle.relation.specs.Lists.{◌∈◌, hd, tl, not_in_nil, in_cons, anone, 
 use Rattle.query.specs.Meaning.{Atom, Distinct, Permutation, follows, Table, Passes}
 use Rattle.query.specs.Meet.{has}
 use Rattle.query.specs.Checks.{every, some, single, permutes, listed, covers}
-use Rattle.query.proofs.Meet.{has_in, in_has, get_d_in, in_get_d}
+use Rattle.query.proofs.Meet.{has_in, in_has, get_or_in, in_get_or}
 use Rattle.query.proofs.Solved.{follow_in}
 
 -- ---- tests together
@@ -111,13 +111,13 @@ permutes_false n order = refuted (permutes n order) (permutes_true n order)
 pub distinct_at : {l : List ℕ} → Distinct l → (i j : ℕ) → i < j → j < length l → get_or l i 0 ≡ get_or l j 0 → ⊥
 distinct_at anone i j h g e = omega arith
 distinct_at (amore {r = x} {rs = l} f s) i zero h g e = omega arith
-distinct_at (amore {r = x} {rs = l} f s) zero (suc j) h g e = f (get_or l j 0) (get_d_in l j 0 (le_of_suc-le-suc g)) e
+distinct_at (amore {r = x} {rs = l} f s) zero (suc j) h g e = f (get_or l j 0) (get_or_in l j 0 (le_of_suc-le-suc g)) e
 distinct_at (amore {r = x} {rs = l} f s) (suc i) (suc j) h g e = distinct_at s i j (omega arith) (le_of_suc-le-suc g) e
 
 pub at_distinct : (l : List ℕ) → ((i j : ℕ) → i < j → j < length l → get_or l i 0 ≡ get_or l j 0 → ⊥) → Distinct l
 at_distinct [] f = anone
 at_distinct (x ∷ l) f =
-    amore {rs = l} (λ y m e. let t = in_get_d 0 m in f 0 (suc t.0) (omega arith) (omega (arith, t.1)) (e ∙ sym t.2))
+    amore {rs = l} (λ y m e. let t = in_get_or 0 m in f 0 (suc t.0) (omega arith) (omega (arith, t.1)) (e ∙ sym t.2))
     (at_distinct l (λ i j h g. f (suc i) (suc j) (omega arith) (omega arith)))
 
 -- ---- 10

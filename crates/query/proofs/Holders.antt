@@ -14,7 +14,7 @@ use Rattle.relation.proofs.Lists.{ascends_map}
 use Rattle.query.specs.Meaning.{Atom}
 use Rattle.query.specs.Solve.{headed, runs}
 use Rattle.query.specs.Descend.{nobody, holders, Joinable}
-use Rattle.query.proofs.Meet.{in_get_d}
+use Rattle.query.proofs.Meet.{in_get_or}
 use Rattle.query.proofs.Solved.{takes_part}
 
 pub in_holders : (v : ℕ) (atoms : List Atom) {i : ℕ} → i ∈ holders v atoms → (i < length atoms) × (headed v (get_or atoms i nobody).vars ≡ true)
@@ -67,8 +67,8 @@ holders_few v (a ∷ l) = go (headed v a.vars) (holders_few v l)
 pub holders_some : (v : ℕ) (vs : List ℕ) (atoms : List Atom) → Joinable (v ∷ vs) atoms → 0 < length (holders v atoms)
 holders_some v vs atoms c =
     let t = takes_part v vs atoms c in
-    let i = in_get_d nobody t.1 in
-    omega (arith, (in_get_d 0 (holders_in v atoms i.0 i.1 (rw i.2 t.2))).1)
+    let i = in_get_or nobody t.1 in
+    omega (arith, (in_get_or 0 (holders_in v atoms i.0 i.1 (rw i.2 t.2))).1)
 
 -- the numbers found so far, and one atom more
 pub holders_snoc : (v : ℕ) (l : List Atom) (a : Atom) → holders v (l ++ a ∷ []) ≡ pick (headed v a.vars) (holders v l ++ length l ∷ []) (holders v l)

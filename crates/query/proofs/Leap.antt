@@ -15,7 +15,7 @@ use Rattle.relation.proofs.Lists.{ascends_head, ascends_tail}
 use Rattle.relation.specs.Runs.{from}
 use Rattle.relation.proofs.Runs.{from_in, in_from, from_ascends}
 use Rattle.query.specs.Meet.{meet, All, Runs, Agree, total}
-use Rattle.query.proofs.Meet.{get_d_in, meet_all, meet_to, meet_of, meet_asc, same_keys, none_left}
+use Rattle.query.proofs.Meet.{get_or_in, meet_all, meet_to, meet_of, meet_asc, same_keys, none_left}
 
 pub total_set : (rs : List (List ℕ)) (j : ℕ) (r : List ℕ) → j < length rs → total (set rs j r) + length (get_or rs j []) ≡ total rs + length r
 unfolding total
@@ -30,7 +30,7 @@ pub meet_nil : (rs : List (List ℕ)) → [] ∈ rs → meet rs ≡ []
 meet_nil rs i = none_left (meet rs) (λ k m. not_in_nil (meet_all rs m [] i))
 
 pub meet_none : (rs : List (List ℕ)) (j : ℕ) → j < length rs → get_or rs j [] ≡ [] → meet rs ≡ []
-meet_none rs j h e = meet_nil rs (rw e at (get_d_in rs j [] h))
+meet_none rs j h e = meet_nil rs (rw e at (get_or_in rs j [] h))
 
 -- a change of run j: what holds of the run there now, and of the others still
 at_set : (rs : List (List ℕ)) (j : ℕ) (r : List ℕ) (P : List ℕ → Type 0) → j < length rs → P r → ((i : ℕ) → i < length rs → (i ≡ j → ⊥) → P (get_or rs i [])) → (i : ℕ) → i < length rs → P (get_or (set rs j r) i [])

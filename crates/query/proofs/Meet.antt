@@ -13,7 +13,7 @@ use borrow.Author.Tests.{eqb-true, eq-eqb}
 use Rattle.relation.specs.Order.{pick}
 use Rattle.relation.specs.Lists.{◌∈◌, hd, tl, not_in_nil, in_cons, Ascends, anone, amore}
 use Rattle.relation.proofs.Lists.{same_members}
-pub use Rattle.relation.proofs.Lists.{get_d_in, in_get_d}
+pub use Rattle.relation.proofs.Lists.{get_or_in, in_get_or}
 use Rattle.query.specs.Meet.{has, in_all, keep, meet, Runs, All}
 
 pub has_in : (xs : List ℕ) (k : ℕ) → has xs k ≡ true → k ∈ xs
@@ -136,13 +136,13 @@ meet_map run xs ys a f g =
 
 -- what holds of each run by its index holds of each run
 by_index : (P : List ℕ → Type 0) (rs : List (List ℕ)) → ((i : ℕ) → i < length rs → P (get_or rs i [])) → (r : List ℕ) → r ∈ rs → P r
-by_index P rs f r m = let t = in_get_d [] m in subst P t.2 (f t.0 t.1)
+by_index P rs f r m = let t = in_get_or [] m in subst P t.2 (f t.0 t.1)
 
 pub meet_to : (rs : List (List ℕ)) {k : ℕ} → k ∈ meet rs → All rs k
-meet_to rs m i h = meet_all rs m (get_or rs i []) (get_d_in rs i [] h)
+meet_to rs m i h = meet_all rs m (get_or rs i []) (get_or_in rs i [] h)
 
 pub meet_of : (rs : List (List ℕ)) {k : ℕ} → 0 < length rs → All rs k → k ∈ meet rs
-meet_of rs {k} h f = all_meet rs (get_d_in rs 0 [] h) (by_index (λ (r : List ℕ). k ∈ r) rs f)
+meet_of rs {k} h f = all_meet rs (get_or_in rs 0 [] h) (by_index (λ (r : List ℕ). k ∈ r) rs f)
 
 pub meet_asc : (rs : List (List ℕ)) → Runs rs → Ascends ◌<◌ (meet rs)
 meet_asc rs f = meet_ascends rs (by_index (Ascends ◌<◌) rs f)

@@ -15,7 +15,7 @@ use Rattle.relation.specs.Layers.{prefixes, under, keys_under}
 use Rattle.query.specs.Meaning.{Atom, Table}
 use Rattle.query.specs.Solve.{standing, headed, bind, runs}
 use Rattle.query.specs.Descend.{standings, nobody, holders}
-use Rattle.query.proofs.Meet.{get_d_in}
+use Rattle.query.proofs.Meet.{get_or_in}
 use Rattle.query.proofs.Beyond.{beyond_none, beyond_append, keys_beyond}
 use Rattle.query.proofs.Holders.{in_holders, runs_holders}
 
@@ -106,7 +106,7 @@ standings_runs v f atoms t =
     let a = get_or atoms i nobody in
     let e = standings_at f atoms i h in
     ap (λ (b : Atom). keys_under [] b.rows) e ∙
-    standing_keys (f i) a (t a (get_d_in atoms i nobody h)).wide (short (f i) a (rw e at u.1)))
+    standing_keys (f i) a (t a (get_or_in atoms i nobody h)).wide (short (f i) a (rw e at u.1)))
   where
     map_cong : {g h : ℕ → List ℕ} (l : List ℕ) → ((i : ℕ) → i ∈ l → g i ≡ h i) → map g l ≡ map h l
     map_cong [] e = refl

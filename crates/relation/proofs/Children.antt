@@ -18,7 +18,7 @@ use Rattle.relation.proofs.Rank.{rank, rank_lt, rank_not, rank_le, rank_at, star
 use Rattle.relation.proofs.Layers.{keys_at, intervals_at, prefixes_asc, prefixes_width, length_keys, parent_in}
 use Rattle.relation.proofs.Paths.{word_snoc, word_snoc_inv, snoc_mono}
 use Rattle.relation.proofs.Relations.{snoc_form}
-use Rattle.relation.proofs.Lists.{get_d_in}
+use Rattle.relation.proofs.Lists.{get_or_in}
 
 -- in ascending rows, place j is before p's place exactly where its row is before p
 rank_index : {qs : List Row} → Asc qs → (p : Row) (j : ℕ) → j < length qs → (get_or qs j [] ≺ p → j < rank p qs) × (j < rank p qs → get_or qs j [] ≺ p)
@@ -28,15 +28,15 @@ rank_index (amore {r = q} {rs = qs} f s) p (suc j) h = go (rank_index s p j (ome
   where
     go : (get_or qs j [] ≺ p → j < rank p qs) × (j < rank p qs → get_or qs j [] ≺ p) → (q ≺ p) ⊎ (q ≺ p → ⊥) → (get_or qs j [] ≺ p → suc j < rank p (q ∷ qs)) × (suc j < rank p (q ∷ qs) → get_or qs j [] ≺ p)
     go ih (inl l) = (λ x. omega (arith, rank_lt p q qs l, ih.0 x), λ x. ih.1 (omega (arith, rank_lt p q qs l, x)))
-    go ih (inr n) = (λ x. absurd (n (trans (f (get_or qs j []) (get_d_in qs j [] (omega arith))) x)), λ x. absurd (omega (arith, rank_not p q qs n, x)))
+    go ih (inr n) = (λ x. absurd (n (trans (f (get_or qs j []) (get_or_in qs j [] (omega arith))) x)), λ x. absurd (omega (arith, rank_not p q qs n, x)))
 
 -- ascending, by places
-asc_get_d : {qs : List Row} → Asc qs → (i j : ℕ) → i < j → j < length qs → get_or qs i [] ≺ get_or qs j []
-asc_get_d anone i j l h = absurd (omega arith)
-asc_get_d (amore {rs = qs} f s) zero zero l h = absurd (omega arith)
-asc_get_d (amore {rs = qs} f s) zero (suc j) l h = f (get_or qs j []) (get_d_in qs j [] (omega arith))
-asc_get_d (amore f s) (suc i) zero l h = absurd (omega arith)
-asc_get_d (amore f s) (suc i) (suc j) l h = asc_get_d s i j (omega arith) (omega arith)
+asc_get_or : {qs : List Row} → Asc qs → (i j : ℕ) → i < j → j < length qs → get_or qs i [] ≺ get_or qs j []
+asc_get_or anone i j l h = absurd (omega arith)
+asc_get_or (amore {rs = qs} f s) zero zero l h = absurd (omega arith)
+asc_get_or (amore {rs = qs} f s) zero (suc j) l h = f (get_or qs j []) (get_or_in qs j [] (omega arith))
+asc_get_or (amore f s) (suc i) zero l h = absurd (omega arith)
+asc_get_or (amore f s) (suc i) (suc j) l h = asc_get_or s i j (omega arith) (omega arith)
 
 -- the row at place i has place i
 pub rank_of_lem : {qs : List Row} → Asc qs → (i : ℕ) → i < length qs → rank (get_or qs i []) qs ≡ i
@@ -48,7 +48,7 @@ rank_of_lem {qs} s i h = go (dec_lt i (rank (get_or qs i []) qs)) (dec_lt (rank 
     go : Dec (i < rank r qs) → Dec (rank r qs < i) → rank r qs ≡ i
     go (yes l) x = absurd (irrefl ((rank_index s r i h).1 l))
     go (no l) (no g) = omega arith
-    go (no l) (yes g) = absurd (omega (arith, (rank_index s r (rank r qs) (omega arith)).0 (asc_get_d s (rank r qs) i g h)))
+    go (no l) (yes g) = absurd (omega (arith, (rank_index s r (rank r qs) (omega arith)).0 (asc_get_or s (rank r qs) i g h)))
 
 -- the start of parent i, or the end
 start_at : (ps qs : List Row) (i z : ℕ) → i < length ps → get_or (starts_in ps qs) i z ≡ rank (get_or ps i []) qs
@@ -88,9 +88,9 @@ module _ (d : ℕ) (ps qs : List Row) (sp : Asc ps) (wp : Width d ps) (sq : Asc 
 
       go : Tri t p → t ≡ p
       go (eq e) = e
-      go (lt l) = absurd (omega (arith, lo, (rank_index sq p j k).0 (take_before d q p (omega (arith, wp p (get_d_in ps i [] h))) l)))
+      go (lt l) = absurd (omega (arith, lo, (rank_index sq p j k).0 (take_before d q p (omega (arith, wp p (get_or_in ps i [] h))) l)))
       go (gt g) =
-          let n = next_le sp i t h (par q (get_d_in qs j [] k)) g in
+          let n = next_le sp i t h (par q (get_or_in qs j [] k)) g in
           absurd (n.1 (beyond ((rank_index sq (get_or ps (suc i) []) j k).1 (omega (arith, hi, start_at ps qs (suc i) (length qs) n.0)))))
         where
           beyond : q ≺ get_or ps (suc i) [] → t ≺ get_or ps (suc i) []
@@ -115,7 +115,7 @@ module _ (d : ℕ) (ps qs : List Row) (sp : Asc ps) (wp : Width d ps) (sq : Asc 
             arith,
             start_at ps qs (suc i) (length qs) l,
             (rank_index sq (get_or ps (suc i) []) j k).0
-                (take_before d q (get_or ps (suc i) []) (omega (arith, wp (get_or ps (suc i) []) (get_d_in ps (suc i) [] l))) (subst (λ (z : Row). z ≺ get_or ps (suc i) []) (sym e) (asc_get_d sp i (suc i) (omega arith) l))),
+                (take_before d q (get_or ps (suc i) []) (omega (arith, wp (get_or ps (suc i) []) (get_or_in ps (suc i) [] l))) (subst (λ (z : Row). z ≺ get_or ps (suc i) []) (sym e) (asc_get_or sp i (suc i) (omega arith) l))),
           )
       high (no n) = omega (arith, k, start_end ps qs (suc i) (length qs) (omega arith))
 
@@ -129,7 +129,7 @@ module _ (d : ℕ) (ps qs : List Row) (sp : Asc ps) (wp : Width d ps) (sq : Asc 
   -- a row of the group is the parent's row and its key
   pub group_row : (i j : ℕ) → i < length ps → j < length qs → rank (get_or ps i []) qs ≤ j → j < get_or (starts_in ps qs) (suc i) (length qs) → get_or qs j [] ≡ get_or ps i [] ++ (get_or (get_or qs j []) d 0 ∷ [])
   group_row i j h k lo hi =
-      snoc_form d (get_or qs j []) (wq (get_or qs j []) (get_d_in qs j [] k)) ∙ ap (λ (z : Row). z ++ (get_or (get_or qs j []) d 0 ∷ [])) (group_in i j h k lo hi)
+      snoc_form d (get_or qs j []) (wq (get_or qs j []) (get_or_in qs j [] k)) ∙ ap (λ (z : Row). z ++ (get_or (get_or qs j []) d 0 ∷ [])) (group_in i j h k lo hi)
 
   -- the keys of a group ascend
   pub group_rises : (i j : ℕ) → i < length ps → rank (get_or ps i []) qs ≤ j → suc j < get_or (starts_in ps qs) (suc i) (length qs) → get_or (get_or qs j []) d 0 < get_or (get_or qs (suc j) []) d 0
@@ -137,13 +137,13 @@ module _ (d : ℕ) (ps qs : List Row) (sp : Asc ps) (wp : Width d ps) (sq : Asc 
       let k : suc j < length qs = omega (arith, hi, group_end i h) in
       let a = group_row i j h (omega arith) lo (omega arith) in
       let b = group_row i (suc j) h k (omega arith) hi in
-      word_snoc_inv (get_or ps i []) (subst (λ (z : Row). z ≺ (get_or ps i [] ++ (get_or (get_or qs (suc j) []) d 0 ∷ []))) a (subst (λ (z : Row). get_or qs j [] ≺ z) b (asc_get_d sq j (suc j) (omega arith) k)))
+      word_snoc_inv (get_or ps i []) (subst (λ (z : Row). z ≺ (get_or ps i [] ++ (get_or (get_or qs (suc j) []) d 0 ∷ []))) a (subst (λ (z : Row). get_or qs j [] ≺ z) b (asc_get_or sq j (suc j) (omega arith) k)))
 
   -- a word that a group holds: the longer row is stored, at that place
   pub found_place : (i j x : ℕ) → i < length ps → j < length qs → rank (get_or ps i []) qs ≤ j → j < get_or (starts_in ps qs) (suc i) (length qs) → get_or (get_or qs j []) d 0 ≡ x → ((get_or ps i [] ++ (x ∷ [])) ∈ qs) × (rank (get_or ps i [] ++ (x ∷ [])) qs ≡ j)
   found_place i j x h k lo hi e =
       let f : get_or qs j [] ≡ get_or ps i [] ++ (x ∷ []) = group_row i j h k lo hi ∙ ap (λ (z : ℕ). get_or ps i [] ++ (z ∷ [])) e in
-      (subst (λ (z : Row). z ∈ qs) f (get_d_in qs j [] k), ap (λ (z : Row). rank z qs) (sym f) ∙ rank_of_lem sq j k)
+      (subst (λ (z : Row). z ∈ qs) f (get_or_in qs j [] k), ap (λ (z : Row). rank z qs) (sym f) ∙ rank_of_lem sq j k)
 
   -- a word that it does not hold: between the smaller keys and the greater ones
   pub new_at : (i pos x : ℕ) → i < length ps → rank (get_or ps i []) qs ≤ pos → pos ≤ get_or (starts_in ps qs) (suc i) (length qs) → ((j : ℕ) → rank (get_or ps i []) qs ≤ j → j < pos → get_or (get_or qs j []) d 0 < x) → (pos < get_or (starts_in ps qs) (suc i) (length qs) → x < get_or (get_or qs pos []) d 0) → (((get_or ps i [] ++ (x ∷ [])) ∈ qs) → ⊥) × (rank (get_or ps i [] ++ (x ∷ [])) qs ≡ pos)
@@ -175,7 +175,7 @@ module _ (d : ℕ) (ps qs : List Row) (sp : Asc ps) (wp : Width d ps) (sq : Asc 
               over : Dec (suc i < length ps) → u ≺ get_or qs pos []
               over (no m) = absurd (omega (arith, n, start_end ps qs (suc i) (length qs) (omega arith)))
               over (yes m) =
-                  lt_le (snoc_mono x (asc_get_d sp i (suc i) (omega arith) m) (wp p (get_d_in ps i [] h) ∙ sym (wp (get_or ps (suc i) []) (get_d_in ps (suc i) [] m))))
+                  lt_le (snoc_mono x (asc_get_or sp i (suc i) (omega arith) m) (wp p (get_or_in ps i [] h) ∙ sym (wp (get_or ps (suc i) []) (get_or_in ps (suc i) [] m))))
                   (λ (l : get_or qs pos [] ≺ get_or ps (suc i) []). n (omega (arith, (rank_index sq (get_or ps (suc i) []) pos k).0 l, start_at ps qs (suc i) (length qs) m)))
 
       place : rank u qs ≡ pos
@@ -221,12 +221,12 @@ map_slice f (suc lo) (suc hi) (x ∷ l) = map_slice f lo hi l
 module _ (a d : ℕ) (rows : List Row) (w : Width a rows) (h : d < a) where
   pub key_at : (j : ℕ) → j < length (keys_at d rows) → get_or (keys_at d rows) j 0 ≡ get_or (get_or (prefixes (suc d) rows) j []) d 0
   unfolding keys_at
-  key_at j l = get_d_map_lt (λ (q : Row). get_or q d 0) (prefixes (suc d) rows) j 0 [] (omega (arith, length-map (prefixes (suc d) rows) (λ q. get_or q d 0)))
+  key_at j l = get_or_map_lt (λ (q : Row). get_or q d 0) (prefixes (suc d) rows) j 0 [] (omega (arith, length-map (prefixes (suc d) rows) (λ q. get_or q d 0)))
     where
-      get_d_map_lt : (f : Row → ℕ) (l : List Row) (j x : ℕ) (z : Row) → j < length l → get_or (map f l) j x ≡ f (get_or l j z)
-      get_d_map_lt f [] j x z k = absurd (omega arith)
-      get_d_map_lt f (q ∷ qs) zero x z k = refl
-      get_d_map_lt f (q ∷ qs) (suc j) x z k = get_d_map_lt f qs j x z (omega arith)
+      get_or_map_lt : (f : Row → ℕ) (l : List Row) (j x : ℕ) (z : Row) → j < length l → get_or (map f l) j x ≡ f (get_or l j z)
+      get_or_map_lt f [] j x z k = absurd (omega arith)
+      get_or_map_lt f (q ∷ qs) zero x z k = refl
+      get_or_map_lt f (q ∷ qs) (suc j) x z k = get_or_map_lt f qs j x z (omega arith)
 
   -- where parent i's keys start and end
   pub begin_is : (i : ℕ) → i < length (prefixes d rows) → get_or (intervals_at d rows) i 0 ≡ rank (get_or (prefixes d rows) i []) (prefixes (suc d) rows)
@@ -265,7 +265,7 @@ module _ (a d : ℕ) (rows : List Row) (w : Width a rows) (h : d < a) where
       hi = get_or (intervals_at d rows) (suc i) (length (keys_at d rows))
 
       wide : length p ≡ d
-      wide = prefixes_width d w (omega arith) p (get_d_in (prefixes d rows) i [] k)
+      wide = prefixes_width d w (omega arith) p (get_or_in (prefixes d rows) i [] k)
 
       whole : under p qs ≡ slice (rank p qs) hi qs
       whole =
@@ -292,7 +292,7 @@ in_under p (x ∷ xs) q = go (test (same p (take (length p) x))) (in_under p xs 
           λ m e. ⊎_elim (λ (f : q ≡ x). absurd (n (subst (λ (z : Row). T (same p z)) (sym (sym (ap (take (length p)) f) ∙ e)) (same_refl p)))) (λ (w : q ∈ xs). ih.1 w e) (in_cons m),
         )
 
-in_map : (f : Row → ℕ) {qs : List Row} {q : Row} → q ∈ qs → f q ∈ map f qs
+in_map : (f : Row → ℕ) {q : Row} {qs : List Row} → q ∈ qs → f q ∈ map f qs
 in_map f (hd e) = hd (ap f e)
 in_map f (tl m) = tl (in_map f m)
 

@@ -10,7 +10,7 @@ use Rattle.relation.specs.Order.{Row}
 use Rattle.relation.specs.Layers.{prefixes, starts, keys_under, joined, groups_at}
 use Rattle.relation.specs.Rows.{Width}
 use Rattle.relation.specs.Undamaged.{Ordered}
-use Rattle.relation.proofs.Lists.{get_d_any}
+use Rattle.relation.proofs.Lists.{get_or_any}
 use Rattle.relation.proofs.Layers.{keys_at, intervals_at, length_intervals}
 use Rattle.relation.proofs.Walks.{sound_ordered, sound_empty}
 use Rattle.relation.proofs.Relations.{between_prefixes}
@@ -61,10 +61,10 @@ whole (s ∷ ss) ks f z n =
     let e : s ≡ 0 = z (omega arith) in
     (joined_pieces s ss ks f ∙ ap (λ (k : ℕ). drop k ks) e, ap (λ (k : ℕ). starts k (pieces (s ∷ ss) ks)) (sym e) ∙ starts_pieces s ss ks f)
 
-get_d_map_lt : (f : Row → List ℕ) (l : List Row) (j : ℕ) → j < length l → get_or (map f l) j [] ≡ f (get_or l j [])
-get_d_map_lt f [] j k = absurd (omega arith)
-get_d_map_lt f (q ∷ qs) zero k = refl
-get_d_map_lt f (q ∷ qs) (suc j) k = get_d_map_lt f qs j (omega arith)
+get_or_map_lt : (f : Row → List ℕ) (l : List Row) (j : ℕ) → j < length l → get_or (map f l) j [] ≡ f (get_or l j [])
+get_or_map_lt f [] j k = absurd (omega arith)
+get_or_map_lt f (q ∷ qs) zero k = refl
+get_or_map_lt f (q ∷ qs) (suc j) k = get_or_map_lt f qs j (omega arith)
 
 -- a group has a key
 pub begin_end : {a : ℕ} {rows : List Row} (d : ℕ) → Width a rows → d < a → (i : ℕ) → i < length (prefixes d rows) → get_or (intervals_at d rows) i 0 < get_or (intervals_at d rows) (suc i) (length (keys_at d rows))
@@ -74,7 +74,7 @@ begin_end {rows = rows} d w h i k = go (dec_lt (suc i) (length (intervals_at d r
     o = sound_ordered (between_prefixes d w h).0
 
     go : Dec (suc i < length (intervals_at d rows)) → get_or (intervals_at d rows) i 0 < get_or (intervals_at d rows) (suc i) (length (keys_at d rows))
-    go (yes l) = omega (arith, o.ascend i l, get_d_any (intervals_at d rows) (suc i) 0 (length (keys_at d rows)) l)
+    go (yes l) = omega (arith, o.ascend i l, get_or_any (intervals_at d rows) (suc i) 0 (length (keys_at d rows)) l)
     go (no n) = omega (arith, o.inside i (omega (arith, length_intervals d rows)), get_or-eq_default (intervals_at d rows) (length (keys_at d rows)) {n = suc i} (omega arith))
 
 pub layer_groups : {a : ℕ} {rows : List Row} (d : ℕ) → Width a rows → d < a → (keys_at d rows ≡ joined (groups_at d rows)) × (intervals_at d rows ≡ starts 0 (groups_at d rows))
@@ -110,4 +110,4 @@ layer_groups {a} {rows} d w h =
         (length_pieces ints keys ∙ length_intervals d rows ∙ sym (length-map (prefixes d rows) (λ p. keys_under p rows)))
         (λ i k.
         let m : i < length (prefixes d rows) = omega (arith, k, length_pieces ints keys, length_intervals d rows) in
-        piece_at ints keys i (omega (arith, k, length_pieces ints keys)) ∙ group_keys a d rows w h i m ∙ sym (get_d_map_lt (λ p. keys_under p rows) (prefixes d rows) i m))
+        piece_at ints keys i (omega (arith, k, length_pieces ints keys)) ∙ group_keys a d rows w h i m ∙ sym (get_or_map_lt (λ p. keys_under p rows) (prefixes d rows) i m))

@@ -17,7 +17,7 @@ use Rattle.relation.proofs.Paths.{layer_from}
 use Rattle.relation.proofs.Children.{group_row, key_at, begin_is, end_is, end_le, group_keys}
 use Rattle.relation.proofs.Groups.{begin_end}
 use Rattle.relation.proofs.Tables.{ranked, ranked_at_lem}
-use Rattle.relation.proofs.Lists.{get_d_in}
+use Rattle.relation.proofs.Lists.{get_or_in}
 
 -- by ranks, and by groups
 pub layer_ranked : {a : ℕ} {rows : List Row} → Width a rows → (d : ℕ) → d < a → layer (layers_of a rows) d ≡ ranked_at d rows
@@ -27,7 +27,7 @@ pub layer_is : {a : ℕ} {rows : List Row} → Width a rows → (d : ℕ) → d 
 layer_is w d h = layer_ranked w d h ∙ ranked_at_lem d w h
 
 pub prefix_length : {a : ℕ} {rows : List Row} → Width a rows → (d i : ℕ) → d ≤ a → i < length (prefixes d rows) → length (get_or (prefixes d rows) i []) ≡ d
-prefix_length {rows = rows} w d i h l = prefixes_width d w h (get_or (prefixes d rows) i []) (get_d_in (prefixes d rows) i [] l)
+prefix_length {rows = rows} w d i h l = prefixes_width d w h (get_or (prefixes d rows) i []) (get_or_in (prefixes d rows) i [] l)
 
 -- where the group of interval i starts and ends
 abbrev begin : Layer → ℕ → ℕ
@@ -86,7 +86,7 @@ pub prefix_root : (rows : List Row) → get_or (prefixes 0 rows) 0 [] ≡ []
 prefix_root rows = go (dec_lt 0 (length (prefixes 0 rows)))
   where
     go : Dec (0 < length (prefixes 0 rows)) → get_or (prefixes 0 rows) 0 [] ≡ []
-    go (yes h) = (prefix_of 0 rows (get_d_in (prefixes 0 rows) 0 [] h)).2
+    go (yes h) = (prefix_of 0 rows (get_or_in (prefixes 0 rows) 0 [] h)).2
     go (no n) = get_or-eq_default (prefixes 0 rows) [] (omega arith)
 
 pub root_there : {rows : List Row} {r : Row} → r ∈ rows → 0 < length (prefixes 0 rows)

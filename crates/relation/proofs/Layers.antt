@@ -32,7 +32,7 @@ in_take d [] m = absurd (not_in_nil m)
 in_take d (r ∷ rs) (hd e) = (r, hd refl, e)
 in_take d (r ∷ rs) (tl m) = let w = in_take d rs m in (w.0, tl w.1, w.2)
 
-take_in : (d : ℕ) {rows : List Row} {q : Row} → q ∈ rows → take d q ∈ map (take d) rows
+take_in : (d : ℕ) {q : Row} {rows : List Row} → q ∈ rows → take d q ∈ map (take d) rows
 take_in d (hd e) = hd (ap (take d) e)
 take_in d (tl m) = tl (take_in d m)
 

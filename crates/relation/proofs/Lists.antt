@@ -51,18 +51,18 @@ module _ {A B : Type 0} {R : A → A → Type 0} {S : B → B → Type 0} (g : A
       amore (λ b m. let t = Memᴰ.of_map g xs m in subst (S (g x)) t.2 (f x t.0 (hd refl) (tl t.1) (p t.0 t.1))) (ascends_map (λ a b m m'. f a b (tl m) (tl m')) s)
 
 -- inside a list it is the same what stands for a place outside
-pub get_d_any : (l : List ℕ) (n x y : ℕ) → n < length l → get_or l n x ≡ get_or l n y
-get_d_any [] n x y h = absurd (omega arith)
-get_d_any (z ∷ l) zero x y h = refl
-get_d_any (z ∷ l) (suc n) x y h = get_d_any l n x y (omega arith)
+pub get_or_any : (l : List ℕ) (n x y : ℕ) → n < length l → get_or l n x ≡ get_or l n y
+get_or_any [] n x y h = absurd (omega arith)
+get_or_any (z ∷ l) zero x y h = refl
+get_or_any (z ∷ l) (suc n) x y h = get_or_any l n x y (omega arith)
 
 -- members by their places
 module _ {A : Type 0} where
-  pub get_d_in : (l : List A) (i : ℕ) (d : A) → i < length l → get_or l i d ∈ l
-  get_d_in [] i d h = absurd (omega arith)
-  get_d_in (x ∷ l) zero d h = hd refl
-  get_d_in (x ∷ l) (suc i) d h = tl (get_d_in l i d (le_of_suc-le-suc h))
+  pub get_or_in : (l : List A) (i : ℕ) (d : A) → i < length l → get_or l i d ∈ l
+  get_or_in [] i d h = absurd (omega arith)
+  get_or_in (x ∷ l) zero d h = hd refl
+  get_or_in (x ∷ l) (suc i) d h = tl (get_or_in l i d (le_of_suc-le-suc h))
 
-  pub in_get_d : {a : A} {l : List A} (d : A) → a ∈ l → (i : ℕ) × (i < length l) × (get_or l i d ≡ a)
-  in_get_d d (hd e) = (0, omega arith, sym e)
-  in_get_d d (tl m) = let t = in_get_d d m in (suc t.0, omega (arith, t.1), t.2)
+  pub in_get_or : {a : A} {l : List A} (d : A) → a ∈ l → (i : ℕ) × (i < length l) × (get_or l i d ≡ a)
+  in_get_or d (hd e) = (0, omega arith, sym e)
+  in_get_or d (tl m) = let t = in_get_or d m in (suc t.0, omega (arith, t.1), t.2)

@@ -204,22 +204,22 @@ length_ins (suc n) x [] = refl
 length_ins (suc n) x (y ∷ ys) = ap suc (length_ins n x ys)
 
 -- by places, for a loop that shifts words
-get_d_ins_lt {ℓ} : {A : Type ℓ} (n : ℕ) (x : A) (xs : List A) (j : ℕ) (z : A) → n ≤ length xs → j < n → get_or (ins n x xs) j z ≡ get_or xs j z
+get_or_ins_lt {ℓ} : {A : Type ℓ} (n : ℕ) (x : A) (xs : List A) (j : ℕ) (z : A) → n ≤ length xs → j < n → get_or (ins n x xs) j z ≡ get_or xs j z
 unfolding ins
-get_d_ins_lt zero x xs j z h k = absurd (omega arith)
-get_d_ins_lt (suc n) x [] j z h k = absurd (omega arith)
-get_d_ins_lt (suc n) x (y ∷ ys) zero z h k = refl
-get_d_ins_lt (suc n) x (y ∷ ys) (suc j) z h k = get_d_ins_lt n x ys j z (omega arith) (omega arith)
+get_or_ins_lt zero x xs j z h k = absurd (omega arith)
+get_or_ins_lt (suc n) x [] j z h k = absurd (omega arith)
+get_or_ins_lt (suc n) x (y ∷ ys) zero z h k = refl
+get_or_ins_lt (suc n) x (y ∷ ys) (suc j) z h k = get_or_ins_lt n x ys j z (omega arith) (omega arith)
 
-get_d_ins_at {ℓ} : {A : Type ℓ} (n : ℕ) (x : A) (xs : List A) (z : A) → n ≤ length xs → get_or (ins n x xs) n z ≡ x
+get_or_ins_at {ℓ} : {A : Type ℓ} (n : ℕ) (x : A) (xs : List A) (z : A) → n ≤ length xs → get_or (ins n x xs) n z ≡ x
 unfolding ins
-get_d_ins_at zero x xs z h = refl
-get_d_ins_at (suc n) x [] z h = absurd (omega arith)
-get_d_ins_at (suc n) x (y ∷ ys) z h = get_d_ins_at n x ys z (omega arith)
+get_or_ins_at zero x xs z h = refl
+get_or_ins_at (suc n) x [] z h = absurd (omega arith)
+get_or_ins_at (suc n) x (y ∷ ys) z h = get_or_ins_at n x ys z (omega arith)
 
-get_d_ins_gt {ℓ} : {A : Type ℓ} (n : ℕ) (x : A) (xs : List A) (j : ℕ) (z : A) → n ≤ length xs → n ≤ j → get_or (ins n x xs) (suc j) z ≡ get_or xs j z
+get_or_ins_gt {ℓ} : {A : Type ℓ} (n : ℕ) (x : A) (xs : List A) (j : ℕ) (z : A) → n ≤ length xs → n ≤ j → get_or (ins n x xs) (suc j) z ≡ get_or xs j z
 unfolding ins
-get_d_ins_gt zero x xs j z h k = refl
-get_d_ins_gt (suc n) x [] j z h k = absurd (omega arith)
-get_d_ins_gt (suc n) x (y ∷ ys) zero z h k = absurd (omega arith)
-get_d_ins_gt (suc n) x (y ∷ ys) (suc j) z h k = get_d_ins_gt n x ys j z (omega arith) (omega arith)
+get_or_ins_gt zero x xs j z h k = refl
+get_or_ins_gt (suc n) x [] j z h k = absurd (omega arith)
+get_or_ins_gt (suc n) x (y ∷ ys) zero z h k = absurd (omega arith)
+get_or_ins_gt (suc n) x (y ∷ ys) (suc j) z h k = get_or_ins_gt n x ys j z (omega arith) (omega arith)

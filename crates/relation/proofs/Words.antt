@@ -11,7 +11,7 @@ use Rattle.relation.specs.Lists.{◌∈◌, hd, tl, not_in_nil, anone, amore}
 use Rattle.relation.specs.Rows.{Sorted, Width, cut, flat}
 use Rattle.relation.proofs.Order.{irrefl, shared}
 use Rattle.relation.proofs.Layers.{keys_at, intervals_at, build_known, build_keys, build_first, build_new}
-use Rattle.relation.proofs.Lists.{get_d_in}
+use Rattle.relation.proofs.Lists.{get_or_in}
 
 pub length_cut : (n a : ℕ) (ws : List ℕ) → length (cut n a ws) ≡ n
 unfolding cut
@@ -51,12 +51,12 @@ flat_cut (suc n) a ws h =
     sym (take-add a (n * a) ws) ∙
     ap (λ (k : ℕ). take k ws) (let e : a + n * a ≡ suc n * a = omega (arith, suc-mul n a) in e)
 
-sorted_get_d : {rows : List Row} → Sorted rows → (i j : ℕ) → i ≤ j → j < length rows → get_or rows j [] ≺ get_or rows i [] → ⊥
-sorted_get_d anone i j h k l = omega arith
-sorted_get_d (amore f s) zero zero h k l = irrefl l
-sorted_get_d (amore {rs = rs} f s) zero (suc j) h k l = f (get_or rs j []) (get_d_in rs j [] (omega arith)) l
-sorted_get_d (amore f s) (suc i) zero h k l = omega arith
-sorted_get_d (amore f s) (suc i) (suc j) h k l = sorted_get_d s i j (omega arith) (omega arith) l
+sorted_get_or : {rows : List Row} → Sorted rows → (i j : ℕ) → i ≤ j → j < length rows → get_or rows j [] ≺ get_or rows i [] → ⊥
+sorted_get_or anone i j h k l = omega arith
+sorted_get_or (amore f s) zero zero h k l = irrefl l
+sorted_get_or (amore {rs = rs} f s) zero (suc j) h k l = f (get_or rs j []) (get_or_in rs j [] (omega arith)) l
+sorted_get_or (amore f s) (suc i) zero h k l = omega arith
+sorted_get_or (amore f s) (suc i) (suc j) h k l = sorted_get_or s i j (omega arith) (omega arith) l
 
 pub in_front : (rows : List Row) (n : ℕ) (q : Row) → q ∈ take n rows → (i : ℕ) × (i < n) × (i < length rows) × (q ≡ get_or rows i [])
 in_front rows zero q m = absurd (not_in_nil m)
@@ -73,22 +73,22 @@ front_in (r ∷ rs) (suc n) (suc i) h k = tl (front_in rs n i (omega arith) (ome
 -- the build's turn at row i + 1 of a sorted list, duplicates kept: what each layer gains
 module _ (a : ℕ) (rows : List Row) (w : Width a rows) (s : Sorted rows) (i : ℕ) (h : suc i < length rows) where
   wd : Width a (take (suc i) rows)
-  wd q m = let v = in_front rows (suc i) q m in ap length v.3 ∙ w (get_or rows v.0 []) (get_d_in rows v.0 [] v.2)
+  wd q m = let v = in_front rows (suc i) q m in ap length v.3 ∙ w (get_or rows v.0 []) (get_or_in rows v.0 [] v.2)
 
   top : (q : Row) → q ∈ take (suc i) rows → get_or rows i [] ≺ q → ⊥
-  top q m x = let v = in_front rows (suc i) q m in sorted_get_d s v.0 i (omega (arith, v.1)) (omega arith) (subst (λ (z : Row). get_or rows i [] ≺ z) v.3 x)
+  top q m x = let v = in_front rows (suc i) q m in sorted_get_or s v.0 i (omega (arith, v.1)) (omega arith) (subst (λ (z : Row). get_or rows i [] ≺ z) v.3 x)
 
   more_rows : take (suc (suc i)) rows ≡ take (suc i) rows ++ (get_or rows (suc i) [] ∷ [])
   more_rows = take-suc rows (suc i) [] h
 
   pub turn_known : (d : ℕ) → d < shared (get_or rows i []) (get_or rows (suc i) []) → (keys_at d (take (suc (suc i)) rows) ≡ keys_at d (take (suc i) rows)) × (intervals_at d (take (suc (suc i)) rows) ≡ intervals_at d (take (suc i) rows))
-  turn_known d k = rw more_rows (build_known a (take (suc i) rows) (get_or rows i []) (get_or rows (suc i) []) wd (w (get_or rows (suc i) []) (get_d_in rows (suc i) [] h)) (front_in rows (suc i) i (omega arith) (omega arith)) top (sorted_get_d s i (suc i) (omega arith) h) d k)
+  turn_known d k = rw more_rows (build_known a (take (suc i) rows) (get_or rows i []) (get_or rows (suc i) []) wd (w (get_or rows (suc i) []) (get_or_in rows (suc i) [] h)) (front_in rows (suc i) i (omega arith) (omega arith)) top (sorted_get_or s i (suc i) (omega arith) h) d k)
 
   pub turn_keys : (d : ℕ) → shared (get_or rows i []) (get_or rows (suc i) []) ≤ d → d < a → keys_at d (take (suc (suc i)) rows) ≡ keys_at d (take (suc i) rows) ++ (get_or (get_or rows (suc i) []) d 0 ∷ [])
-  turn_keys d k g = rw more_rows (build_keys a (take (suc i) rows) (get_or rows i []) (get_or rows (suc i) []) wd (w (get_or rows (suc i) []) (get_d_in rows (suc i) [] h)) (front_in rows (suc i) i (omega arith) (omega arith)) top (sorted_get_d s i (suc i) (omega arith) h) d k g)
+  turn_keys d k g = rw more_rows (build_keys a (take (suc i) rows) (get_or rows i []) (get_or rows (suc i) []) wd (w (get_or rows (suc i) []) (get_or_in rows (suc i) [] h)) (front_in rows (suc i) i (omega arith) (omega arith)) top (sorted_get_or s i (suc i) (omega arith) h) d k g)
 
   pub turn_first : (d : ℕ) → d ≡ shared (get_or rows i []) (get_or rows (suc i) []) → d < a → intervals_at d (take (suc (suc i)) rows) ≡ intervals_at d (take (suc i) rows)
-  turn_first d k g = rw more_rows (build_first a (take (suc i) rows) (get_or rows i []) (get_or rows (suc i) []) wd (w (get_or rows (suc i) []) (get_d_in rows (suc i) [] h)) (front_in rows (suc i) i (omega arith) (omega arith)) top (sorted_get_d s i (suc i) (omega arith) h) d k g)
+  turn_first d k g = rw more_rows (build_first a (take (suc i) rows) (get_or rows i []) (get_or rows (suc i) []) wd (w (get_or rows (suc i) []) (get_or_in rows (suc i) [] h)) (front_in rows (suc i) i (omega arith) (omega arith)) top (sorted_get_or s i (suc i) (omega arith) h) d k g)
 
   pub turn_new : (d : ℕ) → shared (get_or rows i []) (get_or rows (suc i) []) < d → d < a → intervals_at d (take (suc (suc i)) rows) ≡ intervals_at d (take (suc i) rows) ++ (length (keys_at d (take (suc i) rows)) ∷ [])
-  turn_new d k g = rw more_rows (build_new a (take (suc i) rows) (get_or rows i []) (get_or rows (suc i) []) wd (w (get_or rows (suc i) []) (get_d_in rows (suc i) [] h)) (front_in rows (suc i) i (omega arith) (omega arith)) top (sorted_get_d s i (suc i) (omega arith) h) d k g)
+  turn_new d k g = rw more_rows (build_new a (take (suc i) rows) (get_or rows i []) (get_or rows (suc i) []) wd (w (get_or rows (suc i) []) (get_or_in rows (suc i) [] h)) (front_in rows (suc i) i (omega arith) (omega arith)) top (sorted_get_or s i (suc i) (omega arith) h) d k g)

@@ -1,9 +1,9 @@
 -- Public: membership in a list, lists that have an element, and lists that ascend: what rows, keys and listings share.
 use Rattle.std.specs.Prelude.{Bool, true, false}
 use mathlib.Core.List.{List, [], ◌∷◌, Memᴰ}
-pub use mathlib.Core.List.Memᴰ.{cases_cons as in-cons}
+pub use mathlib.Core.List.Memᴰ.{cases_cons as in_cons}
 pub use mathlib.Core.List.Memᴰ.{head as hd}
-pub use mathlib.Core.List.Memᴰ.{not-nil as not-in-nil}
+pub use mathlib.Core.List.Memᴰ.{not-nil as not_in_nil}
 pub use mathlib.Core.List.Memᴰ.{tail as tl}
 
 -- x is one of xs: the library's membership

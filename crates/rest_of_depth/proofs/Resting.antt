@@ -11,7 +11,7 @@ use Rattle.relation.specs.Order.{Row}
 use Rattle.query.specs.Window.{Progress, emits}
 use Rattle.query.specs.Descend.{standings}
 use Rattle.query.proofs.Descend.{descends_fits}
-use Rattle.query.proofs.Meet.{get_d_in}
+use Rattle.query.proofs.Meet.{get_or_in}
 use Rattle.query.proofs.Window.{emits_append, emits_full}
 use Rattle.ring_sort.specs.Sorted.{key_at}
 use Rattle.leapfrog_search.specs.Ring.{SameAtoms}
@@ -81,7 +81,7 @@ module _ {pool plan ends : List ℕ} {n d : ℕ} {z₀ : State} {ring by_atom : 
         variable_is u.left.based u.below,
         few_variables,
         u.left.based.size,
-        z.permutation.below (get_or (order_of q) d 0) (get_d_in (order_of q) d 0 (omega (arith, z.permutation.size, u.left.based.size, u.below))),
+        z.permutation.below (get_or (order_of q) d 0) (get_or_in (order_of q) d 0 (omega (arith, z.permutation.size, u.left.based.size, u.below))),
       )
 
   module _ {found w₀ : List ℕ} {from : ℕ} where

@@ -8,7 +8,7 @@ use lib.ListN.{length, get_or, drop, drop_of_length-le, get_or-eq_default}
 use lib.Seq.{drop-cons}
 use Rattle.relation.specs.Layers.{Layer, layer, no_layer}
 use Rattle.relation.specs.Paths.{owner}
-use Rattle.relation.proofs.Lists.{get_d_any}
+use Rattle.relation.proofs.Lists.{get_or_any}
 use Rattle.relation.proofs.Walks.{Sound}
 use Rattle.seek.specs.Offset.{Leading}
 use Rattle.column_trie.specs.Table.{layers_in, layer_in, data_len_at, Undamaged}
@@ -48,7 +48,7 @@ parent_is {ints} {keys} s place h o l = record {
     next = omega (arith, past)
 
     to : Dec (o < length ints) → place < get_or ints (suc (o - 1)) (length keys)
-    to (yes y) = omega (arith, ap (λ (m : ℕ). get_or ints m (length keys)) next, get_d_any ints o (length keys) 0 y, l.stops y)
+    to (yes y) = omega (arith, ap (λ (m : ℕ). get_or ints m (length keys)) next, get_or_any ints o (length keys) 0 y, l.stops y)
     to (no n) = omega (arith, ap (λ (m : ℕ). get_or ints m (length keys)) next, get_or-eq_default ints (length keys) {n = o} (omega (arith, n)))
 
 -- of an undamaged table

@@ -9,7 +9,7 @@ use lib.Dec.{leb}
 use borrow.Author.Tests.{leb-true, leb-false, le-leb, lt-leb}
 use Rattle.relation.specs.Order.{pick}
 use Rattle.relation.specs.Paths.{upto, owner}
-use Rattle.relation.proofs.Lists.{get_d_any}
+use Rattle.relation.proofs.Lists.{get_or_any}
 use Rattle.relation.proofs.Walks.{Sound, bare, full, walk_starts, sound_ordered, sound_empty}
 
 upto_yes : (j s : ℕ) (ss : List ℕ) → s ≤ j → upto j (s ∷ ss) ≡ suc (upto j ss)
@@ -88,7 +88,7 @@ module _ {ints keys : List ℕ} (s : Sound ints keys) where
         where
           to : (b : Bool) → leb (length ints) (suc v) ≡ b → j < get_or ints (suc v) n
           to true e = omega (arith, get_or-eq_default ints n {n = (suc v)} (leb-true (length ints) (suc v) e))
-          to false e = let k = leb-false (length ints) (suc v) e in omega (arith, get_d_any ints (suc v) n 0 k, r.next k)
+          to false e = let k = leb-false (length ints) (suc v) e in omega (arith, get_or_any ints (suc v) n 0 k, r.next k)
 
   -- starts ascend
   pub rises : (i k : ℕ) → i ≤ k → k < length ints → get_or ints i 0 ≤ get_or ints k 0
@@ -104,7 +104,7 @@ module _ {ints keys : List ℕ} (s : Sound ints keys) where
   one_owner {p} {q} {j} x y = go (leb p q) refl (leb q p) refl
     where
       below : {p q : ℕ} → Owned ints n p j → Owned ints n q j → p < q → ⊥
-      below {p} {q} x y h = omega (arith, x.to, y.from, get_d_any ints (suc p) n 0 (omega (arith, y.listed)), rises (suc p) q (omega arith) y.listed)
+      below {p} {q} x y h = omega (arith, x.to, y.from, get_or_any ints (suc p) n 0 (omega (arith, y.listed)), rises (suc p) q (omega arith) y.listed)
 
       go : (b : Bool) → leb p q ≡ b → (c : Bool) → leb q p ≡ c → p ≡ q
       go true e true f = omega (arith, leb-true p q e, leb-true q p f)
@@ -126,7 +126,7 @@ module _ {ints keys : List ℕ} (s : Sound ints keys) where
     owner_stays g = one_owner (owned k m) (record { listed = here.listed; from = omega (arith, here.from); to = g })
 
     pub owner_goes_on : ends ≤ k → owner ints k ≡ suc p
-    owner_goes_on g = one_owner (owned k m) (record { listed = inside; from = omega (arith, get_d_any ints (suc p) n 0 inside); to = to (leb (length ints) (suc (suc p))) refl })
+    owner_goes_on g = one_owner (owned k m) (record { listed = inside; from = omega (arith, get_or_any ints (suc p) n 0 inside); to = to (leb (length ints) (suc (suc p))) refl })
       where
         inside : suc p < length ints
         inside = go (leb (length ints) (suc p)) refl
@@ -139,4 +139,4 @@ module _ {ints keys : List ℕ} (s : Sound ints keys) where
         to true e = omega (arith, get_or-eq_default ints n {n = (suc (suc p))} (leb-true (length ints) (suc (suc p)) e))
         to false e =
             let v = leb-false (length ints) (suc (suc p)) e in
-            omega (arith, get_d_any ints (suc (suc p)) n 0 v, get_d_any ints (suc p) n 0 inside, (sound_ordered s).ascend (suc p) v, here.to)
+            omega (arith, get_or_any ints (suc (suc p)) n 0 v, get_or_any ints (suc p) n 0 inside, (sound_ordered s).ascend (suc p) v, here.to)

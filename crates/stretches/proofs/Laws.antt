@@ -13,7 +13,7 @@ use Rattle.leapfrog.specs.Search.{Went, run_at, first, Comes}
 use Rattle.leapfrog.proofs.Search.{Ring}
 use Rattle.leapfrog.proofs.Onward.{Agreeing}
 use Rattle.ring_sort.specs.Sorted.{key_at}
-use Rattle.ring_sort.proofs.Lists.{ascends_get_d}
+use Rattle.ring_sort.proofs.Lists.{ascends_get_or}
 use Rattle.leapfrog_search.specs.Leapfrog.{part, Ordered, answered}
 use Rattle.leapfrog_search.specs.declared.Landed.TheVariants.{Key}
 use Rattle.leapfrog_search.proofs.Parts.{part_cons}
@@ -31,7 +31,7 @@ end_from {xs} s d x e =
     let z : d + 0 ≡ d = omega arith in
     let k : get_or xs d 0 ≡ x = ap (λ (i : ℕ). get_or xs i 0) (sym z) ∙ (sym (get_or-drop d xs 0 0) ∙ ap first e) in
     let l : d < length xs = omega (arith, ap length e, length-drop d xs) in
-    from_drop x xs d (omega arith) (λ i h. omega (arith, ascends_get_d s i d 0 h l)) (λ h. omega arith)
+    from_drop x xs d (omega arith) (λ i h. omega (arith, ascends_get_or s i d 0 h l)) (λ h. omega arith)
 
 module _ {pool : List ℕ} {s : State} {ends ring : List ℕ} {k : ℕ} (h : Held pool s ends ring k) where
   pub wholes_runs : Runs (wholes_in pool s ends ring k)

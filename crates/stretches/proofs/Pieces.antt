@@ -10,7 +10,7 @@ use lib.Seq.{get_or-take, get_or-set_same, get_or-set_other, length-take-le, ext
 use Rattle.relation.specs.Lists.{◌∈◌}
 use Rattle.leapfrog.specs.Search.{run_at, first, place_before}
 use Rattle.ring_sort.specs.Sorted.{key_at}
-use Rattle.ring_sort.proofs.Lists.{nth_in, get_d_map}
+use Rattle.ring_sort.proofs.Lists.{nth_in, get_or_map}
 use Rattle.leapfrog_search.specs.Ring.{Follows}
 use Rattle.leapfrog_search.specs.Leapfrog.{part, runs_in}
 use Rattle.leapfrog_search.proofs.Parts.{part_length, part_cons, part_none}
@@ -76,7 +76,7 @@ module _ (f : ℕ → List ℕ) (ring : List ℕ) (k : ℕ) (h : k ≤ length ri
   map_many = length-map (take k ring) f ∙ length-take-le k ring h
 
   pub map_at : (j : ℕ) → j < k → run_at (map f (take k ring)) j ≡ f (get_or ring j 0)
-  map_at j l = get_d_map f (take k ring) j 0 [] (omega (arith, length-take-le k ring h)) ∙ ap f (get_or-take k ring j 0 l)
+  map_at j l = get_or_map f (take k ring) j 0 [] (omega (arith, length-take-le k ring h)) ∙ ap f (get_or-take k ring j 0 l)
 
 -- where f differs at the atom of place p alone
 pub map_one : (f g : ℕ → List ℕ) (ring : List ℕ) (k p : ℕ) (v : List ℕ) → k ≤ length ring → p < k → ((i j : ℕ) → i < k → j < k → get_or ring i 0 ≡ get_or ring j 0 → i ≡ j) → g (get_or ring p 0) ≡ v → ((a : ℕ) → (a ≡ get_or ring p 0 → ⊥) → g a ≡ f a) → map g (take k ring) ≡ set (map f (take k ring)) p v

@@ -12,7 +12,7 @@ use borrow.Author.Tests.{leb-true, leb-false}
 use Rattle.relation.specs.Order.{Row}
 use Rattle.relation.specs.Lists.{◌∈◌}
 use Rattle.relation.specs.Rows.{Width, flat}
-use Rattle.relation.proofs.Lists.{get_d_in}
+use Rattle.relation.proofs.Lists.{get_or_in}
 use Rattle.table_file.specs.Bytes.{bytes_of, encode, decode}
 use Rattle.table_file.specs.File.{head, per_field, rows_field, rows_fields, end, file_of, Table}
 use Rattle.table_file.specs.Places.{place}
@@ -137,5 +137,5 @@ file_row {a} {ks} {rows} t i h =
 
 pub file_row_read : {a : ℕ} {ks : List Bool} {rows : List Row} → Table a ks rows → (i : ℕ) → i < length rows → decode a (drop (length (head a ks) + place a i) (file_of a ks rows)) ≡ get_or rows i []
 file_row_read {a} {ks} {rows} t i h =
-    let m : get_or rows i [] ∈ rows = get_d_in rows i [] h in
+    let m : get_or rows i [] ∈ rows = get_or_in rows i [] h in
     row_read a t.some (per_some a t.some t.few) (file_row t i h) (t.width (get_or rows i []) m) (t.words (get_or rows i []) m)

@@ -21,7 +21,7 @@ use Rattle.relation.specs.Layers.{Layer, layer, prefixes, keys_under, groups_at,
 use Rattle.relation.specs.Undamaged as layers
 use Rattle.relation.specs.Undamaged.{Ordered}
 use Rattle.relation.proofs.Tests.{and_left, and_true}
-use Rattle.relation.proofs.Lists.{get_d_any}
+use Rattle.relation.proofs.Lists.{get_or_any}
 use Rattle.relation.proofs.Walks.{sound_ordered}
 use Rattle.relation.proofs.Intervals.{layer_is, keys_many, intervals_many, group_under, group_end, group_rises, group_many, group_key, group_child, prefix_root, root_there}
 use Rattle.relation.proofs.Relations.{between_prefixes, roots}
@@ -130,7 +130,7 @@ module _ {a : ℕ} {rows : List Row} (w : Width a rows) (d : ℕ) (h : d < a) wh
         (record {
           inside = omega (arith, intervals_many w d h);
           before = λ x l. omega (arith, f x i (omega arith) (omega (arith, intervals_many w d h)));
-          stops = λ l. omega (arith, m, group_many w d h i k, get_d_any ints (suc i) 0 (length here.keys) l);
+          stops = λ l. omega (arith, m, group_many w d h i k, get_or_any ints (suc i) 0 (length here.keys) l);
         })
 
     -- the keys from any on don't fall

@@ -10,7 +10,7 @@ use lib.Dec.{ltb, eqb}
 use Rattle.relation.specs.Order.{Row, pick}
 use Rattle.relation.specs.Lists.{◌∈◌, hd, tl, not_in_nil}
 use Rattle.relation.specs.Exactly.{Exactly}
-use Rattle.relation.proofs.Lists.{get_d_in, in_get_d}
+use Rattle.relation.proofs.Lists.{get_or_in, in_get_or}
 use Rattle.relation.specs.Layers.{keys_under}
 use Rattle.relation.proofs.Tests.{not_both}
 use Rattle.column_trie.specs.Table.{Undamaged, rows_in}
@@ -95,7 +95,7 @@ module _ {pool : List ℕ} {t : ColumnTrie} {rows : List Row} (H : Layered pool 
       go : (ks : List ℕ) → NonFalling ks → Exactly ((seek_in x target it ks).hit ≡ true) (target ∈ ks)
       go [] r = (λ e. absurd (false≢true e), λ m. absurd (not_in_nil m))
       go (k ∷ ks) r =
-          (λ e. let h = a_hit_is_a_key x (k ∷ ks) target e in subst (λ (y : ℕ). y ∈ (k ∷ ks)) h.there (get_d_in (k ∷ ks) h.place 0 h.inside), λ m. let p = in_get_d 0 m in a_key_is_hit x (k ∷ ks) target r (record { place = p.0; inside = p.1; there = p.2 }))
+          (λ e. let h = a_hit_is_a_key x (k ∷ ks) target e in subst (λ (y : ℕ). y ∈ (k ∷ ks)) h.there (get_or_in (k ∷ ks) h.place 0 h.inside), λ m. let p = in_get_or 0 m in a_key_is_hit x (k ∷ ks) target r (record { place = p.0; inside = p.1; there = p.2 }))
 
   -- calls among the siblings leave the cursor below the same place
   along : {s : State} {ks : List ℕ} {it : ColumnTrieIter} → Stands t.arity rows (level ks s) it → (ds : List Call) → ((c : Call) → c ∈ ds → among_siblings c ≡ true) → (js : List ℕ) × Stands t.arity rows (level js s) (moved_all pool t it ds)

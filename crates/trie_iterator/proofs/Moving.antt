@@ -37,7 +37,7 @@ use Rattle.trie_iterator.specs.TrieIterator.{State, root, level, levels, left, p
 use Rattle.trie_iterator.specs.Cursor.{Layered, Below, Stands, at_the_root, at_level, of_key, of_next, of_seek, of_end, of_open, of_up}
 use Rattle.trie_iterator.proofs.Held.{held_group, keys_held}
 use Rattle.trie_iterator.proofs.Standing.{group_at, clear, same_left, key_is, next_is, seek_is, end_is}
-use Rattle.relation.proofs.Lists.{get_d_in}
+use Rattle.relation.proofs.Lists.{get_or_in}
 
 -- n siblings further
 past_below : {a : ℕ} {rows : List Row} {above : State} {ks : List ℕ} {it : ColumnTrieIter} (n : ℕ) → n ≤ length ks → Below a rows above ks it → Below a rows above (drop n ks) (past it n)
@@ -240,7 +240,7 @@ module _ {pool : List ℕ} {t : ColumnTrie} {rows : List Row} (H : Layered pool 
 
   -- a beginning among those of d words has d words
   long : (d i : ℕ) {p : Row} → d ≤ t.arity → i < length (prefixes d rows) → get_or (prefixes d rows) i [] ≡ p → length p ≡ d
-  long d i h k e = ap length (sym e) ∙ prefixes_width d H.width h (get_or (prefixes d rows) i []) (get_d_in (prefixes d rows) i [] k)
+  long d i h k e = ap length (sym e) ∙ prefixes_width d H.width h (get_or (prefixes d rows) i []) (get_or_in (prefixes d rows) i [] k)
 
   -- the owner's interval, and the offset in its group
   owned : {above : State} {k : ℕ} {js ks : List ℕ} {it it' : ColumnTrieIter} → Below t.arity rows above (k ∷ js) it → Below t.arity rows (level (k ∷ js) above) ks it'

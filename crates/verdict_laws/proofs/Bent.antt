@@ -12,7 +12,7 @@ use lib.ListN.{length, get_or, length-append, get_or-append}
 use lib.Seq.{get_or-append_seam, append_snoc}
 use Rattle.relation.specs.Order.{Row}
 use Rattle.relation.specs.Lists.{◌∈◌, hd, tl, not_in_nil, in_cons, Ascends, anone, amore}
-use Rattle.relation.proofs.Lists.{get_d_in, in_get_d, ascends_append, ascends_head, ascends_tail}
+use Rattle.relation.proofs.Lists.{get_or_in, in_get_or, ascends_append, ascends_head, ascends_tail}
 use Rattle.relation.proofs.Order.{irrefl, asym, trans}
 use Rattle.relation.specs.Rows.{same}
 use Rattle.query.specs.Checks.{some}
@@ -66,7 +66,7 @@ module _ (order : List ℕ) (all : List Row) where
     where
       later : Right order all (xs ++ b ∷ zs) (length xs) → Earlier order a b
       later r =
-          let t = in_get_d [] m in
+          let t = in_get_or [] m in
           let l = length xs - 1 in
           let last : Earlier order (get_or xs l []) b = subst (λ (x : Row). Earlier order x b) (get_or-append xs (b ∷ zs) [] l (omega (arith, t.1))) (subst (Earlier order (get_or (xs ++ b ∷ zs) l [])) (get_or-append_seam xs b zs []) (r.after l (omega (arith, t.1)))) in
           go t (ℕ_discrete t.0 l) last
@@ -98,7 +98,7 @@ module _ (order : List ℕ) (xs : List Row) (r : Row) (ys : List Row) (o : InOrd
   lacks_it rows f g =
       lacks_at rows (xs ++ r ∷ ys) (length xs) (omega (arith, length-append xs (r ∷ ys)))
       (λ m. g (subst (λ (q : Row). q ∈ rows) (get_or-append_seam xs r ys []) m))
-      (λ j h. subst (λ (q : Row). q ∈ rows) (sym (get_or-append xs (r ∷ ys) [] j h)) (f (get_or xs j []) (get_d_in xs j [] h)))
+      (λ j h. subst (λ (q : Row). q ∈ rows) (sym (get_or-append xs (r ∷ ys) [] j h)) (f (get_or xs j []) (get_or_in xs j [] h)))
       ∙ ap missing (get_or-append_seam xs r ys [])
 
   -- ---- cut behind xs

@@ -7,7 +7,7 @@ use lib.ListN.{get_or}
 use Rattle.relation.specs.Exactly.{Exactly}
 use Rattle.relation.specs.Order.{Row}
 use Rattle.relation.specs.Lists.{◌∈◌}
-use Rattle.relation.proofs.Lists.{get_d_in, in_get_d, same_members}
+use Rattle.relation.proofs.Lists.{get_or_in, in_get_or, same_members}
 use Rattle.relation.proofs.Order.{asym}
 use Rattle.listing_verdict.specs.Verdict.{accepted, wrong, missing, lacks, verdict}
 use Rattle.listing_verdict.specs.Facts.{Earlier, InOrder, Right, AllRight, FirstWrong, LeastMissing}
@@ -18,7 +18,7 @@ use Rattle.listing_verdict.proofs.Differs.{right_ascend, right_among}
 -- rows in order that are all among `all` are right
 pub sub_right : (order : List ℕ) (all : List Row) {rows : List Row} → InOrder order rows → ((r : Row) → r ∈ rows → r ∈ all) → AllRight order all rows
 sub_right order all {rows} s f i h = record {
-  among = f (get_or rows i []) (get_d_in rows i [] h);
+  among = f (get_or rows i []) (get_or_in rows i [] h);
   after = λ j e. rise order s j i (omega arith) h;
 }
 

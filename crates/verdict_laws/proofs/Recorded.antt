@@ -14,7 +14,7 @@ use borrow.Author.Tests.{ltb-true, ltb-false}
 use Rattle.relation.specs.Order.{Row, pick}
 use Rattle.relation.specs.Lists.{◌∈◌, hd, tl, in_cons}
 use Rattle.relation.specs.Rows.{Width, same, flat}
-use Rattle.relation.proofs.Lists.{get_d_in}
+use Rattle.relation.proofs.Lists.{get_or_in}
 use Rattle.relation.proofs.Words.{in_front}
 use Rattle.query.specs.Checks.{some}
 use Rattle.query.specs.Outcome.{Comes, told}
@@ -40,7 +40,7 @@ use Rattle.verdict_laws.proofs.Calls.{in_order, complete_wide, says_of_rows}
 -- ---- what a join wrote
 
 take_in : (m : ℕ) (rows : List Row) (r : Row) → r ∈ take m rows → r ∈ rows
-take_in m rows r i = let t = in_front rows m r i in subst (λ (x : Row). x ∈ rows) (sym t.3) (get_d_in rows t.0 [] t.2)
+take_in m rows r i = let t = in_front rows m r i in subst (λ (x : Row). x ∈ rows) (sym t.3) (get_or_in rows t.0 [] t.2)
 
 fit_le : (n l c : ℕ) → fit n l c ≤ c
 unfolding fit

@@ -1,6 +1,6 @@
 use lib.ListN.{drop_of_length-le}
 use lib.Seq.{get_or-take}
-use Rattle.relation.proofs.Lists.{get_d_in}
+use Rattle.relation.proofs.Lists.{get_or_in}
 use Prim.Native.Nat.{ℕ, ◌+◌, ◌*◌, ◌-◌, ◌≤◌, ◌<◌}
 use native.Mathlib.Omega.{arith}
 use mathlib.Core.Path.{◌≡◌, refl, sym, ap, subst, ◌∙◌}
@@ -42,7 +42,7 @@ module _ (t : tie.In-loop invariant_loop decreases_loop) where
   variable = get_or-take q.n q.order d 0 t.loop-test.taken
 
   low : get_or q.order d 0 < q.n
-  low = rw (← variable) ((ordered t.before.before).permutation.below (get_or (order_of q) d 0) (get_d_in (order_of q) d 0 inside))
+  low = rw (← variable) ((ordered t.before.before).permutation.below (get_or (order_of q) d 0) (get_or_in (order_of q) d 0 inside))
 
   below : get_or q.order d 0 < 8
   below = omega (arith, low, (ordered t.before.before).few)
