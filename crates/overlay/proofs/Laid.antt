@@ -32,7 +32,7 @@ owns_row (q ∷ qs) k e = go (owns_row qs k) (eqb (first q) k) refl e
     go ih true p e = (q, hd refl, eqb-true (first q) k p)
     go ih false p e = let t = ih e in (t.0, tl t.1, t.2)
 
-pub row_owns : {qs : List Row} {q : Row} → q ∈ qs → owns qs (first q) ≡ true
+pub row_owns : {q : Row} {qs : List Row} → q ∈ qs → owns qs (first q) ≡ true
 unfolding owns
 row_owns {q = q} (hd {x = x} {xs = xs} e) = ap (λ (b : Bool). pick b true (owns xs (first q))) (eq-eqb (first x) (first q) (ap first (sym e)))
 row_owns {q = q} (tl {x = x} {xs = xs} m) = go (eqb (first x) (first q)) (row_owns m)
@@ -52,7 +52,7 @@ in_others s (r ∷ m) {q} i = go (λ j. in_others s m j) (owns s (first r)) refl
     go ih true p j = (tl (ih j).0, (ih j).1)
     go ih false p j = ⊎_elim (λ (e : q ≡ r). (hd e, ap (λ (z : Row). owns s (first z)) e ∙ p)) (λ (h : q ∈ others s m). (tl (ih h).0, (ih h).1)) (in_cons j)
 
-others_in : (s : List Row) {m : List Row} {q : Row} → q ∈ m → owns s (first q) ≡ false → q ∈ others s m
+others_in : (s : List Row) {q : Row} {m : List Row} → q ∈ m → owns s (first q) ≡ false → q ∈ others s m
 unfolding others
 others_in s {q = q} (hd {x = x} {xs = xs} e) p = subst (λ (b : Bool). q ∈ pick b (others s xs) (x ∷ others s xs)) (sym p ∙ ap (λ (z : Row). owns s (first z)) e) (hd e)
 others_in s {q = q} (tl {x = x} {xs = xs} i) p = go (owns s (first x)) (others_in s i p)

@@ -61,9 +61,9 @@ unfolding merge
 in_merge [] ys m = inr m
 in_merge (x ∷ xs) ys {k} m = ⊎_elim (λ (e : k ≡ x). inl (hd e)) (λ (i : k ∈ merge xs ys). ⊎_elim (λ (j : k ∈ xs). inl (tl j)) (λ (j : k ∈ ys). inr j) (in_merge xs ys i)) (in_put x (merge xs ys) m)
 
-pub merge_left : {xs : List ℕ} (ys : List ℕ) {k : ℕ} → k ∈ xs → k ∈ merge xs ys
+pub merge_left : {k : ℕ} {xs : List ℕ} (ys : List ℕ) → k ∈ xs → k ∈ merge xs ys
 unfolding merge
-merge_left ys {k} (hd {x = x} {xs = xs} e) = rw e (put_self x (merge xs ys))
+merge_left {k} ys (hd {x = x} {xs = xs} e) = rw e (put_self x (merge xs ys))
 merge_left ys (tl {x = x} {xs = xs} m) = put_old x (merge xs ys) (merge_left ys m)
 
 pub merge_right : (xs : List ℕ) {ys : List ℕ} {k : ℕ} → k ∈ ys → k ∈ merge xs ys

@@ -1,4 +1,5 @@
 // What the programs print a line with. For the programs only.
+#![tactic(auto)]
 use libc::STDOUT_FILENO;
 
 pub fn text(words: &[u8]) {
