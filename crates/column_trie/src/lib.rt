@@ -4,6 +4,7 @@
 // A header holds any words: `undamaged` says exactly when the words that it describes are the layers of a set of rows, and `header_sound` what a
 // cursor asks of a header. Nothing is asked of pool or header, and both are only read. What layers mean the crate relation says; proofs/Tables.antt
 // ties an undamaged table's words to its rows. The Rust's lists grow; here each has room for `capacity` words.
+#![tactic(auto)]
 ghost use Rattle.std.specs.Prelude.{◌≡◌, true, ◌||◌, ◌+◌, ◌*◌, ◌-◌, ◌≤◌, ◌<◌, ◌^◌, length, take, drop, get_or};
 ghost use Rattle.relation.specs.Tests.{every};
 ghost use Rattle.relation.specs.Undamaged.{chain, linked};
@@ -15,7 +16,7 @@ ghost use Rattle.column_trie.specs.Table.{empty_table, data_len_at, arity_ok, ca
 use layer_sound::layer_sound;
 
 #[repr(C)]
-#[derive(Drop)]
+#[derive(Clone, Copy)]
 pub struct ColumnTrie {
     pub start: usize,
     pub arity: usize,
@@ -209,7 +210,7 @@ pub fn begins(pool: &[u64], t: ColumnTrie, d: usize, i: usize) -> usize
 }
 
 // A group of a layer, by places in the layer's data; `inside` is false where interval or group is outside its list.
-#[derive(Drop)]
+#[derive(Clone, Copy)]
 pub struct Group {
     pub inside: bool,
     pub from: usize,

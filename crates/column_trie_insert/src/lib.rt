@@ -68,7 +68,7 @@ fn add_row(pool: &mut [u64], t: ColumnTrie, tuple: &[u64], path: Path) -> Column
 
 // The refusal's number, 0 for none; whether the tuple was not there; and the header.
 #[repr(C)]
-#[derive(Drop)]
+#[derive(Clone, Copy)]
 pub struct Inserted {
     pub number: u64,
     pub is_new: bool,

@@ -14,7 +14,7 @@ use seek::SeekStrategy;
 
 // Of each answer `number` is the refusal's, 0 for none. Where `found` is false the key is 0.
 #[repr(C)]
-#[derive(Drop)]
+#[derive(Clone, Copy)]
 pub struct KeyAnswer {
     pub number: u64,
     pub found: bool,
@@ -22,7 +22,7 @@ pub struct KeyAnswer {
 }
 
 #[repr(C)]
-#[derive(Drop)]
+#[derive(Clone, Copy)]
 pub struct NextAnswer {
     pub number: u64,
     pub found: bool,
@@ -31,7 +31,7 @@ pub struct NextAnswer {
 }
 
 #[repr(C)]
-#[derive(Drop)]
+#[derive(Clone, Copy)]
 pub struct SeekAnswer {
     pub number: u64,
     pub found: bool,
@@ -41,14 +41,14 @@ pub struct SeekAnswer {
 }
 
 #[repr(C)]
-#[derive(Drop)]
+#[derive(Clone, Copy)]
 pub struct EndAnswer {
     pub number: u64,
     pub at_end: bool,
 }
 
 #[repr(C)]
-#[derive(Drop)]
+#[derive(Clone, Copy)]
 pub struct OpenAnswer {
     pub number: u64,
     pub opened: bool,
@@ -56,7 +56,7 @@ pub struct OpenAnswer {
 }
 
 #[repr(C)]
-#[derive(Drop)]
+#[derive(Clone, Copy)]
 pub struct UpAnswer {
     pub number: u64,
     pub risen: bool,

@@ -38,7 +38,7 @@ fn put_text(bytes: &mut [u8], pool: &[u64], t: ColumnTrie) -> usize
 
 // The refusal's number, 0 for none, and the text's length.
 #[repr(C)]
-#[derive(Drop)]
+#[derive(Clone, Copy)]
 pub struct Listed {
     pub number: u64,
     pub len: usize,

@@ -8,7 +8,7 @@ use seek::{SeekStrategy, partition_point};
 
 // Where a key stands in its group, or where it goes; whether the group has more than one key; and how many keys the search looked at. Nobody asks for
 // that number: it is there so that the contract can bound it.
-#[derive(Drop)]
+#[derive(Clone, Copy)]
 pub struct KeyPlace {
     pub at: usize,
     pub there: bool,
@@ -17,7 +17,7 @@ pub struct KeyPlace {
 }
 
 // A group with more than one key: its layer, its interval there, and the place of the tuple's own key in it.
-#[derive(Drop)]
+#[derive(Clone, Copy)]
 pub struct Fork {
     pub depth: usize,
     pub interval: usize,
@@ -26,7 +26,7 @@ pub struct Fork {
 
 // How many leading keys of a tuple are stored, the place of the last of them in its layer, and the place where the next one goes. The fork is the
 // last group on the way that has more than one key: below it the stored keys lead to one row alone.
-#[derive(Drop)]
+#[derive(Clone, Copy)]
 pub struct Path {
     pub depth: usize,
     pub interval: usize,

@@ -15,7 +15,7 @@ use column_trie::ColumnTrie;
 // depth: 0 at the root, else one more than the number of the layer. interval_i: whose children are looked at. slice_offset: how many of them
 // are passed.
 #[repr(C)]
-#[derive(Drop)]
+#[derive(Clone, Copy)]
 pub struct ColumnTrieIter {
     pub depth: usize,
     pub interval_i: usize,
@@ -48,7 +48,7 @@ impl ColumnTrieIter {
 
 // Where a cursor stands: the checks' number, the interval of the children of its key, and the places in the pool of that key and of the end
 // of its run. Where nothing is left of a run, at the root and after a refusal the two places are equal.
-#[derive(Drop)]
+#[derive(Clone, Copy)]
 pub struct Place {
     pub number: u64,
     pub index: usize,
@@ -58,7 +58,7 @@ pub struct Place {
 
 // Whose child the key at a place of a layer's data is: the interval of the group that has it, and its offset there; `owned` is false where the
 // words give no such group.
-#[derive(Drop)]
+#[derive(Clone, Copy)]
 pub struct Owner {
     pub owned: bool,
     pub interval: usize,

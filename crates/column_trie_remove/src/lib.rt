@@ -67,7 +67,7 @@ fn cut_row(pool: &mut [u64], t: ColumnTrie, fork: Fork) -> ColumnTrie
 
 // The refusal's number, 0 for none; whether the tuple was there; and the header.
 #[repr(C)]
-#[derive(Drop)]
+#[derive(Clone, Copy)]
 pub struct Removed {
     pub number: u64,
     pub was_there: bool,

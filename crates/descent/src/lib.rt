@@ -16,7 +16,7 @@ use query::MAX_ATOMS;
 use seek::SeekStrategy;
 
 // How many rows the window holds, whether more exist than fit, and the number of seeks that the leapfrogs have made.
-#[derive(Drop)]
+#[derive(Clone, Copy)]
 pub struct Walked {
     pub rows: usize,
     pub full: bool,

@@ -67,7 +67,7 @@ pub extern "C" fn ducatbriar_undamaged(pool: &[u64], table: ColumnTrie) -> bool
 
 // The kinds of a table's columns, as its header has them: C passes no array by value.
 #[repr(C)]
-#[derive(Drop)]
+#[derive(Clone, Copy)]
 pub struct Kinds {
     pub grade: [bool; ColumnTrie::MAX_ARITY],
 }
@@ -89,7 +89,7 @@ pub extern "C" fn ducatbriar_build(
 
 // The numbers of a table's columns in their new sequence.
 #[repr(C)]
-#[derive(Drop)]
+#[derive(Clone, Copy)]
 pub struct Columns {
     pub columns: [usize; ColumnTrie::MAX_ARITY],
 }

@@ -8,7 +8,7 @@ use strategy_word::strategy_of;
 
 // A row by variable number: C passes no array by value.
 #[repr(C)]
-#[derive(Drop)]
+#[derive(Clone, Copy)]
 pub struct Row {
     pub words: [u64; Query::MAX_VARIABLES],
 }

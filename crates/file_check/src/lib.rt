@@ -55,7 +55,7 @@ fn rows_at(bytes: &[u8], at: usize, arity: usize) -> usize
     0
 }
 
-#[derive(Drop)]
+#[derive(Clone, Copy)]
 pub struct Counted {
     pub ok: bool,
     pub rows: usize,
@@ -184,7 +184,7 @@ fn rows_ascend(bytes: &[u8], at: usize, arity: usize, n: usize) -> bool
     true
 }
 
-#[derive(Drop)]
+#[derive(Clone, Copy)]
 pub struct Checked {
     pub ok: bool,
     pub arity: usize,

@@ -97,7 +97,7 @@ fn put_file(bytes: &mut [u8], pool: &[u64], t: ColumnTrie)
 
 // The refusal's number, 0 for none, and the file's length.
 #[repr(C)]
-#[derive(Drop)]
+#[derive(Clone, Copy)]
 pub struct FileWritten {
     pub number: u64,
     pub len: usize,

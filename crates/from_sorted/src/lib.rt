@@ -10,7 +10,7 @@ use column_trie::{ColumnTrie, layer_at};
 
 // What a call that fills a table answers: a number, and the table's header.
 #[repr(C)]
-#[derive(Drop)]
+#[derive(Clone, Copy)]
 pub struct Built {
     pub number: u64,
     pub table: ColumnTrie,

@@ -16,7 +16,7 @@ use seek::SeekStrategy;
 use stretches::take_stretch;
 
 // A group of keys, by its places of the pool.
-#[derive(Drop)]
+#[derive(Clone, Copy)]
 struct KeyRange {
     lo: usize,
     hi: usize,

@@ -7,7 +7,7 @@ use column_trie::ColumnTrie;
 
 // An atom over one table or, where it is laid over, over the rows that count of two: `table` is then the school's and `maker` the maker's. A plain atom's `maker` is not looked at.
 #[repr(C)]
-#[derive(Drop)]
+#[derive(Clone, Copy)]
 pub struct Atom {
     pub table: usize,
     pub len: usize,
@@ -17,7 +17,7 @@ pub struct Atom {
 }
 
 #[repr(C)]
-#[derive(Drop)]
+#[derive(Clone, Copy)]
 pub struct Query {
     pub n: usize,
     pub order: [usize; Query::MAX_VARIABLES],
@@ -32,7 +32,7 @@ impl Query {
 }
 
 #[repr(C)]
-#[derive(Drop)]
+#[derive(Clone, Copy)]
 pub struct Tables {
     pub count: usize,
     pub tables: [ColumnTrie; Tables::MAX_TABLES],

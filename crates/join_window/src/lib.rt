@@ -7,7 +7,7 @@ ghost use Rattle.join_window.specs.Window.{written, Fits};
 use join_query::Query;
 
 // How many rows the window holds, and whether more exist than fit.
-#[derive(Drop)]
+#[derive(Clone, Copy)]
 pub struct Written {
     pub rows: usize,
     pub full: bool,

@@ -17,7 +17,7 @@ use ring_sort::sort_ring;
 use seek::SeekStrategy;
 
 // What a leapfrog's seek answers: besides, whether it hit: it found a common key, and that key is its target.
-#[derive(Drop)]
+#[derive(Clone, Copy)]
 pub struct SearchedFor {
     pub landed: Landed,
     pub seeks: u64,

@@ -6,6 +6,7 @@
 //
 // `leapfrog_search` does what its algorithm does to the runs, as crates/leapfrog computes it: it leaves the same runs, stops at the same place, on the same key or
 // on none, and makes the same number of seeks (specs/Leapfrog.antt, `Ran`).
+#![tactic(auto)]
 ghost use Rattle.std.specs.Prelude.{◌≡◌, ◌<◌, ◌≤◌, length};
 ghost use Rattle.seek.specs.Seek.{probed_by};
 ghost use Rattle.leapfrog.specs.Search.{search_of};
@@ -17,14 +18,14 @@ use seek::{Probed, SeekStrategy, probe};
 
 // How a search ends: with the key on which all stand, p being the place from which `leapfrog_next` or `leapfrog_seek` goes on, or with none, p being the place of
 // the atom that has no key left, from where nothing goes on.
-#[derive(Drop)]
+#[derive(Clone, Copy)]
 pub enum Landed {
     Key { key: u64, p: usize },
     Nothing { p: usize },
 }
 
 // What a call answers: how its search ended, and how many seeks it made.
-#[derive(Drop)]
+#[derive(Clone, Copy)]
 pub struct Searched {
     pub landed: Landed,
     pub seeks: u64,

@@ -13,7 +13,7 @@ use join_query::{Query, Tables};
 use seek::SeekStrategy;
 
 #[repr(C)]
-#[derive(Drop)]
+#[derive(Clone, Copy)]
 pub struct Joined {
     pub number: u64,
     pub rows: usize,

@@ -24,7 +24,7 @@ use plain_atoms::{all_hold, column, holder};
 use plain_keys::next_key;
 
 // How many rows of the two listings agree; and whether the complete one then has a row that is not the next one listed, with that row.
-#[derive(Drop)]
+#[derive(Clone, Copy)]
 pub struct Reached {
     pub at: usize,
     pub lacks: bool,

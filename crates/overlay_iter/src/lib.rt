@@ -14,7 +14,7 @@ use seek::SeekStrategy;
 
 // Of each answer `number` is the refusal's, 0 for none. Where `found` is false the key is 0.
 #[repr(C)]
-#[derive(Drop)]
+#[derive(Clone, Copy)]
 pub struct LaidNextAnswer {
     pub number: u64,
     pub found: bool,
@@ -23,7 +23,7 @@ pub struct LaidNextAnswer {
 }
 
 #[repr(C)]
-#[derive(Drop)]
+#[derive(Clone, Copy)]
 pub struct LaidSeekAnswer {
     pub number: u64,
     pub found: bool,
@@ -33,7 +33,7 @@ pub struct LaidSeekAnswer {
 }
 
 #[repr(C)]
-#[derive(Drop)]
+#[derive(Clone, Copy)]
 pub struct LaidOpenAnswer {
     pub number: u64,
     pub opened: bool,
@@ -41,7 +41,7 @@ pub struct LaidOpenAnswer {
 }
 
 #[repr(C)]
-#[derive(Drop)]
+#[derive(Clone, Copy)]
 pub struct LaidUpAnswer {
     pub number: u64,
     pub risen: bool,

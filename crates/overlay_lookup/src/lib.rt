@@ -11,7 +11,7 @@ use column_trie::ColumnTrie;
 use seek::SeekStrategy;
 
 // Where the keys under a first key lie in a table's pool; `found` is false where the table lacks the key.
-#[derive(Drop)]
+#[derive(Clone, Copy)]
 pub struct Found {
     pub found: bool,
     pub from: usize,
@@ -20,7 +20,7 @@ pub struct Found {
 
 // The run is `len` words from `from` on, of the school's pool if `from_school` is true, else of the maker's. Without a run both numbers are 0.
 #[repr(C)]
-#[derive(Drop)]
+#[derive(Clone, Copy)]
 pub struct LookedUp {
     pub number: u64,
     pub from_school: bool,

@@ -11,7 +11,7 @@ use column_trie_place::ColumnTrieIter;
 
 // One cursor on each table; that of a table without rows stays at the root.
 #[repr(C)]
-#[derive(Drop)]
+#[derive(Clone, Copy)]
 pub struct LaidIter {
     pub school: ColumnTrieIter,
     pub maker: ColumnTrieIter,

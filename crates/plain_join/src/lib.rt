@@ -57,7 +57,7 @@ fn search(
 }
 
 #[repr(C)]
-#[derive(Drop)]
+#[derive(Clone, Copy)]
 pub struct PlainJoined {
     pub number: u64,
     pub rows: usize,

@@ -14,7 +14,7 @@ use join_query::{Atom, Query, Tables};
 pub type Row = [u64; Query::MAX_VARIABLES];
 
 // A key, if one is found.
-#[derive(Drop)]
+#[derive(Clone, Copy)]
 pub struct Next {
     pub found: bool,
     pub key: u64,

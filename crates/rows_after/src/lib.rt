@@ -6,7 +6,7 @@ use join_query::Query;
 
 // The number, how many rows were written, and the row to go on after: `Query::MAX_VARIABLES` words, of which those past the query's n are zero.
 #[repr(C)]
-#[derive(Drop)]
+#[derive(Clone, Copy)]
 pub struct JoinedAfter {
     pub number: u64,
     pub rows: usize,

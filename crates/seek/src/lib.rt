@@ -12,7 +12,7 @@ ghost use Rattle.std.specs.Prelude.{◌≡◌, ◌≤◌, ◌^◌, length};
 ghost use Rattle.seek.specs.Seek.{halving, linear_of, binary_of, galloping_of, probed_by, seek_of};
 
 // How the run is probed: key by key from the front, by halves, or at doubling distances and then by halves.
-#[derive(Drop)]
+#[derive(Clone, Copy)]
 pub enum SeekStrategy {
     Linear,
     Binary,
@@ -22,7 +22,7 @@ pub enum SeekStrategy {
 // Where the seek ended, how many keys it looked at, and whether it hit: the offset is inside the run and the key there is the target. That
 // comparison is no probe.
 #[repr(C)]
-#[derive(Drop)]
+#[derive(Clone, Copy)]
 pub struct Sought {
     pub offset: usize,
     pub probes: usize,
@@ -30,7 +30,7 @@ pub struct Sought {
 }
 
 // Where a rule's probes end, and how many they are.
-#[derive(Drop)]
+#[derive(Clone, Copy)]
 pub struct Probed {
     pub offset: usize,
     pub probes: usize,

@@ -11,7 +11,7 @@ ghost use Rattle.two_runs.specs.Runs.{turned_of, Inside, Led, Turns, InOrder, St
 
 use seek::{SeekStrategy, probe};
 
-#[derive(Drop)]
+#[derive(Clone, Copy)]
 pub struct Runs {
     pub x: usize,
     pub e: usize,
@@ -111,7 +111,7 @@ fn past(pool: &[u64], y: usize, f: usize, k: u64) -> usize
 }
 
 // A stretch of the run that lies in one piece of the pool, from x to m. Behind it the run goes on with what is left from m to e and from y to f.
-#[derive(Drop)]
+#[derive(Clone, Copy)]
 pub struct Stretch {
     pub x: usize,
     pub m: usize,

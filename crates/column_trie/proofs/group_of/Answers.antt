@@ -1,0 +1,66 @@
+-- `column_trie::group_of` meets its contract: the group's two ends are those of its interval and the next, and each way out is one of the definition's
+-- tests (Groups.antt).
+use Prim.Native.Nat.{ℕ, ◌<◌}
+use mathlib.Core.Path.{◌≡◌, ◌∙◌}
+use native.Mathlib.Omega.{arith}
+use lib.ListN.{length}
+use Rattle.column_trie.specs.Groups.{group_from, group_to}
+use Rattle.column_trie.specs.Table.{layer_in}
+use Rattle.column_trie.proofs.Groups.{keys_long, intervals_long, starts_group, ends_group, unlisted, falling, over, lying}
+use Rattle.column_trie.proofs.Header.{LayerFits, layer_fits, header_told}
+
+use Rattle.column_trie.proofs.group_of.Goals as goal
+use Rattle.column_trie.proofs.group_of.Goals.{After-begins-to, Start}
+
+-- where the layer lies
+told : (s : Start) → LayerFits (length s.args.pool.now) s.args.table s.args.d
+told s = layer_fits (header_told (length s.args.pool.now) s.args.table s.requires.0) s.requires.1
+
+-- what the two calls have found: the group's start and its end
+record Found (s : Start) (from to : ℕ) : Type 0 where
+  listed : s.args.i < length (layer_in s.args.pool.now s.args.table s.args.d).intervals
+  starts : from ≡ group_from (layer_in s.args.pool.now s.args.table s.args.d) s.args.i
+  ends : to ≡ group_to (layer_in s.args.pool.now s.args.table s.args.d) s.args.i
+
+found : (q : After-begins-to) → Found q.Start q.begins-from.result q.begins-to.result
+found q =
+    record {
+      listed = omega (arith, intervals_long q.args.pool.now (told q), q.if-table-d.false);
+      starts = starts_group q.args.pool.now (told q) q.args.i q.if-table-d.false q.begins-from.ensures;
+      ends = ends_group q.args.pool.now (told q) q.args.i q.begins-to.ensures;
+    }
+
+pub offset_bounds-table-d : goal.offset_bounds-table-d
+offset_bounds-table-d c = omega (arith, told (goal.at.offset_bounds-table-d c).Start)
+
+pub bounds-table-d : goal.bounds-table-d
+bounds-table-d c = omega (arith, told (goal.at.bounds-table-d c).Start)
+
+pub returns-then-table-d : goal.returns-then-table-d
+returns-then-table-d c =
+    c.outside.ensures ∙ unlisted (layer_in c.args.pool.now c.args.table c.args.d) c.args.i (omega (arith, intervals_long c.args.pool.now (told (goal.at.returns-then-table-d c).Start), c.if-table-d.true))
+
+pub overflow_add-i : goal.overflow_add-i
+overflow_add-i c = omega (arith, told (goal.at.overflow_add-i c).Start, c.if-table-d.false)
+
+pub returns-then-to-from : goal.returns-then-to-from
+returns-then-to-from c =
+    let f = found (goal.at.returns-then-to-from c).After-begins-to in
+    c.outside-then-to-from.ensures ∙ falling (layer_in c.args.pool.now c.args.table c.args.d) c.args.i f.listed f.starts f.ends c.if-to-from.true
+
+pub offset_bounds-table-d-2 : goal.offset_bounds-table-d-2
+offset_bounds-table-d-2 c = omega (arith, told (goal.at.offset_bounds-table-d-2 c).Start)
+
+pub bounds-table-d-2 : goal.bounds-table-d-2
+bounds-table-d-2 c = omega (arith, told (goal.at.bounds-table-d-2 c).Start)
+
+pub returns-then-table-d-2 : goal.returns-then-table-d-2
+returns-then-table-d-2 c =
+    let f = found (goal.at.returns-then-table-d-2 c).After-begins-to in
+    c.outside-then-table-d-2.ensures ∙
+    over (layer_in c.args.pool.now c.args.table c.args.d) c.args.i f.listed f.starts f.ends c.if-to-from.false (omega (arith, keys_long c.args.pool.now (told (goal.at.returns-then-table-d-2 c).Start), c.if-table-d-2.true))
+
+pub returns : goal.returns
+returns c =
+    let f = found (goal.at.returns c).After-begins-to in
+    lying (layer_in c.args.pool.now c.args.table c.args.d) c.args.i f.listed f.starts f.ends c.if-to-from.false (omega (arith, keys_long c.args.pool.now (told (goal.at.returns c).Start), c.if-table-d-2.false))
