@@ -1,0 +1,89 @@
+-- The goals of `next_path` that the check leaves.
+use Prim.Native.Nat.{ℕ, ◌+◌, ◌-◌, ◌<◌}
+use mathlib.Core.Path.{◌≡◌}
+use native.Mathlib.Omega.{arith}
+use lib.ListN.{length, get_or}
+use Rattle.relation.specs.Layers.{layer}
+use Rattle.column_trie.specs.Table.{layers_in, layer_in, data_len_at, Undamaged}
+use Rattle.column_trie.proofs.Layers.{Whole}
+use Rattle.column_trie.proofs.Damage.{undamaged_told, undamaged_header}
+use Rattle.column_trie.proofs.Stored.{in_pool}
+use Rattle.row_path.proofs.Moves.{Hangs, hangs, Moved, moved_last, moved_all, moved_on, moved_not, parent_listed, begins_is}
+use Rattle.row_path.proofs.next_path.Reads as reads
+use Rattle.row_path.proofs.next_path.Lts as lts
+use Rattle.column_trie.proofs.begins.Reads as begins_reads
+
+use borrow.Author.Rules.{rules}
+use Rattle.row_path.proofs.next_path.Goals as goal
+use Rattle.row_path.proofs.next_path.Goals.{Start}
+
+whole : (s : Start) → Whole s.args.t
+whole s = record { data_long = search rules; interval_long = search rules }
+
+sound : (s : Start) → Undamaged s.args.pool.now s.args.t
+sound s = undamaged_told s.args.pool.now s.args.t s.requires.0
+
+layers : (s : Start) → Hangs s.args.pool.now s.args.t
+layers s = hangs (whole s) (sound s)
+
+starts : (s : Start) (d : ℕ) → d < s.args.t.arity → (k : ℕ) {from : ℕ} → from ≡ get_or (layer_in s.args.pool.now s.args.t d).intervals k (data_len_at s.args.t d) →
+    from ≡ get_or (layer (layers_in s.args.pool.now s.args.t) d).intervals k (length (layer (layers_in s.args.pool.now s.args.t) d).keys)
+starts s d h k e = begins_is s.args.pool.now (whole s) (in_pool (sound s)) d k h e
+
+pub overflow_sub-d : goal.overflow_sub-d
+overflow_sub-d c = omega (arith, (sound (goal.at.overflow_sub-d c).Start).arity.0)
+
+pub offset_bounds-path-d : goal.offset_bounds-path-d
+offset_bounds-path-d c = omega (arith, (sound (goal.at.offset_bounds-path-d c).Start).arity.1)
+
+pub bounds-path-d : goal.bounds-path-d
+bounds-path-d c = omega (arith, (sound (goal.at.bounds-path-d c).Start).arity.1)
+
+pub loop-d-init : goal.loop-d-init
+loop-d-init c =
+    let u = sound (goal.at.loop-d-init c).Start in
+    let h = layers (goal.at.loop-d-init c).Start in
+    moved_last (layers_in c.args.pool.now c.args.t) c.args.i c.args.path.now (c.args.t.arity - 1) (omega (arith, u.arity.0, h.long)) (omega (arith, u.arity.1, h.long)) c.requires.2
+
+pub overflow_add-next : goal.overflow_add-next
+overflow_add-next c =
+    let h = layers (goal.at.overflow_add-next c).Start in
+    let p = parent_listed h.chain (omega (arith, c.requires.1, h.counted)) c.loop-d.invariant c.loop-d-test.true in
+    omega (arith, p, ((sound (goal.at.overflow_add-next c).Start).layers.room c.loop-d.d (omega (arith, c.loop-d.invariant.depth, h.long))).1, (sound (goal.at.overflow_add-next c).Start).capacity.1)
+
+pub begins-from-requires : goal.begins-from-requires
+begins-from-requires c =
+    (undamaged_header c.args.pool.now c.args.t c.requires.0, omega (arith, c.loop-d.invariant.depth, (layers (goal.at.begins-from-requires c).Start).long))
+
+pub offset_bounds-path-d-in-loop-d : goal.offset_bounds-path-d-in-loop-d
+offset_bounds-path-d-in-loop-d c = omega (arith, c.loop-d.invariant.depth, c.loop-d.invariant.few)
+
+pub bounds-path-d-in-loop-d : goal.bounds-path-d-in-loop-d
+bounds-path-d-in-loop-d c = omega (arith, c.loop-d.invariant.depth, c.loop-d.invariant.few)
+
+pub offset_bounds-path-above-then-from-path : goal.offset_bounds-path-above-then-from-path
+offset_bounds-path-above-then-from-path c = let m = c.loop-d.invariant in omega (arith, m.depth, m.few)
+
+pub bounds-path-above-then-from-path : goal.bounds-path-above-then-from-path
+bounds-path-above-then-from-path c = let m = c.loop-d.invariant in omega (arith, m.depth, m.few)
+
+pub loop-d-smaller-then-from-path : goal.loop-d-smaller-then-from-path
+loop-d-smaller-then-from-path c = omega (arith, c.loop-d-test.true)
+
+pub loop-d-preserved-then-from-path : goal.loop-d-preserved-then-from-path
+loop-d-preserved-then-from-path c =
+    let h = layers (goal.at.loop-d-preserved-then-from-path c).Start in
+    let f = starts (goal.at.loop-d-preserved-then-from-path c).Start c.loop-d.d (omega (arith, c.loop-d.invariant.depth, h.long)) (get_or c.loop-d.path (c.loop-d.d - 1) 0 + 1) c.begins-from.ensures in
+    moved_on h.chain (omega (arith, c.requires.1, h.counted)) c.loop-d.invariant c.loop-d-test.true f (omega (arith, c.if-from-path.true))
+
+pub loop-d-smaller : goal.loop-d-smaller
+loop-d-smaller c = omega (arith, c.loop-d-test.true)
+
+pub loop-d-preserved : goal.loop-d-preserved
+loop-d-preserved c =
+    let h = layers (goal.at.loop-d-preserved c).Start in
+    let f = starts (goal.at.loop-d-preserved c).Start c.loop-d.d (omega (arith, c.loop-d.invariant.depth, h.long)) (get_or c.loop-d.path (c.loop-d.d - 1) 0 + 1) c.begins-from.ensures in
+    moved_not h.chain (omega (arith, c.requires.1, h.counted)) c.loop-d.invariant c.loop-d-test.true f (omega (arith, c.if-from-path.false))
+
+pub returns : goal.returns
+returns c = moved_all c.loop-d.invariant (omega (arith, c.loop-d-test.false))
