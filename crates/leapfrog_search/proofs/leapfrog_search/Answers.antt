@@ -3,12 +3,10 @@ use Prim.Native.Nat.{◌+◌}
 use native.Mathlib.Omega.{arith}
 use lib.Arith.{lt_of_le-ne}
 use lib.ListN.{get_or}
-use Rattle.query.specs.Meet.{total}
-use Rattle.leapfrog_search.specs.Leapfrog.{runs_in, Reached}
+use Rattle.leapfrog_search.specs.Leapfrog.{Reached}
 use Rattle.leapfrog_search.proofs.Runs.{stands_at, sought}
 use Rattle.leapfrog_search.proofs.Going.{Going}
 use Rattle.leapfrog_search.proofs.Going as going
-
 use Rattle.leapfrog_search.proofs.leapfrog_search.Goals as goal
 use Rattle.leapfrog_search.proofs.leapfrog_search.Goals.{After-struct_known-1}
 
@@ -35,7 +33,7 @@ pub bounds-pool-y : goal.bounds-pool-y
 bounds-pool-y c = omega (arith, stands_at c.requires.ready c.before-2.result c.before-2.ensures.from)
 
 pub loop-most-init : goal.loop-most-init
-loop-most-init c = going.begin c.before-2.result c.requires.ready c.requires.ordered.up c.before-2.ensures
+loop-most-init c = going.begin c.before-2.result c.requires.ready c.requires.ordered c.before-2.ensures
 
 pub offset_bounds-ring-p : goal.offset_bounds-ring-p
 offset_bounds-ring-p c = omega (arith, c.loop-most.invariant.ready.few, going.here c.loop-most.invariant)
