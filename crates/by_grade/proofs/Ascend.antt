@@ -1,16 +1,16 @@
 -- Where a variable stands first in a query's order and one of its columns holds words of grades, demand 3's rows ascend by grade.
 use Prim.Native.Nat.{ℕ, zero, suc, ◌<◌}
-use mathlib.Core.Path.{◌≡◌, refl, sym, ap, ap₂, subst, ◌∙◌}
-use mathlib.Core.Bool.{Bool, true, false}
+use mathlib.Core.Path.{◌≡◌, refl, ap, ap₂, subst, ◌∙◌}
+use mathlib.Core.Bool.{true}
 use mathlib.Core.List.{List, [], ◌∷◌}
 use native.Mathlib.Omega.{arith}
 use lib.ListN.{length, get_or}
 use lib.IntN.{ℤ, pos, negsuc}
 use lib.Signed.{lt_z, le_z}
 use borrow.Author.Tests.{ltb-true, le-leb}
-use Rattle.relation.specs.Order.{Row, ◌≺◌, nil≺, word≺, rest≺}
+use Rattle.relation.specs.Order.{Row, ◌≺◌, word≺, rest≺}
 use Rattle.relation.specs.Lists.{◌∈◌, hd, tl, Ascends, anone, amore}
-use Rattle.query.specs.Meaning.{Atom, part, Answer, Listing}
+use Rattle.query.specs.Meaning.{Atom, part, Listing}
 use Rattle.grade.specs.Word.{word_of, grade_of}
 use Rattle.grade.proofs.RoundTrips.{grade_word}
 use Rattle.grade.proofs.Order.{words_ascend_as_grades_do}

@@ -3,6 +3,7 @@
 // Both calls take every number of their type, each undoes the other, and a smaller grade has a smaller word: proofs/RoundTrips.antt and
 // proofs/Order.antt have that. How a word is made stands in specs/Word.antt alone.
 #![tactic(auto)]
+
 ghost use Rattle.std.specs.Prelude.{◌≡◌};
 ghost use Rattle.grade.specs.Word.{word_of, grade_of};
 

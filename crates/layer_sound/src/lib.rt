@@ -2,6 +2,7 @@
 //
 // The public call is `layer_sound`. Its answer is relation's test `sound`, for any two lists: nothing is asked of them, and both are only read.
 #![tactic(auto)]
+
 ghost use Rattle.std.specs.Prelude.{◌≡◌, ◌-◌, ◌<◌, length};
 ghost use Rattle.relation.specs.Undamaged.{sound};
 ghost use Rattle.layer_sound.specs.Falls.{falls_in};

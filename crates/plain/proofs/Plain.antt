@@ -1,10 +1,10 @@
 -- The rows that a plain engine finds are the query's listing. Idea: of the order's variables us have words and vs are left; what is found keeps the words of us, and its part
 -- of each atom with a variable left is a row, since the last of its variables comes among vs and is tested there. Nothing is missed, since an answer's word is among the keys
 -- to try. And a query has one listing.
-use Prim.Native.Nat.{ℕ, zero, suc, ◌+◌, ◌≤◌, ◌<◌}
+use Prim.Native.Nat.{ℕ, zero, suc, ◌≤◌, ◌<◌}
 use native.Mathlib.Omega.{arith}
 use mathlib.Core.Path.{◌≡◌, refl, sym, subst, ap, ap₂, ◌∙◌}
-use mathlib.Core.Logic.{◌⊎◌, ⊎_elim}
+use mathlib.Core.Logic.{⊎_elim}
 use mathlib.Core.Bool.{Bool, true, false}
 use mathlib.Core.List.Memᴰ
 use mathlib.Core.List.{List, [], ◌∷◌, ◌++◌, map, flat_map, map-append, append_assoc}

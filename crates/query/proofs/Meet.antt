@@ -1,6 +1,6 @@
 -- The keys that runs have in common: what is in the meet, that it ascends, and that it depends only on which runs there are.
 -- Idea: an ascending list is determined by its members, and a key is in the meet exactly when it is in every run.
-use Prim.Native.Nat.{ℕ, zero, suc, ◌<◌}
+use Prim.Native.Nat.{ℕ, ◌<◌}
 use native.Mathlib.Omega.{arith}
 use mathlib.Core.Path.{◌≡◌, refl, sym, subst, ap, ◌∙◌}
 use mathlib.Core.Logic.{⊎_elim}

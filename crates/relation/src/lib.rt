@@ -1,3 +1,5 @@
+#![tactic(auto)]
+
 // The meaning of a table: rows, their layers, undamaged layers and the rows that they hold. Definitions and laws only, no code, and no
 // port: it is written from document 01.
 //

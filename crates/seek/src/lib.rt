@@ -8,6 +8,7 @@
 // The Rust's type parameter is an enum here, so that no fourth strategy can be passed. Its test on a key is the comparison with the
 // target. Its library search is the halving rule of `halve`, which is ours, and the count of probes and the hit are ours too.
 #![tactic(auto)]
+
 ghost use Rattle.std.specs.Prelude.{◌≡◌, ◌≤◌, ◌^◌, length};
 ghost use Rattle.seek.specs.Seek.{halving, linear_of, binary_of, galloping_of, probed_by, seek_of};
 

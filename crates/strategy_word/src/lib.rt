@@ -1,5 +1,6 @@
 // The strategy that a number from C stands for.
 #![tactic(auto)]
+
 ghost use Rattle.std.specs.Prelude.{◌≡◌};
 ghost use Rattle.strategy_word.specs.Strategy.{strategy_of};
 

@@ -7,7 +7,6 @@ use Rattle.grade.proofs.Halves.{low_half, high_half}
 use native.Mathlib.Omega.{arith}
 use mir.Syntax.{w64}
 use mir.Facts.{to_z_pos}
-
 use Rattle.grade.proofs.grade_of.Goals as goal
 
 pub overflow_sub-result : goal.overflow_sub-result

@@ -2,7 +2,6 @@
 use native.Mathlib.Omega.{arith}
 use Rattle.grade.proofs.Mirror.{cast_up, up_small, mirror_at, mirror_back}
 use Rattle.grade.proofs.Halves.{word_from_0, word_below_0}
-
 use Rattle.grade.proofs.word_of.Goals as goal
 
 pub overflow_cast-result : goal.overflow_cast-result

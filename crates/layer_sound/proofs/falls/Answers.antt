@@ -1,11 +1,8 @@
 -- The goals of `falls` that the check leaves.
-use Prim.Native.Nat.{◌+◌, ◌-◌}
-use mathlib.Core.Logic.{⊎_elim}
+use Prim.Native.Nat.{◌-◌}
 use native.Mathlib.Omega.{arith}
-use lib.ListN.{length}
-use Rattle.layer_sound.proofs.Counting.{Falling, falling, falling_on, falls_out, falls_last}
+use Rattle.layer_sound.proofs.Counting.{falling, falling_on, falls_out, falls_last}
 use Rattle.layer_sound.proofs.Counts.{fall, rise}
-
 use Rattle.layer_sound.proofs.falls.Goals as goal
 use Rattle.layer_sound.proofs.falls.Goals.{else-keys-j, else-keys-j-2, then-keys-j, then-keys-j-2}
 

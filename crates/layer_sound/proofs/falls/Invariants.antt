@@ -1,11 +1,7 @@
 -- `layer_sound::falls` meets its contract: a turn counts the falls at two places (Counting.antt), and the way out the one that is left.
 use Prim.Native.Nat.{◌+◌, ◌-◌}
-use mathlib.Core.Logic.{⊎_elim}
-use native.Mathlib.Omega.{arith}
 use lib.ListN.{length}
-use Rattle.layer_sound.proofs.Counting.{Falling, falling, falling_on, falls_out, falls_last}
-use Rattle.layer_sound.proofs.Counts.{fall, rise}
-
+use Rattle.layer_sound.proofs.Counting.{Falling}
 use Rattle.layer_sound.proofs.falls.Given as goal
 
 abbrev pub invariant-loop-j : goal.invariant-loop-j

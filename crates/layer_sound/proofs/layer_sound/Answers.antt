@@ -1,11 +1,9 @@
 -- The goals of `layer_sound` that the check leaves.
 use Prim.Native.Nat.{suc, ◌-◌}
 use mathlib.Core.Path.{◌≡◌}
-use mathlib.Core.Logic.{⊎_elim}
 use native.Mathlib.Omega.{arith}
-use Rattle.layer_sound.proofs.Counting.{Starting, bare, unstarted, outside, starting, falling_start, starting_before, late_start, all_counted}
+use Rattle.layer_sound.proofs.Counting.{bare, unstarted, outside, starting, falling_start, starting_before, late_start, all_counted}
 use Rattle.layer_sound.proofs.Counts.{fall, rise}
-
 use Rattle.layer_sound.proofs.layer_sound.Goals as goal
 use Rattle.layer_sound.proofs.layer_sound.Goals.{else-data-at-2, then-data-at-2}
 

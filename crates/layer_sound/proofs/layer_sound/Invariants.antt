@@ -1,11 +1,5 @@
 -- `layer_sound::layer_sound` meets its contract: the loop goes down the intervals (Counting.antt), and what it counted is held against all falls.
-use Prim.Native.Nat.{suc, ◌-◌}
-use mathlib.Core.Path.{◌≡◌}
-use mathlib.Core.Logic.{⊎_elim}
-use native.Mathlib.Omega.{arith}
-use Rattle.layer_sound.proofs.Counting.{Starting, bare, unstarted, outside, starting, falling_start, starting_before, late_start, all_counted}
-use Rattle.layer_sound.proofs.Counts.{fall, rise}
-
+use Rattle.layer_sound.proofs.Counting.{Starting}
 use Rattle.layer_sound.proofs.layer_sound.Given as goal
 
 abbrev pub invariant-loop-i : goal.invariant-loop-i

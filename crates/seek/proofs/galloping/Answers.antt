@@ -1,13 +1,7 @@
 -- The goals of `galloping` that the check leaves.
 use mathlib.Core.Path.{sym}
-use mathlib.Core.List.{List}
-use Prim.Native.Nat.{ℕ, ◌≤◌, ◌<◌, ◌-◌, ◌/◌}
 use native.Mathlib.Omega.{arith}
-use lib.ListN.{length}
-use Rattle.seek.specs.Seek.{galloping_of}
-use Rattle.seek.proofs.Gallops.{Galloping, none, at_once, start, on, stop, past}
-
-use Rattle.seek.proofs.galloping.Invariants.{Galloped}
+use Rattle.seek.proofs.Gallops.{none, at_once, start, on, stop, past}
 use Rattle.seek.proofs.galloping.Goals as goal
 
 pub returns-then-len-eq0 : goal.returns-then-len-eq0

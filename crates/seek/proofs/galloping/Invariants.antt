@@ -1,13 +1,10 @@
 -- `seek::galloping` meets its contract. The loop's invariant: what the rule has left to do from bound on comes to the answer, and
 -- half the bound is inside the run. The measure is what is left of the run.
-use mathlib.Core.Path.{sym}
 use mathlib.Core.List.{List}
 use Prim.Native.Nat.{ℕ, ◌≤◌, ◌<◌, ◌-◌, ◌/◌}
-use native.Mathlib.Omega.{arith}
 use lib.ListN.{length}
 use Rattle.seek.specs.Seek.{galloping_of}
-use Rattle.seek.proofs.Gallops.{Galloping, none, at_once, start, on, stop, past}
-
+use Rattle.seek.proofs.Gallops.{Galloping}
 use Rattle.seek.proofs.galloping.Given as goal
 
 -- `room`: a bound is at least the probes that led to it, so the count can't wrap

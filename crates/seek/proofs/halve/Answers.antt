@@ -1,14 +1,8 @@
 -- The goals of `halve` that the check leaves.
 use mathlib.Core.Path.{refl}
-use mathlib.Core.List.{List}
-use Prim.Native.Nat.{ℕ, ◌≤◌, ◌+◌, ◌-◌}
 use native.Mathlib.Omega.{arith}
 use native.Mathlib.Nat.{le_refl}
-use lib.ListN.{length}
-use Rattle.seek.specs.Seek.{halving}
-use Rattle.seek.proofs.Halves.{Going, going_below, going_above, going_done}
-
-use Rattle.seek.proofs.halve.Invariants.{Halved}
+use Rattle.seek.proofs.Halves.{going_below, going_above, going_done}
 use Rattle.seek.proofs.halve.Goals as goal
 
 pub loop-lo-init : goal.loop-lo-init

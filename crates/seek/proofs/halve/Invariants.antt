@@ -1,14 +1,10 @@
 -- `seek::halve` meets its contract. The loop's invariant: what the rule has left to do on lo..hi comes to the answer on from..to. The
 -- measure is hi - lo.
-use mathlib.Core.Path.{refl}
 use mathlib.Core.List.{List}
 use Prim.Native.Nat.{ℕ, ◌≤◌, ◌+◌, ◌-◌}
-use native.Mathlib.Omega.{arith}
-use native.Mathlib.Nat.{le_refl}
 use lib.ListN.{length}
 use Rattle.seek.specs.Seek.{halving}
-use Rattle.seek.proofs.Halves.{Going, going_below, going_above, going_done}
-
+use Rattle.seek.proofs.Halves.{Going}
 use Rattle.seek.proofs.halve.Given as goal
 
 -- `room`: each probe is paid for by a key that leaves lo..hi, so the count can't wrap

@@ -1,13 +1,7 @@
 -- The goals of `linear` that the check leaves.
-use mathlib.Core.Path.{◌≡◌, refl, sym, ◌∙◌}
-use mathlib.Core.List.{List}
-use Prim.Native.Nat.{ℕ, ◌≤◌, ◌-◌}
+use mathlib.Core.Path.{refl, sym, ◌∙◌}
 use native.Mathlib.Omega.{arith}
-use lib.ListN.{length, drop}
-use Rattle.seek.specs.Seek.{scans}
 use Rattle.seek.proofs.Scans.{scans_below, scans_stop, scans_end}
-
-use Rattle.seek.proofs.linear.Invariants.{Passed}
 use Rattle.seek.proofs.linear.Goals as goal
 
 pub loop-i-init : goal.loop-i-init

@@ -1,13 +1,10 @@
 -- `seek::linear` meets its contract. The loop's invariant: the rule on the keys from i on comes to the answer. The measure is
 -- what is left of the run.
-use mathlib.Core.Path.{◌≡◌, refl, sym, ◌∙◌}
+use mathlib.Core.Path.{◌≡◌}
 use mathlib.Core.List.{List}
 use Prim.Native.Nat.{ℕ, ◌≤◌, ◌-◌}
-use native.Mathlib.Omega.{arith}
 use lib.ListN.{length, drop}
 use Rattle.seek.specs.Seek.{scans}
-use Rattle.seek.proofs.Scans.{scans_below, scans_stop, scans_end}
-
 use Rattle.seek.proofs.linear.Given as goal
 
 pub record Passed (run : List ℕ) (target i : ℕ) : Type 0 where

@@ -2,7 +2,6 @@
 use mathlib.Core.Path.{◌∙◌, ap}
 use Rattle.seek.specs.Seek.{sought_at}
 use Rattle.seek.proofs.Hits.{hit_inside, hit_outside}
-
 use Rattle.seek.proofs.partition_point.Goals as goal
 
 pub returns-then-offset-remaining : goal.returns-then-offset-remaining

@@ -6,7 +6,6 @@ use borrow.Author.Tests.{ne_eqb}
 use Rattle.relation.specs.Order.{pick}
 use Rattle.seek.specs.declared.SeekStrategy.TheVariants.{Linear, Binary, Galloping}
 use Rattle.strategy_word.specs.Strategy.{strategy_of}
-
 use Rattle.strategy_word.proofs.strategy_of.Goals as goal
 
 pub returns-then-word-eq0 : goal.returns-then-word-eq0
