@@ -4,6 +4,8 @@
 //
 // Each of `leapfrog_init`, `_next` and `_seek` does what its algorithm does to the runs, as crates/leapfrog computes it: it leaves the same runs,
 // stops at the same place, on the same key or on none, and makes the same number of seeks (crates/leapfrog_search/specs/Leapfrog.antt, `Ran`).
+#![tactic(auto)]
+
 ghost use Rattle.std.specs.Prelude.{◌≡◌, ◌<◌, get_or, take};
 ghost use Rattle.relation.specs.Lists.{Ascends};
 ghost use Rattle.leapfrog.specs.Search.{next_of, seek_to};

@@ -7,6 +7,7 @@
 // `leapfrog_search` does what its algorithm does to the runs, as crates/leapfrog computes it: it leaves the same runs, stops at the same place, on the same key or
 // on none, and makes the same number of seeks (specs/Leapfrog.antt, `Ran`).
 #![tactic(auto)]
+
 ghost use Rattle.std.specs.Prelude.{◌≡◌, ◌<◌, ◌≤◌, length};
 ghost use Rattle.seek.specs.Seek.{probed_by};
 ghost use Rattle.leapfrog.specs.Search.{search_of};

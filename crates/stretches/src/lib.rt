@@ -5,6 +5,8 @@
 //
 // Each of `whole_search`, `whole_init` and `whole_next` does what its algorithm does to the whole runs, as crates/leapfrog computes it. A seek of an atom is
 // one seek, however many pieces it looks through. The arrays are those of specs/Stand.antt: `own` goes down with `at` from depth to depth, `left` is 0 at first.
+#![tactic(auto)]
+
 ghost use Rattle.std.specs.Prelude.{◌≡◌, true, List, ℕ, ◌≤◌, ◌<◌, length, get_or, take};
 ghost use Rattle.relation.specs.Lists.{Ascends};
 ghost use Rattle.relation.specs.Runs.{from};

@@ -4,6 +4,8 @@
 //
 // The run from x to e comes first, the other goes from y to f. `own` says whose the first is: 0 the school's, 1 the maker's. It is kept, never read off a
 // place: one table may be laid over itself. Where both have a key, the school's is the one that counts.
+#![tactic(auto)]
+
 ghost use Rattle.std.specs.Prelude.{◌≡◌, ◌+◌, ◌≤◌, ◌<◌, length, get_or};
 ghost use Rattle.relation.specs.Lists.{Ascends};
 ghost use Rattle.leapfrog_search.specs.Leapfrog.{part, Reached};

@@ -1,6 +1,8 @@
 // Internal: every function here asks something of its caller by a `requires`. Algorithm 4 of the leapfrog join over whole runs, those of crates/stretches,
 // which may go on in another table. One atom is sought to a target, through its piece and, where that has ended, through what lies behind it; then the search
 // goes on from the next place. However many pieces the atom looks through, that is one seek.
+#![tactic(auto)]
+
 ghost use Rattle.std.specs.Prelude.{◌<◌, get_or};
 ghost use Rattle.leapfrog.specs.Search.{seek_to};
 ghost use Rattle.ring_sort.specs.Sorted.{key_at};

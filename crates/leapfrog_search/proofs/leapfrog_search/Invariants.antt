@@ -1,14 +1,7 @@
 -- `leapfrog_search` meets its contract. The loop keeps `Going`, that the definition from here comes to the same; the measure is the number of keys not yet passed, which falls at each seek.
-use Prim.Native.Nat.{◌+◌}
-use native.Mathlib.Omega.{arith}
-use lib.Arith.{lt_of_le-ne}
-use lib.ListN.{get_or}
 use Rattle.query.specs.Meet.{total}
-use Rattle.leapfrog_search.specs.Leapfrog.{runs_in, Reached}
-use Rattle.leapfrog_search.proofs.Runs.{stands_at, sought}
+use Rattle.leapfrog_search.specs.Leapfrog.{runs_in}
 use Rattle.leapfrog_search.proofs.Going.{Going}
-use Rattle.leapfrog_search.proofs.Going as going
-
 use Rattle.leapfrog_search.proofs.leapfrog_search.Given as goal
 
 abbrev pub invariant-loop-most : goal.invariant-loop-most
