@@ -19,7 +19,7 @@ use Rattle.column_trie.proofs.Pool.{Room, spot_is, store_length, store_keys, sto
 use Rattle.column_trie.proofs.Header.{InPool}
 use Rattle.column_trie.proofs.Layers.{Whole, layers_length, layers_at}
 use Rattle.column_trie.proofs.Lengths.{padded_long, padded_past, padded_own, keys_at_lem, intervals_at}
-use Rattle.column_trie.proofs.Damage.{keys_length, intervals_length, roomy}
+use Rattle.column_trie.proofs.Damage.{keys_length, intervals_length}
 
 -- where the table ends
 pub spot_end : (start a c : ℕ) → spot start c a ≡ start + 2 * a * c

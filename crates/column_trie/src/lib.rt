@@ -5,6 +5,7 @@
 // cursor asks of a header. Nothing is asked of pool or header, and both are only read. What layers mean the crate relation says; proofs/Tables.antt
 // ties an undamaged table's words to its rows. The Rust's lists grow; here each has room for `capacity` words.
 #![tactic(auto)]
+
 ghost use Rattle.std.specs.Prelude.{◌≡◌, true, ◌||◌, ◌+◌, ◌*◌, ◌-◌, ◌≤◌, ◌<◌, ◌^◌, length, take, drop, get_or};
 ghost use Rattle.relation.specs.Tests.{every};
 ghost use Rattle.relation.specs.Undamaged.{chain, linked};

@@ -1,6 +1,5 @@
 -- `column_trie::arity_ok` meets its contract: each way out is what the tests on the way say.
 use borrow.Author.Tests.{lt-ltb, le-ltb}
-
 use Rattle.column_trie.proofs.arity_ok.Goals as goal
 
 pub returns-then-arity-gt0 : goal.returns-then-arity-gt0

@@ -3,7 +3,6 @@ use native.Mathlib.Omega.{arith}
 use lib.ListN.{length}
 use Rattle.column_trie.proofs.Groups.{begins_here}
 use Rattle.column_trie.proofs.Header.{LayerFits, layer_fits, header_told}
-
 use Rattle.column_trie.proofs.begins.Goals as goal
 use Rattle.column_trie.proofs.begins.Goals.{Start}
 

@@ -1,6 +1,5 @@
 -- `column_trie::capacity_ok` meets its contract: each way out is what the tests on the way say.
 use borrow.Author.Tests.{lt-ltb, le-ltb}
-
 use Rattle.column_trie.proofs.capacity_ok.Goals as goal
 
 pub returns-then-capacity-gt0 : goal.returns-then-capacity-gt0

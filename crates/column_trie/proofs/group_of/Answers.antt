@@ -1,6 +1,6 @@
 -- `column_trie::group_of` meets its contract: the group's two ends are those of its interval and the next, and each way out is one of the definition's
 -- tests (Groups.antt).
-use Prim.Native.Nat.{ℕ, ◌<◌}
+use Prim.Native.Nat.{◌<◌}
 use mathlib.Core.Path.{◌≡◌, ◌∙◌}
 use native.Mathlib.Omega.{arith}
 use lib.ListN.{length}
@@ -8,7 +8,6 @@ use Rattle.column_trie.specs.Groups.{group_from, group_to}
 use Rattle.column_trie.specs.Table.{layer_in}
 use Rattle.column_trie.proofs.Groups.{keys_long, intervals_long, starts_group, ends_group, unlisted, falling, over, lying}
 use Rattle.column_trie.proofs.Header.{LayerFits, layer_fits, header_told}
-
 use Rattle.column_trie.proofs.group_of.Goals as goal
 use Rattle.column_trie.proofs.group_of.Goals.{After-begins-to, Start}
 
@@ -17,17 +16,18 @@ told : (s : Start) → LayerFits (length s.args.pool.now) s.args.table s.args.d
 told s = layer_fits (header_told (length s.args.pool.now) s.args.table s.requires.0) s.requires.1
 
 -- what the two calls have found: the group's start and its end
-record Found (s : Start) (from to : ℕ) : Type 0 where
-  listed : s.args.i < length (layer_in s.args.pool.now s.args.table s.args.d).intervals
-  starts : from ≡ group_from (layer_in s.args.pool.now s.args.table s.args.d) s.args.i
-  ends : to ≡ group_to (layer_in s.args.pool.now s.args.table s.args.d) s.args.i
+record Found (q : After-begins-to) : Type 0 where
+  listed : q.args.i < length (layer_in q.args.pool.now q.args.table q.args.d).intervals
+  starts : q.begins-from.result ≡ group_from (layer_in q.args.pool.now q.args.table q.args.d) q.args.i
+  ends : q.begins-to.result ≡ group_to (layer_in q.args.pool.now q.args.table q.args.d) q.args.i
 
-found : (q : After-begins-to) → Found q.Start q.begins-from.result q.begins-to.result
+found : (q : After-begins-to) → Found q
 found q =
+    let lies = layer_fits (header_told (length q.args.pool.now) q.args.table q.requires.0) q.requires.1 in
     record {
-      listed = omega (arith, intervals_long q.args.pool.now (told q), q.if-table-d.false);
-      starts = starts_group q.args.pool.now (told q) q.args.i q.if-table-d.false q.begins-from.ensures;
-      ends = ends_group q.args.pool.now (told q) q.args.i q.begins-to.ensures;
+      listed = omega (arith, intervals_long q.args.pool.now lies, q.if-table-d.false);
+      starts = starts_group q.args.pool.now lies q.args.i q.if-table-d.false q.begins-from.ensures;
+      ends = ends_group q.args.pool.now lies q.args.i q.begins-to.ensures;
     }
 
 pub offset_bounds-table-d : goal.offset_bounds-table-d

@@ -5,7 +5,6 @@ use Rattle.relation.specs.Tests.{every}
 use Rattle.relation.proofs.Tests.{gate_shut, gate_open, passed, failed}
 use Rattle.column_trie.specs.Limits.{max_arity}
 use Rattle.column_trie.specs.Table.{arity_ok, capacity_ok, lies_in, within_at, header_sound}
-
 use mathlib.Core.Path.{ap}
 use mathlib.Core.Bool.{not}
 use Rattle.column_trie.proofs.header_sound.Goals as goal

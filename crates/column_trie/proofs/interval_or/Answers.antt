@@ -1,6 +1,5 @@
 -- `column_trie::interval_or` meets its contract: inside the list it is the word there.
 use Rattle.column_trie.proofs.Groups.{interval_past, interval_here}
-
 use Rattle.column_trie.proofs.interval_or.Goals as goal
 
 pub returns-then-n-i : goal.returns-then-n-i

@@ -1,7 +1,6 @@
 -- `column_trie::layer_at` meets its contract: nothing wraps, since a table is small and starts low.
 use native.Mathlib.Omega.{arith}
 use Rattle.column_trie.proofs.Header.{offset_small, spot_product}
-
 use Rattle.column_trie.proofs.layer_at.Goals as goal
 
 pub overflow_mul-result-2 : goal.overflow_mul-result-2

@@ -6,7 +6,6 @@ use native.Mathlib.Omega.{arith}
 use lib.ListN.{length, take, drop}
 use Rattle.column_trie.specs.Table.{data_len_at}
 use Rattle.column_trie.proofs.Header.{LayerFits, layer_fits, header_told}
-
 use Rattle.column_trie.proofs.layer_keys.Goals as goal
 use Rattle.column_trie.proofs.layer_keys.Goals.{Start}
 

@@ -10,7 +10,6 @@ use Rattle.relation.proofs.Tests.{gate_shut, gate_open}
 use Rattle.column_trie.specs.Table.{interval_len_at, layer_in}
 use Rattle.column_trie.proofs.Header.{LayerFits, layer_fits, header_told}
 use Rattle.column_trie.proofs.Groups.{intervals_long}
-
 use Rattle.column_trie.proofs.layer_linked.Goals as goal
 use Rattle.column_trie.proofs.layer_linked.Goals.{Start}
 

@@ -1,12 +1,9 @@
 -- The goals of `layers_linked` that the check leaves.
-use Prim.Native.Nat.{◌-◌}
-use mathlib.Core.Logic.{⊎_elim}
 use native.Mathlib.Omega.{arith}
 use lib.ListN.{length}
 use Rattle.relation.proofs.Tests.{passed, failed}
 use Rattle.column_trie.proofs.Header.{InPool, header_told}
-use Rattle.column_trie.proofs.Layers.{Whole, Linking, linking_start, linking_next, linking_not, linking_done}
-
+use Rattle.column_trie.proofs.Layers.{Whole, linking_start, linking_next, linking_not, linking_done}
 use mathlib.Core.Path.{ap}
 use mathlib.Core.Bool.{not}
 use borrow.Author.Rules.{rules}

@@ -2,7 +2,6 @@
 use Prim.Native.Nat.{◌+◌, ◌*◌, ◌-◌}
 use native.Mathlib.Omega.{arith}
 use Rattle.column_trie.proofs.Header.{leb_same, arity_told, capacity_told, size_small}
-
 use Rattle.column_trie.proofs.lies_in.Goals as goal
 
 pub overflow_mul-result : goal.overflow_mul-result

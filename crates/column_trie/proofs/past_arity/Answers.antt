@@ -1,18 +1,13 @@
 -- The goals of `past_arity` that the check leaves.
-use Prim.Native.Nat.{◌≤◌, ◌-◌}
-use mathlib.Core.Path.{◌≡◌, sym}
-use mathlib.Core.Bool.{true}
-use mathlib.Core.Logic.{inl, inr, ⊎_elim}
+use mathlib.Core.Path.{sym}
+use mathlib.Core.Logic.{inl, inr}
 use native.Mathlib.Omega.{arith}
-use lib.Dec.{eqb}
-use borrow.Author.Tests.{eqb-true, eqb-false, not-true, not-false}
-use Rattle.relation.specs.Tests.{every}
 use Rattle.relation.proofs.Tests.{every_all, every_more, every_fails, every_fewer}
 use Rattle.column_trie.specs.Limits.{max_arity}
-use Rattle.column_trie.specs.Table.{past_at, interval_len_at}
+use Rattle.column_trie.specs.Table.{past_at}
 use Rattle.column_trie.proofs.Header.{past_told, past_not}
-
 use Rattle.column_trie.proofs.past_arity.Goals as goal
+use Rattle.column_trie.proofs.past_arity.Goals.{then-t-d-ne0-via-then-t-d-ne0, then-t-d-ne0-via-else-t-d-ne0+then-t-d-ne0-2, then-t-d-ne0-via-else-t-d-ne0+else-t-d-ne0-2+then-t-d}
 
 pub loop-d-init : goal.loop-d-init
 loop-d-init c =
@@ -26,8 +21,11 @@ returns-then-t-d-ne0 c =
     sym
     (every_fails (past_at t) max_arity d (omega arith)
     (past_not t d c.loop-d.invariant.0
-    (⊎_elim (λ w. inl w.taken)
-    (λ v. inr (⊎_elim (λ w. inl (eqb-false (interval_len_at t d) 0 (not-true (eqb (interval_len_at t d) 0) w.2.taken))) (λ w. inr w.4.taken) v)) c.then-t-d-ne0.branch)))
+    (elim c.then-t-d-ne0.branch [
+      | then-t-d-ne0-via-then-t-d-ne0 w ↦ inl w.if-t-d-ne0.true
+      | then-t-d-ne0-via-else-t-d-ne0+then-t-d-ne0-2 w ↦ inr (inl w.if-t-d-ne0-2.true)
+      | then-t-d-ne0-via-else-t-d-ne0+else-t-d-ne0-2+then-t-d w ↦ inr (inr w.if-t-d.true)
+    ])))
 
 pub loop-d-preserved : goal.loop-d-preserved
 loop-d-preserved c =
@@ -36,7 +34,7 @@ loop-d-preserved c =
     let t = c.args.t in (
       omega arith,
       every_more (past_at t) d l.invariant.1
-          (past_told t d (inr (c.then-t-d-ne0.false, eqb-true (interval_len_at t d) 0 (not-false (eqb (interval_len_at t d) 0) c.if-t-d-ne0-2.false), c.if-t-d.false))),
+          (past_told t d (inr (c.if-t-d-ne0.false, c.if-t-d-ne0-2.false, c.if-t-d.false))),
     )
 
 pub returns : goal.returns

@@ -1,17 +1,10 @@
 -- `column_trie::past_arity` meets its contract: it starts at the arity, below which the test holds.
 use Prim.Native.Nat.{◌≤◌, ◌-◌}
-use mathlib.Core.Path.{◌≡◌, sym}
+use mathlib.Core.Path.{◌≡◌}
 use mathlib.Core.Bool.{true}
-use mathlib.Core.Logic.{inl, inr, ⊎_elim}
-use native.Mathlib.Omega.{arith}
-use lib.Dec.{eqb}
-use borrow.Author.Tests.{eqb-true, eqb-false, not-true, not-false}
 use Rattle.relation.specs.Tests.{every}
-use Rattle.relation.proofs.Tests.{every_all, every_more, every_fails, every_fewer}
 use Rattle.column_trie.specs.Limits.{max_arity}
-use Rattle.column_trie.specs.Table.{past_at, interval_len_at}
-use Rattle.column_trie.proofs.Header.{past_told, past_not}
-
+use Rattle.column_trie.specs.Table.{past_at}
 use Rattle.column_trie.proofs.past_arity.Given as goal
 
 abbrev pub invariant-loop-d : goal.invariant-loop-d

@@ -12,7 +12,6 @@ use Rattle.column_trie.specs.Table.{header_sound, layers_in, data_len_at}
 use Rattle.column_trie.proofs.Header.{InPool, header_told}
 use Rattle.column_trie.proofs.Layers.{Whole}
 use Rattle.column_trie.proofs.Damage.{bad_header, bad_past, by_layers}
-
 use mathlib.Core.Path.{ap}
 use mathlib.Core.Bool.{not}
 use borrow.Author.Rules.{rules}
