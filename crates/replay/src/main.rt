@@ -2,6 +2,7 @@
 //
 // Each file of data/ holds the cases of one kind, made by `record` (rust/compare), and starts with their number; docs/REPLAY.md says what is in them. The
 // gate holds the counts to the file `stdout`, so the library is held to kermit's answers where no Rust is at hand.
+#![tactic(auto)]
 mod cursors;
 mod joins;
 mod seeks;

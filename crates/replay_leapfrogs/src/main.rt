@@ -2,6 +2,7 @@
 //
 // data/leapfrogs is made by `record` (rust/compare) and starts with the number of its cases; docs/REPLAY.md says what is in it. The gate holds the counts to
 // the file `stdout`. It is a program of its own, since these calls ask something of their caller, which is proved here.
+#![tactic(auto)]
 ghost use Rattle.leapfrog_search.specs.Leapfrog.{Ready};
 ghost use Rattle.replay_leapfrogs.specs.Runs.{in_order};
 

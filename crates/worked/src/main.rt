@@ -2,6 +2,7 @@
 //
 // Each file holds the cases of one kind, and starts with their number; docs/WORKED.md says how they are written. A new case is a few lines there and
 // costs no proof. The gate holds the counts to the file `stdout`.
+#![tactic(auto)]
 ghost use Rattle.std.specs.Prelude.{◌≡◌, length};
 
 mod choices;
