@@ -1,4 +1,6 @@
 // The checks of a query, in document 01's sequence, with 15 and 16 of document 02 behind 11 and 17 behind 6. `refusal` asks nothing; the others are internal, and some ask of their caller what an earlier check found.
+#![tactic(auto)]
+
 ghost use Rattle.std.specs.Prelude.{◌≡◌, true, List, ℕ, ◌≤◌, take, drop};
 ghost use Rattle.relation.specs.Tests as index;
 ghost use Rattle.query.specs.Meet.{has};

@@ -1,5 +1,7 @@
 // Internal: every function asks something of its caller by a `requires`. Makes the plan of a query that passed the checks: plain numbers, made once for a call,
 // so that the descent reads no header.
+#![tactic(auto)]
+
 ghost use Rattle.std.specs.Prelude.{◌≡◌, true, ◌+◌, ◌*◌, ◌≤◌, ◌<◌, length};
 ghost use Rattle.column_trie.specs.Limits.{max_arity};
 ghost use Rattle.query.specs.Limits.{max_atoms};

@@ -9,7 +9,7 @@ use Rattle.relation.specs.Rows.{Width}
 use Rattle.relation.specs.Layers.{keys_under}
 use Rattle.column_trie.specs.Table.{rows_in}
 use Rattle.overlay.specs.Merge.{merge}
-use Rattle.overlay.specs.Laid.{owns, laid}
+use Rattle.overlay.specs.Laid.{owns}
 use Rattle.overlay.proofs.Laid.{laid_firsts, laid_school, laid_maker}
 use Rattle.join_query.specs.Query.{atom_at, atom_table, atom_maker, rows_at, Accepted}
 use Rattle.join_query.specs.declared.Query.{Query}

@@ -27,7 +27,7 @@ use Rattle.column_trie.specs.Limits.{max_arity}
 use Rattle.column_trie.specs.Table.{grade_at, undamaged}
 use Rattle.column_trie.specs.declared.ColumnTrie.{ColumnTrie}
 use Rattle.query.specs.Limits.{max_atoms}
-use Rattle.join_query.specs.Query.{max_tables, max_variables, no_atom, atom_at, table_at, atom_table, atom_maker, order_of, vars_of, var_at, atoms_in, lists_of, order_ok, names_some, named_ok, listed_at, list_ok, column_ok, binds_only, one_kind, whole_rows, names, named, sound_at, shape_ok, join_number}
+use Rattle.join_query.specs.Query.{max_tables, max_variables, no_atom, atom_at, table_at, atom_table, order_of, vars_of, var_at, atoms_in, lists_of, order_ok, names_some, named_ok, listed_at, list_ok, column_ok, binds_only, one_kind, whole_rows, names, named, sound_at, shape_ok, join_number}
 use Rattle.join_query.specs.Facts.{Ordered, Named}
 use Rattle.join_query.specs.Checking.{reached, Listed}
 use Rattle.join_query.specs.declared.Atom.{Atom}

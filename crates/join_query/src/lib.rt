@@ -3,6 +3,8 @@
 // The number of the first check that a query fails is `joinNumber` (specs/Query.antt), and given exactly when documents 01 and 02 say (proofs/Exactly.antt). What a join
 // writes and answers is `outcome` (specs/Outcome.antt), a function of pool, tables, query and window alone. The code that finds the number is crates/join_checks; nothing here
 // knows how the rows are found.
+#![tactic(auto)]
+
 use column_trie::ColumnTrie;
 
 // An atom over one table or, where it is laid over, over the rows that count of two: `table` is then the school's and `maker` the maker's. A plain atom's `maker` is not looked at.

@@ -1,4 +1,6 @@
 // Internal: how a row is written into the window, by a function that asks of its caller that the rows before it lie there.
+#![tactic(auto)]
+
 ghost use Rattle.std.specs.Prelude.{◌≡◌, false, ◌≤◌, length, take};
 ghost use Rattle.query.specs.Window.{emit};
 ghost use Rattle.join_query.specs.Query.{max_variables};

@@ -2,6 +2,8 @@
 //
 // What a call answers and writes is `JoinsAfter` (specs/After.antt), a function of pool, tables, query, the given row and the window alone. An engine that goes down with a
 // bound, and lists nothing from the front, writes the same rows (specs/Bounded.antt, proofs/Bounded.antt).
+#![tactic(auto)]
+
 use join_query::Query;
 
 // The number, how many rows were written, and the row to go on after: `Query::MAX_VARIABLES` words, of which those past the query's n are zero.
