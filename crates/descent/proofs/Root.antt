@@ -25,7 +25,7 @@ use Rattle.join_query.specs.Outcome.{listed}
 use Rattle.join_query.specs.declared.Atom as rust
 use Rattle.join_query.specs.declared.Query.{Query}
 use Rattle.join_query.specs.declared.Tables.{Tables}
-use Rattle.join_query.proofs.Accepted.{sized, tables, names, lists, sound, sound_maker, passes}
+use Rattle.join_query.proofs.Accepted.{sized, names, lists, sound, sound_maker, passes}
 
 -- no word given
 abbrev pub none : ℕ → Row

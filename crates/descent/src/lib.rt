@@ -1,5 +1,7 @@
 // Internal: every function asks something of its caller by a `requires`. The descent of a join whose query passed the checks, by the depths of
 // crates/join_depths.
+#![tactic(auto)]
+
 ghost use Rattle.std.specs.Prelude.{◌≡◌, false, ◌≤◌, length, take};
 ghost use Rattle.query.specs.Window.{emit};
 ghost use Rattle.join_query.specs.Query.{max_variables};

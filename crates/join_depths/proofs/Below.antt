@@ -1,6 +1,6 @@
 -- One word more: where the atoms are opened and all stand on the key x, one that takes part stands at the place of its words with x behind them.
 -- Idea: at the first column of a table laid over another, the piece that the atom stands on tells whose the key is: a key of a maker's piece is none of the school's.
-use Prim.Native.Nat.{ℕ, zero, suc, ◌+◌, ◌-◌, ◌*◌, ◌≤◌, ◌<◌}
+use Prim.Native.Nat.{ℕ, suc, ◌+◌, ◌-◌, ◌*◌, ◌≤◌, ◌<◌}
 use native.Mathlib.Omega.{arith}
 use mathlib.Core.Path.{◌≡◌, refl, sym, subst, ap, ap₂, ◌∙◌}
 use mathlib.Core.Bool.{Bool, true, false, false≢true, ◌&&◌}
@@ -22,7 +22,7 @@ use Rattle.leapfrog_search.proofs.Parts.{part_cons}
 use Rattle.stretches.specs.Stand.{State, Stand, stand_of, Laid}
 use Rattle.stretches.specs.Whole.{WholeAgreed}
 use Rattle.stretches.proofs.Owning.{makers_alone}
-use Rattle.join_query.specs.Query.{atom_at, atom_table, atom_maker}
+use Rattle.join_query.specs.Query.{atom_at, atom_table}
 use Rattle.join_query.specs.declared.Query.{Query}
 use Rattle.join_query.specs.declared.Tables.{Tables}
 use Rattle.join_query.proofs.Accepted.{table_wide, sound, maker_wide}

@@ -2,17 +2,16 @@
 -- Idea: rows, if there are any, have one beginning of no words; so the first layer has one group.
 use Prim.Native.Nat.{ℕ, ◌+◌, ◌-◌, ◌≤◌, ◌<◌}
 use native.Mathlib.Omega.{arith}
-use mathlib.Core.Path.{◌≡◌, refl, sym, subst, ap, ◌∙◌}
+use mathlib.Core.Path.{◌≡◌, refl, subst, ap, ◌∙◌}
 use mathlib.Core.Logic.{⊎_elim}
 use mathlib.Core.List.{List, [], ◌∷◌, ◌++◌, map, append-nil}
 use lib.ListN.{length, get_or, take}
 use Rattle.relation.specs.Order.{Row}
-use Rattle.relation.specs.Lists.{◌∈◌, hd, tl, not_in_nil, in_cons, Ascends, anone, amore}
+use Rattle.relation.specs.Lists.{◌∈◌, hd, not_in_nil, in_cons, Ascends, anone, amore}
 use Rattle.relation.specs.Rows.{as_set}
 use Rattle.relation.specs.Layers.{Layer, prefixes, under, keys_under, groups_at, joined, starts, layer_at}
 use Rattle.relation.proofs.Sorting.{as_set_is}
 use Rattle.relation.proofs.Intervals.{prefix_root}
-use Rattle.query.specs.Descend.{prefix_at}
 use Rattle.query.proofs.Meet.{get_or_in}
 use Rattle.query.proofs.Beyond.{keys_ascend}
 use Rattle.column_trie.specs.Pool.{spot}

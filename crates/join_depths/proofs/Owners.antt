@@ -9,7 +9,6 @@ use lib.ListN.{length}
 use lib.Dec.{eqb}
 use Rattle.relation.specs.Order.{Row}
 use Rattle.relation.specs.Layers.{keys_under}
-use Rattle.overlay.specs.Laid.{owns}
 use Rattle.column_trie.specs.Table.{rows_in, Undamaged}
 use Rattle.join_query.specs.Query.{atom_at, atom_table, rows_at, Accepted}
 use Rattle.join_query.specs.declared.Query.{Query}

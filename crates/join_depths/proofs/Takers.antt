@@ -1,11 +1,11 @@
 -- One atom that takes part at a depth, from the plan's numbers to the theory: it can be opened where it stands, and what is opened is the keys under its words.
 -- Idea: where it has words, they lie in one of its tables, and the rest of their group is the keys that count; at the first column of one that is laid over, the first keys of both tables are.
-use Prim.Native.Nat.{ℕ, zero, suc, ◌+◌, ◌-◌, ◌*◌, ◌≤◌, ◌<◌}
+use Prim.Native.Nat.{ℕ, suc, ◌+◌, ◌-◌, ◌*◌, ◌<◌}
 use native.Mathlib.Omega.{arith}
 use mathlib.Core.Path.{◌≡◌, refl, sym, subst, ap, ap₂, ◌∙◌}
 use mathlib.Core.Bool.{Bool, true, false, false≢true, ◌&&◌}
 use mathlib.Core.Logic.{inl}
-use mathlib.Core.List.{List, [], ◌∷◌, ◌++◌, append-nil}
+use mathlib.Core.List.{List, [], ◌∷◌}
 use lib.ListN.{length, get_or, take, drop}
 use lib.Dec.{eqb}
 use borrow.Author.Tests.{eqb-true}
@@ -24,7 +24,7 @@ use Rattle.ring_sort.proofs.Lists.{ascends_split}
 use Rattle.leapfrog_search.specs.Leapfrog.{part, OnKey}
 use Rattle.two_runs.specs.Runs.{run_of, Inside}
 use Rattle.two_runs.specs.declared.Runs as two
-use Rattle.stretches.specs.Stand.{State, Stand, stand_of, rest_of, whole_of, Tailed, Laid}
+use Rattle.stretches.specs.Stand.{State, Stand, stand_of, whole_of, Tailed}
 use Rattle.stretches.specs.Pause.{Began}
 use Rattle.stretches.proofs.Owning.{last_whole, last_tailed}
 use Rattle.join_query.specs.Query.{atom_at, table_at, atom_table, atom_maker, rows_at}
@@ -32,9 +32,9 @@ use Rattle.join_query.specs.declared.Query.{Query}
 use Rattle.join_query.specs.declared.Tables.{Tables}
 use Rattle.join_query.proofs.Accepted.{names, sound, sound_maker}
 use Rattle.join_query.proofs.Keys.{first_keys}
-use Rattle.join_plan.specs.Plan.{interval_count_word, keys_word, makers_word, opening_at, above_of, both_of, second_of, firsts_end, Opening, AtomOpening}
-use Rattle.join_openings.specs.Openings.{count_at, who_at, keys_at, interval_at, group_start, group_low, group_high, Readable, both_at, table_from, first_runs, OneOpenable, Alone, Both, OpenedIn, Without}
-use Rattle.join_depths.specs.Depth.{owner_of, Owned, Placed, PlacedIn, Stands, takes_part, twofold, Within, WithinOne, starts_at, WithinIn}
+use Rattle.join_plan.specs.Plan.{interval_count_word, makers_word, opening_at, above_of, both_of, second_of, firsts_end, Opening, AtomOpening}
+use Rattle.join_openings.specs.Openings.{count_at, who_at, keys_at, interval_at, group_start, group_low, group_high, Readable, both_at, table_from, first_runs, OneOpenable, Alone, OpenedIn, Without}
+use Rattle.join_depths.specs.Depth.{owner_of, Owned, Placed, PlacedIn, Stands, twofold, Within, starts_at, WithinIn}
 use Rattle.join_depths.proofs.Groups as groups
 use Rattle.join_depths.proofs.Firsts.{firsts_in, first_run, first_rises}
 use Rattle.join_depths.proofs.Owners.{by_side, owner_laid, owner_sound, owner_arity, owner_keys}

@@ -4,4 +4,6 @@
 // A depth gives a word to one variable of the query's order. Of each atom the join keeps a place in the pool, an end, and which of its tables they are in; all
 // else comes from the plan of crates/join_plan. At the first column of a table that is laid over another an atom goes through both tables' first keys, and
 // which table the key that it stands on is from decides where its deeper columns are read.
+#![tactic(auto)]
+
 pub mod depth;

@@ -1,6 +1,8 @@
 // Internal: every function here asks something of its caller by a `requires`. The opening of the atoms that take part at a depth of a join, by the numbers of its plan
 // (crates/join_plan) alone: each stands at the start of its group, or at the first column of a table that is laid over another on the first piece of both tables'
 // first keys.
+#![tactic(auto)]
+
 ghost use Rattle.std.specs.Prelude.{◌≡◌, ◌+◌, ◌≤◌};
 ghost use Rattle.stretches.specs.Stand.{state, stand_of, Sized};
 ghost use Rattle.join_plan.specs.Plan.{table_words, opening_words, plan_words};

@@ -1,5 +1,7 @@
 // Internal: the functions here ask something of their callers by a `requires`. The row that a join which goes on after a given row hands back, read from the
 // window that it wrote: the last row there, or the given one's words that count, in an array with zeros behind.
+#![tactic(auto)]
+
 ghost use Rattle.std.specs.Prelude.{◌≡◌, ◌+◌, ◌*◌, ◌≤◌, length, take, drop};
 ghost use Rattle.join_query.specs.Query.{max_variables};
 ghost use Rattle.rows_after.specs.After.{padded};

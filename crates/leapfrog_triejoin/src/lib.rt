@@ -4,6 +4,8 @@
 // under each strategy: nothing is asked of them. The rows are exactly those that the query means (crates/demand_3, `demand-3`). The query's types and
 // its outcome are crates/join_query's, its checks crates/join_checks's, its descent crates/descent's. The Rust's emit closure is the window, its trie
 // iterators are places kept by columns, and what would panic there is refused.
+#![tactic(auto)]
+
 ghost use Rattle.leapfrog_triejoin.specs.Outcome.{Joins};
 
 use descent::descend;

@@ -1,0 +1,78 @@
+-- The goals of `open_all` that the check leaves.
+use Prim.Native.Nat.{ℕ}
+use native.Mathlib.Omega.{arith}
+use mathlib.Core.Path.{◌≡◌, subst}
+use Rattle.stretches.specs.Stand.{state}
+use Rattle.join_openings.specs.Openings.{count_at, Opens, all, refuses}
+use Rattle.join_openings.proofs.Openings.{opens_true, opens_false, opens_start, opens_can, opens_refuses, opens_next}
+use Rattle.join_openings.proofs.open_all.Goals as goal
+
+pub overflow_mul-count : goal.overflow_mul-count
+overflow_mul-count c = omega (arith, c.requires.openable)
+
+pub overflow_add-count : goal.overflow_add-count
+overflow_add-count c = omega (arith, c.requires.openable)
+
+pub offset_bounds-plan-depth : goal.offset_bounds-plan-depth
+offset_bounds-plan-depth c = omega (arith, c.requires.openable)
+
+pub bounds-plan-depth : goal.bounds-plan-depth
+bounds-plan-depth c = omega (arith, c.requires.openable)
+
+pub overflow_mul-first : goal.overflow_mul-first
+overflow_mul-first c = omega (arith, c.requires.openable)
+
+pub overflow_add-first : goal.overflow_add-first
+overflow_add-first c = omega (arith, c.requires.openable)
+
+pub loop-j-init : goal.loop-j-init
+loop-j-init c = (omega arith, opens_start c.args.pool.now c.args.plan.now c.args.depth c.requires.arrays)
+
+pub overflow_mul-base : goal.overflow_mul-base
+overflow_mul-base c = omega (arith, c.requires.openable)
+
+pub overflow_add-base : goal.overflow_add-base
+overflow_add-base c = omega (arith, c.requires.openable)
+
+pub open_one-requires : goal.open_one-requires
+open_one-requires c =
+    let l = c.loop-j in
+    record { opening_words_bound = (omega (arith, c.requires.openable), l.invariant.1.arrays.sized); one_openable = opens_can c.requires.openable l.invariant.1 (omega arith) }
+
+pub returns-then-not-open_one : goal.returns-then-not-open_one
+returns-then-not-open_one c =
+    let l = c.loop-j in
+    refuses (opens_refuses c.requires.openable l.invariant.1 (omega arith) (opens_false c.open_one.ensures c.if-not-open_one.true))
+
+pub offset_bounds-plan-base : goal.offset_bounds-plan-base
+offset_bounds-plan-base c = omega (arith, c.requires.openable)
+
+pub bounds-plan-base : goal.bounds-plan-base
+bounds-plan-base c = omega (arith, c.requires.openable)
+
+pub offset_bounds-ring-j : goal.offset_bounds-ring-j
+offset_bounds-ring-j c = omega (arith, c.requires.openable.few)
+
+pub bounds-ring-j : goal.bounds-ring-j
+bounds-ring-j c = omega (arith, c.requires.openable.few)
+
+pub offset_bounds-by_atom-j : goal.offset_bounds-by_atom-j
+offset_bounds-by_atom-j c = omega (arith, c.requires.openable.few)
+
+pub bounds-by_atom-j : goal.bounds-by_atom-j
+bounds-by_atom-j c = omega (arith, c.requires.openable.few)
+
+pub overflow_add-j : goal.overflow_add-j
+overflow_add-j c = omega (arith, c.requires.openable.few)
+
+pub loop-j-preserved : goal.loop-j-preserved
+loop-j-preserved c =
+    let l = c.loop-j in
+    (omega arith, opens_next c.requires.openable l.invariant.1 (omega arith) (opens_true c.open_one.ensures c.if-not-open_one.false))
+
+pub returns : goal.returns
+returns c =
+    let l = c.loop-j in
+    let e : l.j ≡ count_at c.args.plan.now c.args.depth = omega arith in
+    all
+    (subst (λ (m : ℕ). Opens c.args.pool.now c.args.plan.now c.args.ends.now c.args.depth m (state c.args.at.now c.args.end.now c.args.own.now c.args.left.now) (state l.at l.end l.own l.left) l.ring l.by_atom) e l.invariant.1)
