@@ -1,5 +1,5 @@
 // A part of a text that stands there as it is, below the line with its length.
-ghost use Rattle.io.specs.Counts.{IsPrefixLen};
+ghost use Rattle.cases.specs.Counts.{IsPrefixLen};
 
 use crate::reader::{NOWHERE, Read};
 use std::num::wrapping_add_usize;

@@ -1,5 +1,5 @@
 // Reads a text of cases: its decimal numbers one by one, whatever stands between them. A title, from # to the line's end, has none.
-ghost use Rattle.io.specs.Counts.{IsPrefixLen};
+ghost use Rattle.cases.specs.Counts.{IsPrefixLen};
 
 use std::num::wrapping_add_u64;
 
@@ -11,7 +11,7 @@ pub const NOWHERE: usize = 18446744073709551615;
 const TENS: u64 = 1844674407370955161;
 
 // A number, and the place behind it.
-#[derive(Drop)]
+#[derive(Clone, Copy)]
 pub struct Read {
     pub word: u64,
     pub at: usize,

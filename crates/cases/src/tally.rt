@@ -1,9 +1,10 @@
 // How far a text was read, what was compared, and how often the library's answer was another one.
 use crate::reader::ended;
 use show::{number, text};
+use std::io;
 use std::num::wrapping_add_u64;
 
-#[derive(Drop)]
+#[derive(Clone, Copy)]
 pub struct Tally {
     pub at: usize,
     pub compared: u64,
@@ -50,24 +51,24 @@ impl Tally {
     }
 
     // `NAME: 12 cases, 36 compared, 0 wrong`
-    pub fn print(self, name: &[u8], cases: u64) {
-        text(name);
-        text(b": ");
-        number(cases);
-        text(b" cases, ");
-        number(self.compared);
-        text(b" compared, ");
-        number(self.wrong);
-        text(b" wrong\n");
+    pub fn print(self, rt: &impl Print, name: &str, cases: u64) -> io::Result<()> {
+        text(rt, name.as_bytes())?;
+        text(rt, b": ")?;
+        number(rt, cases)?;
+        text(rt, b" cases, ")?;
+        number(rt, self.compared)?;
+        text(rt, b" compared, ")?;
+        number(rt, self.wrong)?;
+        text(rt, b" wrong\n")
     }
 }
 
 // `NAME: case 3 is wrong`
-pub fn print_wrong(name: &[u8], case: u64) {
-    text(name);
-    text(b": case ");
-    number(case);
-    text(b" is wrong\n");
+pub fn print_wrong(rt: &impl Print, name: &str, case: u64) -> io::Result<()> {
+    text(rt, name.as_bytes())?;
+    text(rt, b": case ")?;
+    number(rt, case)?;
+    text(rt, b" is wrong\n")
 }
 
 // Whether a call that answers yes or no was not refused, and its answer is the word told for it.

@@ -1,12 +1,11 @@
 -- The number of a build: what each check that refuses gives, in sequence, and what 0 tells.
 use Prim.Native.Nat.{ℕ, ◌+◌, ◌*◌, ◌/◌, ◌%◌, ◌≤◌, ◌<◌}
 use mathlib.Core.Path.{◌≡◌, refl}
-use mathlib.Core.Bool.{Bool, true, false, not}
+use mathlib.Core.Bool.{Bool, true, false}
 use native.Mathlib.Omega.{arith}
 use lib.Dec.{ltb, eqb}
 use borrow.Author.Tests.{ltb-false, lt-ltb, le-ltb, leb-true, eqb-true, eq-eqb, ne_eqb}
 use Rattle.relation.specs.Order.{pick}
-use Rattle.relation.proofs.Tests.{not_both}
 use Rattle.column_trie.specs.Limits.{max_arity, max_capacity}
 use Rattle.column_trie.specs.Table.{arity_ok, capacity_ok, lies_in}
 use Rattle.column_trie.proofs.Header.{arity_told, capacity_told}

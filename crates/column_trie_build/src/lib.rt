@@ -3,6 +3,8 @@
 // The public call is `build`. Its answer, the rows that it sorts and every word of the pool are those that specs/Build.antt gives, for any
 // arguments: nothing is asked of them. An accepted build leaves an undamaged table of the set of the rows (crate build_laws). As in the Rust's bulk
 // build the sorted rows are laid in one pass (crate from_sorted); the Rust sorts a copy of them, here they are sorted where they lie.
+#![tactic(auto)]
+
 ghost use Rattle.std.specs.Prelude.{◌≡◌, false, ◌≤◌, replicate};
 ghost use Rattle.column_trie.specs.Limits.{max_arity};
 ghost use Rattle.from_sorted.specs.Answer.{kept_kinds};

@@ -10,7 +10,7 @@ use lib.ListN.{length, take, get_or}
 use Rattle.relation.specs.Order.{Row}
 use Rattle.relation.specs.Lists.{◌∈◌}
 use Rattle.relation.specs.Rows.{put}
-use Rattle.relation.specs.Layers.{Layer, layer, layers_of, prefixes}
+use Rattle.relation.specs.Layers.{Layer, layers_of, prefixes}
 use Rattle.relation.proofs.Rank.{rank_at, rank_le}
 use Rattle.relation.proofs.Layers.{keys_at, intervals_at, length_keys, length_intervals, prefixes_asc}
 use Rattle.relation.proofs.Relations.{length_prefixes}

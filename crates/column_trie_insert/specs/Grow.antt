@@ -1,5 +1,5 @@
 -- Internal: room for a row, and what it leaves once it is in.
-use Rattle.std.specs.Prelude.{ℕ, ◌+◌, ◌-◌, ◌≤◌, ◌<◌, ◌≡◌, Bool, true, false, List, length}
+use Rattle.std.specs.Prelude.{ℕ, ◌+◌, ◌≤◌, ◌<◌, ◌≡◌, Bool, true, false, List, length}
 use Rattle.relation.specs.Order.{Row}
 use Rattle.relation.specs.Rows.{put}
 use Rattle.relation.specs.Layers.{layers_of}

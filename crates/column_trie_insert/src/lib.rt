@@ -3,6 +3,8 @@
 // The public call is `insert`. Its answer, the header and every word of the pool are those that specs/Insert.antt gives, for any pool, header and
 // tuple: nothing is asked of them. An accepted tuple leaves the layers that a build over the old rows and the new one leaves (crate insert_laws). The
 // Rust's `Vec::insert` is a shift inside the layer's room (crate wedge).
+#![tactic(auto)]
+
 ghost use Rattle.std.specs.Prelude.{◌≡◌, true, false, ◌<◌, length};
 ghost use Rattle.column_trie.specs.Table.{layer_in, undamaged};
 ghost use Rattle.layer_by_layer.specs.Grow.{grown};

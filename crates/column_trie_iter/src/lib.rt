@@ -5,6 +5,8 @@
 // them. On an undamaged table a cursor is the paper's trie iterator over the table's rows, which the crate trie_iterator shows.
 //
 // The calls are functions and not methods as in the Rust: a method has to stand in the crate of its struct, and places are found without the calls.
+#![tactic(auto)]
+
 ghost use Rattle.std.specs.Prelude.{◌≡◌};
 ghost use Rattle.column_trie_iter.specs.Cursor.{key_of, next_of, sought_of, end_of, unopened, open_of, unrisen, up_of};
 

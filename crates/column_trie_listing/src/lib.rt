@@ -3,6 +3,8 @@
 // The public call is `list`. Its answer and every byte of the buffer are those that specs/List.antt gives, for any pool, header and buffer: nothing
 // is asked of them. The text is one definition, crates/layer_text/specs/Text.antt. What writes it tells where it ends, written or not, so its length is asked
 // over no room at all before the first byte is written, and a refusal leaves the buffer as it was.
+#![tactic(auto)]
+
 ghost use Rattle.std.specs.Prelude.{◌≡◌, true, ◌+◌, ◌≤◌, ◌<◌, ◌^◌, length};
 ghost use Rattle.column_trie.specs.Table.{layer_in, layers_in, header_sound, undamaged};
 ghost use Rattle.layer_text.specs.Text.{layer_text, text};

@@ -1,4 +1,6 @@
 // Where a tuple's keys stand in a table: what an insert and a removal share. The search in a group is by halving.
+#![tactic(auto)]
+
 ghost use Rattle.std.specs.Prelude.{◌≡◌, true, ◌<◌, length};
 ghost use Rattle.column_trie.specs.Table.{layer_in, rows_in, header_sound, undamaged};
 ghost use Rattle.column_trie_path.specs.Place.{Grouped, KeyPlaceOf, PathOf};

@@ -30,7 +30,7 @@ in_without r (q ∷ qs) {x} m = go (λ y k. in_without r qs k) (same r q) refl m
         ⊎_elim (λ (f : x ≡ q). (hd f, λ g. not_both (same r q) (subst (λ (z : Row). same r z ≡ true) (g ∙ f) (T_true (same r r) (same_refl r))) e))
         (λ (w : x ∈ without r qs). let z = ih x w in (tl z.0, z.1)) (in_cons n)
 
-pub without_in : (r : Row) {qs : List Row} {x : Row} → x ∈ qs → (r ≡ x → ⊥) → x ∈ without r qs
+pub without_in : (r : Row) {x : Row} {qs : List Row} → x ∈ qs → (r ≡ x → ⊥) → x ∈ without r qs
 unfolding without
 without_in r {x = x} (hd {x = q} {xs = qs} e) n = go (same r q) refl
   where

@@ -3,6 +3,8 @@
 // The public call is `remove`. Its answer, the header and every word of the pool are those that specs/Remove.antt gives, for any pool, header and
 // tuple: nothing is asked of them. An accepted tuple leaves the layers that a build over the remaining rows leaves (crate removal_laws), and the words
 // past their lengths as they were.
+#![tactic(auto)]
+
 ghost use Rattle.std.specs.Prelude.{◌≡◌, false};
 ghost use Rattle.column_trie.specs.Table.{layer_in};
 ghost use Rattle.layer_by_layer.specs.Relay.{Relaid};

@@ -1,5 +1,7 @@
 // The calls on cursors for C and for Rust to link, and with those over a school's table laid over a maker's the lookup there.
 // What goes for every exported call is said in crates/ducatbriar_tables.
+#![tactic(auto)]
+
 ghost use Rattle.std.specs.Prelude.{◌≡◌};
 ghost use Rattle.column_trie_iter.specs.Cursor.{key_of, next_of, sought_of, end_of, open_of, up_of};
 ghost use Rattle.overlay_lookup.specs.Lookup.{looked_up};

@@ -1,5 +1,7 @@
 // The joins that list all rows at once, by leapfrogs and plainly, and the check of a listing, for C and for Rust to link.
 // What goes for every exported call is said in crates/ducatbriar_tables.
+#![tactic(auto)]
+
 ghost use Rattle.leapfrog_triejoin.specs.Outcome.{Joins};
 ghost use Rattle.plain_join.specs.Outcome.{PlainJoins};
 ghost use Rattle.listing_verdict.specs.Checked.{Checks};

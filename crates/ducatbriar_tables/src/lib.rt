@@ -4,6 +4,8 @@
 // Each function of the four is a public call under another name: it passes its arguments on, and its contract is the call's own. None asks anything of
 // its caller by a `requires`, since nothing checks a C caller. Headers, cursors and answers cross by value, as C lays them out. A strategy crosses
 // as a number (crates/strategy_word), since an enum from C could hold a number that is none of its cases.
+#![tactic(auto)]
+
 ghost use Rattle.std.specs.Prelude.{◌≡◌};
 ghost use Rattle.seek.specs.Seek.{seek_of};
 ghost use Rattle.grade.specs.Word.{word_of, grade_of};

@@ -1,5 +1,7 @@
 // The join a window at a time, for C and for Rust to link: apart from the others, so that they are compiled without it (docs/DECISIONS.md, 73).
 // What goes for every exported call is said in crates/ducatbriar_tables.
+#![tactic(auto)]
+
 ghost use Rattle.rows_after.specs.After.{JoinsAfter};
 
 use join_query::{Query, Tables};

@@ -1,4 +1,6 @@
 // Whether bytes are a table file: 13 exactly where `parse` finds nothing (internal). For the reader, which asks it of the whole text before it writes a word.
+#![tactic(auto)]
+
 ghost use Rattle.std.specs.Prelude.{◌≡◌, ◌+◌, ◌*◌, ◌≤◌, ◌<◌, length, take, drop};
 ghost use Rattle.relation.specs.Order.{before};
 ghost use Rattle.relation.specs.Rows.{same};

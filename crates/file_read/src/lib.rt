@@ -3,6 +3,8 @@
 // The public call is `read`. Its answer and every word of the pool are those that specs/Read.antt gives, for any arguments: nothing is asked of them.
 // The bytes are checked whole before the first word is written; then each row is appended as build appends its sorted rows (crate from_sorted), since the rows
 // of a file ascend. So nothing is sorted, and no other buffer is needed.
+#![tactic(auto)]
+
 ghost use Rattle.std.specs.Prelude.{◌≡◌, true, length};
 ghost use Rattle.column_trie.specs.Table.{arity_ok};
 ghost use Rattle.from_sorted.specs.Answer.{kept_kinds};

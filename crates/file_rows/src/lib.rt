@@ -1,6 +1,8 @@
 // Writes a table's fields of rows, as a table file has them (internal).
 //
 // A row's words are read by its path, which goes along from row to row, so that the whole is linear in the bytes.
+#![tactic(auto)]
+
 ghost use Rattle.std.specs.Prelude.{◌≡◌, true, [], ◌∷◌, ◌+◌, ◌*◌, ◌-◌, ◌≤◌, ◌<◌, length, take, drop, get_or};
 ghost use Rattle.relation.specs.Rows.{flat};
 ghost use Rattle.column_trie.specs.Pool.{lay};

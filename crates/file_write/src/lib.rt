@@ -3,6 +3,8 @@
 // The public call is `write`. Its answer and every byte are those that specs/Write.antt gives, for any pool, header and bytes: nothing is asked of
 // them. What a file is stands in table_file's specs/File.antt. The length is computed from the header alone before the first byte is written, so that
 // a refusal leaves the bytes as they were. One pass over the rows, no second buffer.
+#![tactic(auto)]
+
 ghost use Rattle.std.specs.Prelude.{◌≡◌, true, map, ◌+◌, ◌≤◌, ◌<◌, length};
 ghost use Rattle.column_trie.specs.Limits.{max_arity, max_capacity};
 ghost use Rattle.column_trie.specs.Pool.{lay};

@@ -1,4 +1,6 @@
 // Appends rows in their order to a table in the pool, for build, which fills an empty one with sorted rows, and for the reader of files: the bulk build of kermit-ds/src/ds/column_trie/implementation.rs of the Rust.
+#![tactic(auto)]
+
 ghost use Rattle.std.specs.Prelude.{◌≡◌, ◌+◌, ◌-◌, ◌≤◌, ◌<◌, length, take, get_or};
 ghost use Rattle.relation.proofs.Order.{shared};
 ghost use Rattle.column_trie.specs.Limits.{max_arity};

@@ -3,6 +3,8 @@
 //
 // The text is one definition, specs/Text.antt. Each `put` writes its piece where there is room for it, and tells where it ends, written or not: over no room at
 // all they tell the text's length.
+#![tactic(auto)]
+
 ghost use Rattle.std.specs.Prelude.{◌≡◌, ◌++◌, ◌+◌, ◌*◌, ◌≤◌, ◌^◌, length};
 ghost use Rattle.column_trie.specs.Pool.{lay};
 ghost use Rattle.layer_text.specs.Text.{decimal, others, numbers, closing, layer_word, data_word, lists, layer_text};

@@ -1,21 +1,19 @@
 -- How a walk along both finds what is missing: where every listed row is right, the first row of all that is not the listed one at its place is the first that is not listed.
-use Prim.Native.Nat.{ℕ, zero, suc, ◌+◌, ◌<◌}
-use native.Mathlib.Omega.{arith}
+use Prim.Native.Nat.{ℕ, suc}
 use mathlib.Core.Path.{◌≡◌, refl, sym, ap, subst, ◌∙◌}
 use mathlib.Core.Logic.{⊎_elim}
 use mathlib.Core.Bool.{Bool, true, false, ◌||◌}
 use mathlib.Core.List.{List, [], ◌∷◌}
-use lib.ListN.{length, get_or}
 use Rattle.relation.specs.Order.{Row, pick}
-use Rattle.relation.specs.Lists.{◌∈◌, hd, tl, not_in_nil, in_cons, anone, amore}
+use Rattle.relation.specs.Lists.{◌∈◌, hd, tl, not_in_nil, in_cons, amore}
 use Rattle.relation.specs.Rows.{same}
 use Rattle.relation.proofs.Lists.{in_get_or}
 use Rattle.relation.proofs.Order.{irrefl, asym}
 use Rattle.relation.proofs.Sorting.{same→eq, same_refl}
 use Rattle.relation.proofs.Tests.{T_true, true_T, not_both}
 use Rattle.query.specs.Checks.{some}
-use Rattle.listing_verdict.specs.Verdict.{Verdict, accepted, wrong, missing, lacks}
-use Rattle.listing_verdict.specs.Facts.{Earlier, InOrder, Right, AllRight}
+use Rattle.listing_verdict.specs.Verdict.{Verdict, accepted, missing, lacks}
+use Rattle.listing_verdict.specs.Facts.{Earlier, InOrder, AllRight}
 use Rattle.listing_verdict.proofs.Fails.{in_among, not_among, decided}
 use Rattle.listing_verdict.proofs.Told.{ascend}
 

@@ -11,7 +11,7 @@ use Rattle.relation.specs.Lists.{◌∈◌, hd, tl, not_in_nil, in_cons, amore}
 use Rattle.relation.specs.Rows.{same}
 use Rattle.relation.proofs.Order.{irrefl, asym}
 use Rattle.query.specs.Checks.{some}
-use Rattle.listing_verdict.specs.Verdict.{Verdict, accepted, wrong, missing, lacks}
+use Rattle.listing_verdict.specs.Verdict.{accepted, wrong, missing, lacks}
 use Rattle.listing_verdict.specs.Facts.{Earlier, InOrder, LeastMissing}
 use Rattle.listing_verdict.proofs.Fails.{among_in, in_among, not_among, among_not}
 

@@ -9,16 +9,16 @@ use lib.ListN.{length, get_or}
 use lib.Dec.{ltb}
 use borrow.Author.Tests.{ltb-true, ltb-false, lt-ltb, le-ltb}
 use Rattle.relation.specs.Order.{Row, pick, before}
-use Rattle.relation.specs.Lists.{◌∈◌, hd, tl, not_in_nil, in_cons, anone, amore}
+use Rattle.relation.specs.Lists.{◌∈◌, not_in_nil, in_cons, anone, amore}
 use Rattle.relation.specs.Rows.{same}
-use Rattle.relation.proofs.Lists.{ascends_head, ascends_tail, get_or_in, in_get_or, same_members}
-use Rattle.relation.proofs.Order.{≺→before, before→≺, irrefl, trans, asym}
+use Rattle.relation.proofs.Lists.{ascends_head, get_or_in}
+use Rattle.relation.proofs.Order.{≺→before, before→≺, trans}
 use Rattle.relation.proofs.Tests.{T_true, true_T, and_true, and_left, and_right, not_both}
 use Rattle.query.specs.Meaning.{part}
 use Rattle.query.specs.Checks.{some}
-use Rattle.listing_verdict.specs.Verdict.{Verdict, accepted, wrong, missing, in_sequence, good, first_fail, lacks, verdict}
-use Rattle.listing_verdict.specs.Facts.{Earlier, InOrder, Right, AllRight, FirstWrong, LeastMissing}
-use Rattle.listing_verdict.proofs.Fails.{fail_before, fail_here, fail_is, fail_le, among_in, in_among, not_among, among_not, decided}
+use Rattle.listing_verdict.specs.Verdict.{wrong, in_sequence, good, first_fail, lacks, verdict}
+use Rattle.listing_verdict.specs.Facts.{Earlier, InOrder, Right, AllRight, FirstWrong}
+use Rattle.listing_verdict.proofs.Fails.{fail_before, fail_here, fail_is, among_in, in_among, decided}
 
 -- ---- rows in order
 

@@ -2,7 +2,6 @@
 use mathlib.Core.Path.{◌≡◌, refl}
 use mathlib.Core.List.{List, [], ◌∷◌}
 use Prim.Native.Nat.{ℕ}
-use Rattle.relation.specs.Order.{Row}
 use Rattle.relation.specs.Rows.{cut}
 use Rattle.query.specs.Solve.{listing}
 use Rattle.query.proofs.Worked.{triangle}

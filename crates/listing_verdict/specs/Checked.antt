@@ -2,7 +2,7 @@
 use Rattle.std.specs.Prelude.{ℕ, zero, suc, ◌-◌, ◌≡◌, List, ◌++◌, length, replicate}
 use Rattle.relation.specs.Order.{Row}
 use Rattle.query.specs.Solve.{listing}
-use Rattle.join_query.specs.Query.{max_variables, order_of, rows_at, atoms_of, join_number}
+use Rattle.join_query.specs.Query.{max_variables, order_of, atoms_of, join_number}
 use Rattle.join_query.specs.declared.Query.{Query}
 use Rattle.join_query.specs.declared.Tables.{Tables}
 use Rattle.listing_verdict.specs.Verdict.{Verdict, accepted, wrong, missing, rows_listed, verdict}

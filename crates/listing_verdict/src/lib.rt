@@ -2,6 +2,8 @@
 //
 // The verdict is one computed definition over the listed rows and the query's listing (specs/Verdict.antt), and the call's contract is `Checks` (specs/Checked.antt): every
 // field of the answer, for any pool, tables, query, words and count.
+#![tactic(auto)]
+
 use join_query::Query;
 
 // The number of the first of the join's checks that the query fails, or 0; the verdict; the row that is wrong, where that is the verdict; the row that is missing, by

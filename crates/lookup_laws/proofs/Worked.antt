@@ -17,7 +17,6 @@ use Rattle.column_trie.specs.declared.ColumnTrie.{ColumnTrie}
 use Rattle.laid_over.specs.Shape.{same_shape}
 use Rattle.overlay_checks.specs.Tables.{tables_number}
 use Rattle.overlay_lookup.specs.Lookup.{lookup_number, found_in, looked_up, run_in}
-use Rattle.overlay_lookup.specs.declared.LookedUp.{LookedUp}
 
 -- tables of arity 2 and capacity 3, one behind the other: the school's (1,7) (5,8); the maker's (1,9) (3,2) (3,4); the school's rows again; a table without rows
 abbrev pool : List ℕ

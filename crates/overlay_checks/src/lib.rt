@@ -1,4 +1,6 @@
 // What a lookup and a cursor ask of two tables, a school's laid over a maker's, before anything else (internal): 6 and 17 in sequence.
+#![tactic(auto)]
+
 ghost use Rattle.std.specs.Prelude.{◌≡◌};
 ghost use Rattle.overlay_checks.specs.Tables.{tables_number};
 

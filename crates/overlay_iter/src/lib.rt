@@ -3,6 +3,8 @@
 // Pools and headers are passed along and only read; both tables may lie in one pool. Each call begins with overlay_place's `pair_refusal`, and its answer is
 // the one that specs/Calls.antt gives, for any pools, headers and pair: nothing is asked of them. Below depth 1 a call is the plain cursor's, on the table of
 // the key's owner; among the first keys it is made of both.
+#![tactic(auto)]
+
 ghost use Rattle.std.specs.Prelude.{◌≡◌, ◌||◌, ◌+◌, ◌<◌, ◌^◌};
 ghost use Rattle.overlay_iter.specs.Calls.{laid_key_of, laid_end_of, laid_unmoved, school_next, maker_next, pass_if, both_next, laid_next_of, laid_unsought, school_sought, maker_sought, both_sought, laid_sought_of, laid_unopened, school_opened, maker_opened, both_opened, first_opened, laid_open_of, laid_unrisen, school_risen, maker_risen, both_risen, laid_up_of};
 

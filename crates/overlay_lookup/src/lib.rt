@@ -3,6 +3,8 @@
 //
 // `lookup` says where the run lies, and `run_of` lends the run itself: a struct that holds a slice is not covered by the prover. Nothing is asked of pools,
 // headers or key; where the tables are refused, or neither has the key, the run is empty.
+#![tactic(auto)]
+
 ghost use Rattle.std.specs.Prelude.{◌≡◌, true, ◌<◌, length};
 ghost use Rattle.column_trie.specs.Table.{header_sound};
 ghost use Rattle.overlay_lookup.specs.Lookup.{lookup_number, not_found, found_in, looked_up, run_in};

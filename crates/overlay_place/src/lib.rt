@@ -2,6 +2,8 @@
 //
 // The pair is two cursors by value, one on each table. `pair_refusal` makes the checks 6, 17 and 7 for any pools, headers and pair; the crate overlay_iter has
 // the calls. A cursor below depth 1 is taken up to the first key that it was opened from, by the plain cursor's own `up`.
+#![tactic(auto)]
+
 ghost use Rattle.std.specs.Prelude.{◌≡◌};
 ghost use Rattle.overlay_place.specs.Pairs.{root_pair, climbed, leads, least, passed_below, started, abreast, owner_walks, firsts, below_root, pair_at_root, pair_stands, pair_refusal};
 

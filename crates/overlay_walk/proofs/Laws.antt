@@ -8,11 +8,12 @@ use Rattle.column_trie.specs.Table.{rows_in}
 use Rattle.column_trie.specs.declared.ColumnTrie.{ColumnTrie}
 use Rattle.column_trie.proofs.Damage.{undamaged_told}
 use Rattle.laid_over.proofs.Shape.{shape_decides}
-use Rattle.trie_iterator.specs.TrieIterator.{State, root, Call, Key, Next, AtEnd, Open, Up, Seek, Answer, answers, follow}
+use Rattle.trie_iterator.specs.TrieIterator.{State, root, Call, Key, Next, AtEnd, Open, Up, Seek, Answer, after, answers, follow}
 use Rattle.trie_iterator.specs.Cursor.{Layered, at_the_root}
 use Rattle.trie_iterator.proofs.Held.{undamaged_layered}
 use Rattle.overlay_checks.specs.Tables.{tables_number}
 use Rattle.overlay_checks.proofs.Tables.{number_clear}
+use Rattle.overlay.specs.Laid.{laid}
 use Rattle.overlay_place.specs.Pairs.{root_pair}
 use Rattle.overlay_place.specs.declared.LaidIter.{LaidIter}
 use Rattle.overlay_walk.specs.Pair.{pair, at_top}
@@ -33,9 +34,9 @@ module _ {sp : List ℕ} {s : ColumnTrie} {mp : List ℕ} {m : ColumnTrie} {scho
   pub follows : {u : State} (it : LaidIter) → LaidStands s m school maker u it → (cs : List Call) → LaidFollows sp s mp m school maker u it cs
   unfolding laid_heard_all laid_moved_all answers follow
   follows it l [] = record { answers = refl; stands = l }
-  follows it l (c ∷ cs) =
+  follows {u = u} it l (c ∷ cs) =
       let g = each_call it l c in
-      let f = follows (laid_moved sp s mp m it c) g.stands cs in
+      let f = follows {u = after s.arity (laid school maker) u c} (laid_moved sp s mp m it c) g.stands cs in
       record { answers = ap₂ {C = List Answer} (λ x xs. x ∷ xs) g.answers f.answers; stands = f.stands }
 
 -- where the two tables are not refused, from the root, by any sequence of calls

@@ -3,7 +3,7 @@ use Prim.Native.Nat.{ℕ, suc, ◌≤◌, ◌<◌}
 use native.Mathlib.Decide.{dec_lt}
 use native.Mathlib.Omega.{arith}
 use mathlib.Core.Path.{◌≡◌, refl, sym, subst, ap, ap₂, ◌∙◌}
-use mathlib.Core.Logic.{◌⊎◌, inl, inr, ⊎_elim}
+use mathlib.Core.Logic.{inl, inr, ⊎_elim}
 use mathlib.Core.Bool.{Bool, true, false, not, ◌&&◌, ◌||◌, false≢true}
 use mathlib.Core.List.{List, [], ◌∷◌, ◌++◌}
 use lib.ListN.{length, length-append}
@@ -20,7 +20,6 @@ use Rattle.query.proofs.Beyond.{keys_ascend}
 use Rattle.trie_iterator.specs.TrieIterator.{State, root, level, levels, left, onto, path, tail, go_next, go_seek, stands, opens, go_down, rises, go_up, Call, Key, Next, AtEnd, Open, Up, Seek, Answer, says, shown, answer, after, answers}
 use Rattle.overlay.specs.Merge.{merge}
 use Rattle.overlay.specs.Laid.{owns, others, laid}
-use Rattle.overlay_walk.specs.Pair as spec
 use Rattle.overlay_walk.specs.Pair.{Pair, pair, Kind, kind, deep, firsts, schools, makers, walker, walks, left_in, pass, go_pass, pass_in, pair_next, pair_seek, on, owner_of, opens_by, open_by, pair_opens, pair_open, pair_up, rises_by, pair_answer, pair_after, pair_answers, stands_at, Above, one, more, StandsFor, at_top, at_first, in_school, in_maker}
 use Rattle.overlay.proofs.Merge.{in_merge, merge_from, merge_left, merge_right}
 use Rattle.overlay.proofs.Laid.{owns_row, row_owns, laid_in, laid_width, key_first, first_key, laid_firsts, laid_school, laid_maker}
@@ -445,6 +444,15 @@ module _ {a : ℕ} {s m : List Row} (v : Width a s) (w : Width a m) (h : 0 < a) 
   above_rises one = refl
   above_rises (more r) = refl
 
+  -- up from below the key: to the first level, or to one above
+  up_school : (t k : ℕ) {ks : List ℕ} (e : from t (keys_under [] (laid s m)) ≡ k ∷ ks) → owns s k ≡ true → {u p : State} → Above (level (from t (keys_under [] (laid s m))) root) (stands_at s t) u p → StandsFor a s m (go_up u) (pair (go_up p) (stands_at m t))
+  up_school t k e o one = at_first t (laid_nonempty t k e)
+  up_school t k e o (more r) = in_school t k e o r
+
+  up_maker : (t k : ℕ) {ks : List ℕ} (e : from t (keys_under [] (laid s m)) ≡ k ∷ ks) → owns s k ≡ false → {u p : State} → Above (level (from t (keys_under [] (laid s m))) root) (stands_at m t) u p → StandsFor a s m (go_up u) (pair (stands_at s t) (go_up p))
+  up_maker t k e o one = at_first t (laid_nonempty t k e)
+  up_maker t k e o (more r) = in_maker t k e o r
+
   -- ---- any call
 
   pub same_left : {u : State} {p : Pair} → StandsFor a s m u p → left_in p ≡ left u
@@ -466,10 +474,8 @@ module _ {a : ℕ} {s m : List Row} (v : Width a s) (w : Width a m) (h : 0 < a) 
   same_place (in_maker t k e o r) Open = rw (walks_maker t k e o r) (open_maker t k e o r)
   same_place at_top Up = at_top
   same_place (at_first t e) Up = up_first t e
-  same_place (in_school t k e o (one {ks = js})) Up = rw (walks_school t k e o (one {ks = js})) (at_first t (laid_nonempty t k e))
-  same_place (in_school t k e o (more {ks = js} r)) Up = rw (walks_school t k e o (more {ks = js} r)) (in_school t k e o r)
-  same_place (in_maker t k e o (one {ks = js})) Up = rw (walks_maker t k e o (one {ks = js})) (at_first t (laid_nonempty t k e))
-  same_place (in_maker t k e o (more {ks = js} r)) Up = rw (walks_maker t k e o (more {ks = js} r)) (in_maker t k e o r)
+  same_place (in_school t k e o r) Up = rw (walks_school t k e o r) (up_school t k e o r)
+  same_place (in_maker t k e o r) Up = rw (walks_maker t k e o r) (up_maker t k e o r)
   same_place at_top (Seek x n) = at_top
   same_place (at_first t e) (Seek x n) = seek_first n t e
   same_place (in_school t k e o r) (Seek x n) = rw (walks_school t k e o r) (in_school t k e o (above_seek n r))
@@ -500,4 +506,4 @@ module _ {a : ℕ} {s m : List Row} (v : Width a s) (w : Width a m) (h : 0 < a) 
   pub the_pair_walks_as_the_trie_iterator_over_the_rows_that_count : {u : State} {p : Pair} → StandsFor a s m u p → (cs : List Call) → pair_answers a s m p cs ≡ answers a (laid s m) u cs
   unfolding pair_answers answers
   the_pair_walks_as_the_trie_iterator_over_the_rows_that_count d [] = refl
-  the_pair_walks_as_the_trie_iterator_over_the_rows_that_count d (c ∷ cs) = ap₂ {C = List Answer} (λ x xs. x ∷ xs) (same_answer d c) (the_pair_walks_as_the_trie_iterator_over_the_rows_that_count (same_place d c) cs)
+  the_pair_walks_as_the_trie_iterator_over_the_rows_that_count {u = u} d (c ∷ cs) = ap₂ {C = List Answer} (λ x xs. x ∷ xs) (same_answer d c) (the_pair_walks_as_the_trie_iterator_over_the_rows_that_count {u = after a (laid s m) u c} (same_place d c) cs)

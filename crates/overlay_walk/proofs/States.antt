@@ -1,5 +1,5 @@
 -- A pair of cursors that stands at a state of the iterator over the rows that count passes the test, so no call refuses it.
-use Prim.Native.Nat.{ℕ, ◌-◌, ◌≤◌, ◌<◌}
+use Prim.Native.Nat.{ℕ, ◌≤◌, ◌<◌}
 use mathlib.Core.Path.{◌≡◌, refl, sym, ap, ap₂, ◌∙◌, subst}
 use mathlib.Core.Bool.{Bool, true, false, ◌&&◌}
 use mathlib.Core.List.{List, [], ◌∷◌}
@@ -37,12 +37,12 @@ use Rattle.overlay_walk.proofs.Plain.{base, depth_at, climb_stands, passed_at}
 
 -- ---- one of the two
 
-above_base : {b u p : State} {js : List ℕ} → Above b (level js root) u p → base p ≡ level js root
+above_base : {b : State} {js : List ℕ} {u p : State} → Above b (level js root) u p → base p ≡ level js root
 above_base one = refl
 above_base (more one) = refl
 above_base (more (more r)) = above_base (more r)
 
-above_long : {b u p : State} {js : List ℕ} → Above b (level js root) u p → 1 < levels p
+above_long : {b : State} {js : List ℕ} {u p : State} → Above b (level js root) u p → 1 < levels p
 above_long one = omega arith
 above_long (more r) = omega (arith, above_long r)
 

@@ -19,8 +19,8 @@ use Rattle.column_trie_place.specs.Checks.{unless}
 use Rattle.column_trie_place.specs.declared.ColumnTrieIter.{ColumnTrieIter}
 use Rattle.column_trie_iter.specs.Cursor.{no_key, key_in, key_of, next_of, sought_of, open_of, up_of}
 use Rattle.column_trie_iter.specs.declared.KeyAnswer.{KeyAnswer}
-use Rattle.trie_iterator.specs.TrieIterator.{State, root, level, left, path, go_next, go_seek, stands, opens, go_down, rises, Call, Key, Next, AtEnd, Open, Up, Seek, Answer, shown, says, refused, answer, after}
-use Rattle.trie_iterator.specs.Cursor.{Layered, Stands, at_level, of_key, of_end}
+use Rattle.trie_iterator.specs.TrieIterator.{State, root, level, left, path, go_next, go_seek, opens, go_down, rises, Call, Key, Next, AtEnd, Open, Up, Seek, Answer, shown, says, refused, answer, after}
+use Rattle.trie_iterator.specs.Cursor.{Layered, Stands, of_key, of_end}
 use Rattle.trie_iterator.proofs.Standing.{key_is}
 use Rattle.trie_iterator.proofs.Moving.{next_answers, next_stands, seek_stands, open_stands, up_stands}
 use Rattle.overlay.specs.Laid.{owns, laid}

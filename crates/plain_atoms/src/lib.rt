@@ -1,5 +1,7 @@
 // Internal: what the atoms say of a row of words by variable number: which of them gives the keys to try for a variable and, of those whose last variable has a word, whether
 // each has its part of the row among its rows. An atom's list follows the query's order, so when a variable's turn comes, those before it in the list have their words.
+#![tactic(auto)]
+
 ghost use Rattle.std.specs.Prelude.{◌≡◌, ◌≤◌, ◌<◌, length, drop};
 ghost use Rattle.column_trie.specs.Limits.{max_arity};
 ghost use Rattle.join_query.specs.Query.{max_variables, vars_of, atoms_of};

@@ -1,4 +1,6 @@
 // Internal: the keys that follow some words in a table, or in an atom's rows, found by plain search from the root. No cursor is kept, and no key is skipped unseen.
+#![tactic(auto)]
+
 ghost use Rattle.std.specs.Prelude.{◌≡◌, [], ◌<◌, take, get_or};
 ghost use Rattle.relation.specs.Runs.{from};
 ghost use Rattle.relation.specs.Layers.{keys_under};

@@ -10,7 +10,7 @@ const POOL: usize = 512;
 
 // Of a move: which it is (0 next, 1 open, 2 up, 3 seek); the answer, yes or no; then whether there is a key, the key, and whether it is the end; of a
 // seek its target and its linear probes. And the place behind all that.
-#[derive(Drop)]
+#[derive(Clone, Copy)]
 struct Told {
     at: usize,
     kind: u64,

@@ -168,7 +168,7 @@ fn query_of(text: &[u8], from: usize) -> Posed {
 // ---- what is answered
 
 // What a join must tell: its number, how many rows, and how many words of the window they are.
-#[derive(Drop)]
+#[derive(Clone, Copy)]
 struct Told {
     number: u64,
     rows: usize,

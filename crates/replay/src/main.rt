@@ -2,6 +2,8 @@
 //
 // Each file of data/ holds the cases of one kind, made by `record` (rust/compare), and starts with their number; docs/REPLAY.md says what is in them. The
 // gate holds the counts to the file `stdout`, so the library is held to kermit's answers where no Rust is at hand.
+#![tactic(auto)]
+
 mod cursors;
 mod joins;
 mod seeks;
@@ -11,8 +13,10 @@ use cases::excerpt::cut_bytes;
 use cases::file::{load, room};
 use cases::reader::{NOWHERE, number};
 use cases::tally::Tally;
+use std::io;
+use std::rt::Files;
 
-#[derive(Drop)]
+#[derive(Clone, Copy)]
 enum Kind {
     Seeks,
     Tables,
@@ -44,24 +48,25 @@ fn each_case(kind: Kind, text: &[u8], start: Tally, count: u64) -> Tally {
     tally
 }
 
-fn replayed(kind: Kind, name: &[u8], text: &[u8]) {
+fn replayed(rt: &impl Print, kind: Kind, name: &str, text: &[u8]) -> io::Result<()> {
     let count = number(text, 0);
     let tally = each_case(kind, text, Tally::new(count.at), count.word);
-    tally.closed(text).print(name, count.word);
+    tally.closed(text).print(rt, name, count.word)
 }
 
-fn replay(kind: Kind, name: &[u8]) {
+fn replay<R: Files + Print + Eprint>(rt: &R, kind: Kind, name: &str) -> io::Result<()> {
     let mut text = room();
-    let loaded = load(name, &mut text);
+    let loaded = load(rt, name, &mut text)?;
     if loaded.is_there {
         let n = cut_bytes(&text, loaded.len);
-        replayed(kind, name, &text[..n]);
+        replayed(rt, kind, name, &text[..n])?;
     }
+    Ok(())
 }
 
-fn main() {
-    replay(Kind::Seeks, b"seeks");
-    replay(Kind::Tables, b"tables");
-    replay(Kind::Cursors, b"cursors");
-    replay(Kind::Joins, b"joins");
+fn main(rt: HostRuntime) -> io::Result<()> {
+    replay(&rt, Kind::Seeks, "seeks")?;
+    replay(&rt, Kind::Tables, "tables")?;
+    replay(&rt, Kind::Cursors, "cursors")?;
+    replay(&rt, Kind::Joins, "joins")
 }

@@ -7,7 +7,7 @@ use seek::{SeekStrategy, partition_point};
 const RUN: usize = 1024;
 
 // What is recorded of a target.
-#[derive(Drop)]
+#[derive(Clone, Copy)]
 struct Told {
     target: u64,
     offset: u64,

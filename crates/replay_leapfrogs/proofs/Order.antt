@@ -3,7 +3,7 @@ use Rattle.std.proofs.Common.{◌≡◌, ℕ, zero, suc, ◌+◌, ◌<◌, ◌�
 use native.Mathlib.Decide.{ℕ_discrete}
 use Rattle.relation.specs.Lists.{◌∈◌, not_in_nil, in_cons, Ascends, anone, amore}
 use Rattle.leapfrog_search.specs.declared.Landed.{Landed}
-use Rattle.leapfrog_search.specs.declared.Landed.TheVariants.{Key, Nothing}
+use Rattle.leapfrog_search.specs.declared.Landed.TheVariants.{Key}
 use Rattle.ring_sort.specs.Sorted.{key_at}
 use Rattle.leapfrog_search.specs.Leapfrog.{Ready, Agreed, Ended}
 use Rattle.leapfrog_join.proofs.Laws.{order_apart, agreed_here}

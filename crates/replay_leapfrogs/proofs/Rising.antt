@@ -1,5 +1,5 @@
 -- A run of the pool that is tested key by key: its front ascends, and no key of it is above the last.
-use Rattle.std.proofs.Common.{◌≡◌, ℕ, suc, ◌+◌, ◌-◌, ◌<◌, ◌≤◌, ◌⊎◌, List, [], ◌∷◌, ◌++◌, length, get_or, take, drop, sym, refl, ap, ◌∙◌, subst, ⊎_elim, arith, length-drop, get_or-drop, take-suc}
+use Rattle.std.proofs.Common.{◌≡◌, ℕ, suc, ◌+◌, ◌-◌, ◌<◌, ◌≤◌, List, [], ◌∷◌, ◌++◌, length, get_or, take, drop, sym, refl, ap, ◌∙◌, subst, ⊎_elim, arith, length-drop, get_or-drop, take-suc}
 use mathlib.Core.List.Memᴰ
 use Rattle.relation.specs.Lists.{◌∈◌, not_in_nil, Ascends, anone, amore}
 use Rattle.relation.proofs.Lists.{ascends_append}

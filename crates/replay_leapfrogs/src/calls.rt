@@ -14,7 +14,7 @@ use std::num::wrapping_add_u64;
 
 // Of a call: which it is (0 init, 1 next, 2 seek) and its target; whether a key was found, the key, the seeks, and how far each run has gone then. And the place
 // behind all that.
-#[derive(Drop)]
+#[derive(Clone, Copy)]
 struct Told {
     at: usize,
     kind: u64,

@@ -2,6 +2,8 @@
 //
 // data/leapfrogs is made by `record` (rust/compare) and starts with the number of its cases; docs/REPLAY.md says what is in it. The gate holds the counts to
 // the file `stdout`. It is a program of its own, since these calls ask something of their caller, which is proved here.
+#![tactic(auto)]
+
 ghost use Rattle.leapfrog_search.specs.Leapfrog.{Ready};
 ghost use Rattle.replay_leapfrogs.specs.Runs.{in_order};
 
@@ -16,6 +18,7 @@ use cases::reader::{NOWHERE, number};
 use cases::tally::Tally;
 use query::MAX_ATOMS;
 use seek::SeekStrategy;
+use std::io;
 
 // The calls of a case under each strategy.
 fn walks(
@@ -86,17 +89,18 @@ fn each_case(text: &[u8], start: Tally, count: u64) -> Tally {
     tally
 }
 
-fn replayed(text: &[u8]) {
+fn replayed(rt: &impl Print, text: &[u8]) -> io::Result<()> {
     let count = number(text, 0);
     let tally = each_case(text, Tally::new(count.at), count.word);
-    tally.closed(text).print(b"leapfrogs", count.word);
+    tally.closed(text).print(rt, "leapfrogs", count.word)
 }
 
-fn main() {
+fn main(rt: HostRuntime) -> io::Result<()> {
     let mut text = room();
-    let loaded = load(b"leapfrogs", &mut text);
+    let loaded = load(&rt, "leapfrogs", &mut text)?;
     if loaded.is_there {
         let n = cut_bytes(&text, loaded.len);
-        replayed(&text[..n]);
+        replayed(&rt, &text[..n])?;
     }
+    Ok(())
 }

@@ -2,6 +2,8 @@
 //
 // Row i's key in the last layer stands at place i; the place of its key in a layer above is that of the parent, which is sought among the intervals by halves. So no
 // place has to be kept beside the row's number.
+#![tactic(auto)]
+
 ghost use Rattle.std.specs.Prelude.{◌≡◌, true, [], ◌<◌, get_or};
 ghost use Rattle.relation.specs.Paths.{owner};
 ghost use Rattle.column_trie.specs.Table.{layer_in, rows_in, data_len_at, undamaged};

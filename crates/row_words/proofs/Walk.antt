@@ -1,14 +1,13 @@
 -- The words of the first rows, and one more by the path.
-use Prim.Native.Nat.{ℕ, zero, suc, ◌+◌, ◌-◌, ◌≤◌, ◌<◌}
-use mathlib.Core.Path.{◌≡◌, refl, sym, ap, ◌∙◌, subst}
+use Prim.Native.Nat.{ℕ, ◌+◌, ◌≤◌, ◌<◌}
+use mathlib.Core.Path.{◌≡◌, sym, ap, ◌∙◌, subst}
 use mathlib.Core.List.{List, []}
 use native.Mathlib.Omega.{arith}
 use native.Mathlib.Decide.{ℕ_discrete}
-use lib.ListN.{length, get_or, set, length-set}
+use lib.ListN.{length, get_or, set}
 use lib.Seq.{get_or-set_same, get_or-set_other}
-use Rattle.column_trie.specs.Limits.{max_arity}
 use Rattle.column_trie.specs.Pool.{spot}
-use Rattle.column_trie.specs.Table.{rows_in, layers_in, data_len_at, Undamaged}
+use Rattle.column_trie.specs.Table.{rows_in, layers_in, Undamaged}
 use Rattle.column_trie.specs.declared.ColumnTrie.{ColumnTrie}
 use Rattle.column_trie.proofs.Damage.{undamaged_told}
 use Rattle.column_trie.proofs.Layers.{Whole}
@@ -16,7 +15,7 @@ use Rattle.column_trie.proofs.Tables.{holds}
 use Rattle.row_path.specs.Path.{OnPath}
 use Rattle.row_path.proofs.Keys.{KeyAt, key_on}
 use Rattle.permuted_rows.specs.Legible.{Legible}
-use Rattle.permuted_rows.specs.Packed.{number_of, place_of, Packed}
+use Rattle.permuted_rows.specs.Packed.{number_of, Packed}
 use Rattle.row_words.specs.Words.{Wordable, Worded, AllPacked}
 
 -- the first k words are those of the first k rows

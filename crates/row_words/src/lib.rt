@@ -1,4 +1,6 @@
 // Internal: makes the words that stand for a table's rows with their columns in another order (crate permuted_rows), by a walk over the rows that seeks nothing.
+#![tactic(auto)]
+
 ghost use Rattle.std.specs.Prelude.{◌≡◌, ℕ, ◌≤◌, ◌<◌, length, get_or};
 ghost use Rattle.column_trie.specs.Limits.{max_arity};
 ghost use Rattle.permuted_rows.specs.Legible.{Legible};

@@ -1,11 +1,12 @@
 // What the programs print a line with. For the programs only.
 #![tactic(auto)]
-use libc::STDOUT_FILENO;
 
-pub fn text(words: &[u8]) {
-    io::write_all(STDOUT_FILENO, words);
+use std::io;
+
+pub fn text(rt: &impl Print, words: &[u8]) -> io::Result<()> {
+    rt.write_all(words)
 }
 
-pub fn number(n: u64) {
-    io::print_decimal(STDOUT_FILENO, n);
+pub fn number(rt: &impl Print, n: u64) -> io::Result<()> {
+    rt.print(n)
 }

@@ -1,7 +1,7 @@
 -- A table whose words hold a relation: every undamaged table does, its own rows; and what its groups are, in words of prefixes and keys. Interval i
 -- at depth d is that of the i-th beginning of d words, its group is the keys under that beginning, and the place of a key in the layer is the place
 -- of its longer beginning, so the interval of its children.
-use Prim.Native.Nat.{ℕ, zero, suc, ◌+◌, ◌-◌, ◌≤◌, ◌<◌}
+use Prim.Native.Nat.{ℕ, zero, suc, ◌+◌, ◌≤◌, ◌<◌}
 use mathlib.Core.Path.{◌≡◌, refl, sym, ap, ◌∙◌, subst}
 use mathlib.Core.Logic.{⊎_elim}
 use mathlib.Core.Bool.{true, ◌&&◌}

@@ -12,6 +12,7 @@ use Rattle.relation.specs.Lists.{◌∈◌, hd, tl, not_in_nil}
 use Rattle.relation.specs.Exactly.{Exactly}
 use Rattle.relation.proofs.Lists.{get_or_in, in_get_or}
 use Rattle.relation.specs.Layers.{keys_under}
+use Rattle.relation.specs.Runs.{from}
 use Rattle.relation.proofs.Tests.{not_both}
 use Rattle.column_trie.specs.Table.{Undamaged, rows_in}
 use Rattle.column_trie.specs.declared.ColumnTrie.{ColumnTrie}
@@ -24,7 +25,7 @@ use Rattle.seek.specs.Seek.{seek_of}
 use Rattle.seek.specs.Offset.{NonFalling, Leading}
 use Rattle.seek.specs.declared.SeekStrategy.{SeekStrategy}
 use Rattle.seek.proofs.Laws.{leading_one, a_hit_is_a_key, a_key_is_hit}
-use Rattle.trie_iterator.specs.TrieIterator.{State, root, level, left, path, opens, Call, Key, Next, AtEnd, Open, Up, Seek, among_siblings, Answer, says, refused, answer, after, answers, follow}
+use Rattle.trie_iterator.specs.TrieIterator.{State, root, level, left, tail, path, opens, Call, Key, Next, AtEnd, Open, Up, Seek, among_siblings, Answer, says, refused, answer, after, answers, follow}
 use Rattle.trie_iterator.specs.Cursor.{heard, moved, heard_all, moved_all, Layered, Stands, at_the_root, at_level, Follows, Stopped}
 use Rattle.trie_iterator.proofs.Held.{undamaged_layered}
 use Rattle.trie_iterator.proofs.Standing.{seek_is}
@@ -54,8 +55,8 @@ module _ {pool : List ℕ} {t : ColumnTrie} {rows : List Row} (H : Layered pool 
   pub follows : {s : State} {it : ColumnTrieIter} → Stands t.arity rows s it → (cs : List Call) → Follows pool t rows s it cs
   unfolding heard_all moved_all answers follow
   follows w [] = record { answers = refl; stands = w }
-  follows w (c ∷ cs) =
-      let f = follows (same_place w c) cs in
+  follows {s = s} {it = it} w (c ∷ cs) =
+      let f = follows {s = after t.arity rows s c} (same_place w c) cs in
       record { answers = ap₂ {C = List Answer} (λ x xs. x ∷ xs) (same_answer w c) f.answers; stands = f.stands }
 
   -- ---- up and seek
@@ -101,12 +102,12 @@ module _ {pool : List ℕ} {t : ColumnTrie} {rows : List Row} (H : Layered pool 
   along : {s : State} {ks : List ℕ} {it : ColumnTrieIter} → Stands t.arity rows (level ks s) it → (ds : List Call) → ((c : Call) → c ∈ ds → among_siblings c ≡ true) → (js : List ℕ) × Stands t.arity rows (level js s) (moved_all pool t it ds)
   unfolding moved_all
   along {ks = ks} w [] f = (ks, w)
-  along w (Key ∷ ds) f = along (same_place w Key) ds (λ c m. f c (tl m))
-  along w (Next ∷ ds) f = along (same_place w Next) ds (λ c m. f c (tl m))
-  along w (AtEnd ∷ ds) f = along (same_place w AtEnd) ds (λ c m. f c (tl m))
+  along {s = s} {ks = ks} {it = it} w (Key ∷ ds) f = along {s = s} {ks = ks} {it = moved pool t it Key} (same_place w Key) ds (λ c m. f c (tl m))
+  along {s = s} {ks = ks} {it = it} w (Next ∷ ds) f = along {s = s} {ks = tail ks} {it = moved pool t it Next} (same_place w Next) ds (λ c m. f c (tl m))
+  along {s = s} {ks = ks} {it = it} w (AtEnd ∷ ds) f = along {s = s} {ks = ks} {it = moved pool t it AtEnd} (same_place w AtEnd) ds (λ c m. f c (tl m))
   along w (Open ∷ ds) f = not_both false (f Open (hd refl)) refl
   along w (Up ∷ ds) f = not_both false (f Up (hd refl)) refl
-  along w (Seek x target ∷ ds) f = along (same_place w (Seek x target)) ds (λ c m. f c (tl m))
+  along {s = s} {ks = ks} {it = it} w (Seek x target ∷ ds) f = along {s = s} {ks = from target ks} {it = moved pool t it (Seek x target)} (same_place w (Seek x target)) ds (λ c m. f c (tl m))
 
   -- an open that said yes went down
   opened_stands : {s : State} {it : ColumnTrieIter} → Stands t.arity rows s it → (open_of pool t it).opened ≡ true → Stands t.arity rows (level (keys_under (path s) rows) s) (open_of pool t it).iter

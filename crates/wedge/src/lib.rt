@@ -1,6 +1,8 @@
 // A list that lies in the pool gains a word or loses one, for insert and removal. For one more, the words behind its place move one up, and where they
 // are intervals each becomes one more: the Rust's `Vec::insert`, inside the list's own room. For one less they move down, and become one less; the word
 // that is then past the list's end stays as it was.
+#![tactic(auto)]
+
 ghost use Rattle.std.specs.Prelude.{◌≡◌, ◌∷◌, ◌++◌, map, suc, ◌+◌, ◌-◌, ◌≤◌, ◌<◌, length, take, drop};
 ghost use Rattle.column_trie.specs.Pool.{lay};
 ghost use Rattle.wedge.specs.Shift.{SmallFrom, PositiveFrom, lessened};

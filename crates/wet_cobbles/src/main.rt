@@ -8,6 +8,8 @@
 //
 // Then the lesson's slope, whose stretches list by grade, the steepest descent first. A grade that is joined to a tyre's key is refused, since a column
 // says of which kind it is.
+#![tactic(auto)]
+
 use column_trie::ColumnTrie;
 use column_trie_build::build;
 use grade::word_of;
@@ -15,6 +17,7 @@ use join_query::{Atom, Query, Tables};
 use leapfrog_triejoin::{Joined, join};
 use seek::SeekStrategy;
 use show::{number, text};
+use std::io;
 
 // What a kind is multiplied by, 2^32: what is left of a word below it is what a cut leaves.
 const CUT: u64 = 4294967296;
@@ -33,13 +36,14 @@ const SUMMER: u64 = 17179869205;
 const ROW: usize = 4;
 
 // Says that a call was refused, and by which number; nothing where it was not. A refused build's table is all zeros, so the join is then refused too.
-fn told(what: &[u8], refusal: u64) {
+fn told(rt: &impl Print, what: &[u8], refusal: u64) -> io::Result<()> {
     if refusal != 0 {
-        text(what);
-        text(b": refused with ");
-        number(refusal);
-        text(b"\n");
+        text(rt, what)?;
+        text(rt, b": refused with ")?;
+        number(rt, refusal)?;
+        text(rt, b"\n")?;
     }
+    Ok(())
 }
 
 // ---- the tables, in one pool; over cut keys where `cut` says so
@@ -54,33 +58,33 @@ fn key(packed: u64, cut: bool) -> u64 {
 }
 
 // The lesson's surface.
-fn surfaces(cut: bool, pool: &mut [u64]) -> ColumnTrie {
+fn surfaces(rt: &impl Print, cut: bool, pool: &mut [u64]) -> io::Result<ColumnTrie> {
     let mut rows = [key(WET_COBBLES, cut)];
     let built = build(&mut rows, pool, 0, 1, 8, plain());
-    told(b"the surfaces", built.number);
-    built.table
+    told(rt, b"the surfaces", built.number)?;
+    Ok(built.table)
 }
 
 // The lesson's tyre.
-fn tyres(cut: bool, pool: &mut [u64]) -> ColumnTrie {
+fn tyres(rt: &impl Print, cut: bool, pool: &mut [u64]) -> io::Result<ColumnTrie> {
     let mut rows = [key(ALL_SEASON, cut)];
     let built = build(&mut rows, pool, 16, 1, 8, plain());
-    told(b"the tyres", built.number);
-    built.table
+    told(rt, b"the tyres", built.number)?;
+    Ok(built.table)
 }
 
 // Up to which speed, in km/h, a band reaches on a surface.
-fn bands(cut: bool, pool: &mut [u64]) -> ColumnTrie {
+fn bands(rt: &impl Print, cut: bool, pool: &mut [u64]) -> io::Result<ColumnTrie> {
     let wet = key(WET_COBBLES, cut);
     let icy = key(ICY_COBBLES, cut);
     let mut rows = [wet, 20, wet, 40, wet, 60, icy, 20, icy, 40, icy, 60];
     let built = build(&mut rows, pool, 32, 2, 8, plain());
-    told(b"the bands", built.number);
-    built.table
+    told(rt, b"the bands", built.number)?;
+    Ok(built.table)
 }
 
 // Surface, tyre, band, friction in thousandths.
-fn frictions(cut: bool, pool: &mut [u64]) -> ColumnTrie {
+fn frictions(rt: &impl Print, cut: bool, pool: &mut [u64]) -> io::Result<ColumnTrie> {
     let wet = key(WET_COBBLES, cut);
     let icy = key(ICY_COBBLES, cut);
     let all = key(ALL_SEASON, cut);
@@ -90,21 +94,21 @@ fn frictions(cut: bool, pool: &mut [u64]) -> ColumnTrie {
         430, wet, sum, 60, 360, icy, all, 20, 190, icy, all, 40, 160, icy, all, 60, 130,
     ];
     let built = build(&mut rows, pool, 64, 4, 10, plain());
-    told(b"the frictions", built.number);
-    built.table
+    told(rt, b"the frictions", built.number)?;
+    Ok(built.table)
 }
 
-fn tables(cut: bool, pool: &mut [u64]) -> Tables {
+fn tables(rt: &impl Print, cut: bool, pool: &mut [u64]) -> io::Result<Tables> {
     let mut tables = [ColumnTrie::empty(0, 0, 0); Tables::MAX_TABLES];
-    let surface = surfaces(cut, pool);
-    let tyre = tyres(cut, pool);
-    let band = bands(cut, pool);
-    let friction = frictions(cut, pool);
+    let surface = surfaces(rt, cut, pool)?;
+    let tyre = tyres(rt, cut, pool)?;
+    let band = bands(rt, cut, pool)?;
+    let friction = frictions(rt, cut, pool)?;
     tables[0] = surface;
     tables[1] = tyre;
     tables[2] = band;
     tables[3] = friction;
-    Tables { count: 4, tables }
+    Ok(Tables { count: 4, tables })
 }
 
 // ---- the join
@@ -137,18 +141,18 @@ fn lesson() -> Query {
 }
 
 // Joins the lesson's tables; the answer is how many rows stand in the window.
-fn joined(cut: bool, window: &mut [u64]) -> usize {
+fn joined(rt: &impl Print, cut: bool, window: &mut [u64]) -> io::Result<usize> {
     let mut pool = [0u64; 144];
-    let given = tables(cut, &mut pool);
+    let given = tables(rt, cut, &mut pool)?;
     let came = join(SeekStrategy::Galloping, &pool, given, lesson(), window);
-    told(b"the join", came.number);
-    came.rows
+    told(rt, b"the join", came.number)?;
+    Ok(came.rows)
 }
 
 // ---- a school's own frictions
 
 // What a school measured itself: wet cobbles, up to 40 km/h. The tables of `tables` end before it.
-fn school_frictions(pool: &mut [u64]) -> ColumnTrie {
+fn school_frictions(rt: &impl Print, pool: &mut [u64]) -> io::Result<ColumnTrie> {
     let mut rows = [
         WET_COBBLES,
         ALL_SEASON,
@@ -160,8 +164,8 @@ fn school_frictions(pool: &mut [u64]) -> ColumnTrie {
         450,
     ];
     let built = build(&mut rows, pool, 144, 4, 8, plain());
-    told(b"the school's frictions", built.number);
-    built.table
+    told(rt, b"the school's frictions", built.number)?;
+    Ok(built.table)
 }
 
 // As `lesson`, on any surface, and with the school's frictions, table 4, laid over the maker's, table 3.
@@ -186,10 +190,10 @@ fn any_surface() -> Query {
 }
 
 // Joins the lesson's tyre on any surface.
-fn school_joined(window: &mut [u64]) {
+fn school_joined(rt: &impl Print, window: &mut [u64]) -> io::Result<()> {
     let mut pool = [0u64; 208];
-    let given = tables(false, &mut pool);
-    let own = school_frictions(&mut pool);
+    let given = tables(rt, false, &mut pool)?;
+    let own = school_frictions(rt, &mut pool)?;
     let mut all = given.tables;
     all[4] = own;
     let with_own = Tables {
@@ -203,18 +207,18 @@ fn school_joined(window: &mut [u64]) {
         any_surface(),
         window,
     );
-    told(b"the school's join", came.number);
+    told(rt, b"the school's join", came.number)
 }
 
 // ---- the lesson's slope
 
 // Grade, in thousandths, and stretch: level, downhill, uphill. The first column is a grade.
-fn slope(pool: &mut [u64]) -> ColumnTrie {
+fn slope(rt: &impl Print, pool: &mut [u64]) -> io::Result<ColumnTrie> {
     let mut rows = [word_of(0), 1, word_of(-60), 2, word_of(45), 3];
     let grade = [true, false, false, false, false, false, false, false];
     let built = build(&mut rows, pool, 0, 2, 4, grade);
-    told(b"the slope", built.number);
-    built.table
+    told(rt, b"the slope", built.number)?;
+    Ok(built.table)
 }
 
 // Variables: grade 0, stretch 1. The first atom is the slope; the second would have a tyre's key be a grade.
@@ -232,21 +236,21 @@ fn by_grade(atom_count: usize) -> Query {
 }
 
 // Joins the slope alone, or with the tyres.
-fn slope_joined(atom_count: usize, window: &mut [u64]) -> Joined {
+fn slope_joined(rt: &impl Print, atom_count: usize, window: &mut [u64]) -> io::Result<Joined> {
     let mut pool = [0u64; 32];
     let mut tables = [ColumnTrie::empty(0, 0, 0); Tables::MAX_TABLES];
-    let stretches = slope(&mut pool);
-    let tyre = tyres(false, &mut pool);
+    let stretches = slope(rt, &mut pool)?;
+    let tyre = tyres(rt, false, &mut pool)?;
     tables[0] = stretches;
     tables[1] = tyre;
     let given = Tables { count: 2, tables };
-    join(
+    Ok(join(
         SeekStrategy::Galloping,
         &pool,
         given,
         by_grade(atom_count),
         window,
-    )
+    ))
 }
 
 // ---- what is printed
@@ -268,156 +272,183 @@ fn first_of(window: &[u64], rows: usize, band: u64) -> u64 {
     0
 }
 
-fn surface_name(surface: u64) {
+fn surface_name(rt: &impl Print, surface: u64) -> io::Result<()> {
     if surface == WET_COBBLES {
-        text(b"wet cobbles");
+        text(rt, b"wet cobbles")
     } else {
-        text(b"icy cobbles");
+        text(rt, b"icy cobbles")
     }
 }
 
-fn tyre_name(tyre: u64) {
+fn tyre_name(rt: &impl Print, tyre: u64) -> io::Result<()> {
     if tyre == ALL_SEASON {
-        text(b"all-season");
+        text(rt, b"all-season")
     } else {
-        text(b"summer    ");
+        text(rt, b"summer    ")
     }
 }
 
 // Thousandths, as a number with three digits behind the point.
-fn thousandths(n: u64) {
-    number(n / 1000);
-    text(b".");
+fn thousandths(rt: &impl Print, n: u64) -> io::Result<()> {
+    number(rt, n / 1000)?;
+    text(rt, b".")?;
     let rest = n % 1000;
     if rest < 100 {
-        text(b"0");
+        text(rt, b"0")?;
     }
     if rest < 10 {
-        text(b"0");
+        text(rt, b"0")?;
     }
-    number(rest);
+    number(rt, rest)
 }
 
-fn row(surface: u64, tyre: u64, band: u64, friction: u64) {
-    surface_name(surface);
-    text(b" | ");
-    tyre_name(tyre);
-    text(b" |         ");
-    number(band);
-    text(b" |    ");
-    thousandths(friction);
+fn row(rt: &impl Print, surface: u64, tyre: u64, band: u64, friction: u64) -> io::Result<()> {
+    surface_name(rt, surface)?;
+    text(rt, b" | ")?;
+    tyre_name(rt, tyre)?;
+    text(rt, b" |         ")?;
+    number(rt, band)?;
+    text(rt, b" |    ")?;
+    thousandths(rt, friction)
 }
 
 // A row, and the friction that cut keys would have chosen.
-fn line(surface: u64, tyre: u64, band: u64, right: u64, chosen: u64) {
-    row(surface, tyre, band, right);
-    text(b" | ");
-    thousandths(chosen);
+fn line(
+    rt: &impl Print,
+    surface: u64,
+    tyre: u64,
+    band: u64,
+    right: u64,
+    chosen: u64,
+) -> io::Result<()> {
+    row(rt, surface, tyre, band, right)?;
+    text(rt, b" | ")?;
+    thousandths(rt, chosen)?;
     if chosen == right {
-        text(b"\n");
+        text(rt, b"\n")
     } else {
-        text(b", another surface's\n");
+        text(rt, b", another surface's\n")
     }
 }
 
 // The rows, and for each the first of the same band among those joined over cut keys.
-fn table(window: &[u64], rows: usize, over_cut: &[u64], rows_cut: usize) {
+fn table(
+    rt: &impl Print,
+    window: &[u64],
+    rows: usize,
+    over_cut: &[u64],
+    rows_cut: usize,
+) -> io::Result<()> {
     let mut at = 0;
     let mut i = 0;
     while i < rows {
         if window.len() - at < ROW {
-            return;
+            return Ok(());
         }
         let band = window[at + 2];
         line(
+            rt,
             window[at],
             window[at + 1],
             band,
             window[at + 3],
             first_of(over_cut, rows_cut, band),
-        );
+        )?;
         at += ROW;
         i += 1;
     }
+    Ok(())
 }
 
 // The five rows over the school's frictions and the maker's.
-fn school_rows() {
-    text(b"\nA school's own frictions of wet cobbles over the maker's\n\n");
+fn school_rows(rt: &impl Print) -> io::Result<()> {
+    text(
+        rt,
+        b"\nA school's own frictions of wet cobbles over the maker's\n\n",
+    )?;
     let mut window = [0u64; 20];
-    school_joined(&mut window);
-    row(window[0], window[1], window[2], window[3]);
-    text(b"\n");
-    row(window[4], window[5], window[6], window[7]);
-    text(b"\n");
-    row(window[8], window[9], window[10], window[11]);
-    text(b"\n");
-    row(window[12], window[13], window[14], window[15]);
-    text(b"\n");
-    row(window[16], window[17], window[18], window[19]);
-    text(b"\n");
+    school_joined(rt, &mut window)?;
+    row(rt, window[0], window[1], window[2], window[3])?;
+    text(rt, b"\n")?;
+    row(rt, window[4], window[5], window[6], window[7])?;
+    text(rt, b"\n")?;
+    row(rt, window[8], window[9], window[10], window[11])?;
+    text(rt, b"\n")?;
+    row(rt, window[12], window[13], window[14], window[15])?;
+    text(rt, b"\n")?;
+    row(rt, window[16], window[17], window[18], window[19])?;
+    text(rt, b"\n")
 }
 
 // The grade of a word, with its sign: words ascend as grades do, so those below the word of 0 are downhill.
-fn signed(word: u64) {
+fn signed(rt: &impl Print, word: u64) -> io::Result<()> {
     let level = word_of(0);
     if word < level {
-        text(b"-");
-        number(level - word);
+        text(rt, b"-")?;
+        number(rt, level - word)
     } else {
-        number(word - level);
+        number(rt, word - level)
     }
 }
 
-fn stretch_line(grade: u64, stretch: u64) {
-    text(b"stretch ");
-    number(stretch);
-    text(b": ");
-    signed(grade);
-    text(b"\n");
+fn stretch_line(rt: &impl Print, grade: u64, stretch: u64) -> io::Result<()> {
+    text(rt, b"stretch ")?;
+    number(rt, stretch)?;
+    text(rt, b": ")?;
+    signed(rt, grade)?;
+    text(rt, b"\n")
 }
 
 // The three stretches as the join lists them, and what comes of a grade that is joined to a tyre.
-fn stretches() {
-    text(b"\nThe lesson's slope, by grade in thousandths\n\n");
+fn stretches(rt: &impl Print) -> io::Result<()> {
+    text(rt, b"\nThe lesson's slope, by grade in thousandths\n\n")?;
     let mut window = [0u64; 6];
-    let alone = slope_joined(1, &mut window);
-    told(b"the slope's join", alone.number);
-    stretch_line(window[0], window[1]);
-    stretch_line(window[2], window[3]);
-    stretch_line(window[4], window[5]);
-    text(b"\n");
-    let with_tyres = slope_joined(2, &mut window);
-    told(b"A grade joined to a tyre", with_tyres.number);
+    let alone = slope_joined(rt, 1, &mut window)?;
+    told(rt, b"the slope's join", alone.number)?;
+    stretch_line(rt, window[0], window[1])?;
+    stretch_line(rt, window[2], window[3])?;
+    stretch_line(rt, window[4], window[5])?;
+    text(rt, b"\n")?;
+    let with_tyres = slope_joined(rt, 2, &mut window)?;
+    told(rt, b"A grade joined to a tyre", with_tyres.number)
 }
 
-fn keys() {
-    text(b"A surface's key is a 64-bit word: wet cobbles ");
-    number(WET_COBBLES);
-    text(b", icy cobbles ");
-    number(ICY_COBBLES);
-    text(b".\nCut to 32 bits they are ");
-    number(WET_COBBLES % CUT);
-    text(b" and ");
-    number(ICY_COBBLES % CUT);
-    text(b".\n\n");
+fn keys(rt: &impl Print) -> io::Result<()> {
+    text(rt, b"A surface's key is a 64-bit word: wet cobbles ")?;
+    number(rt, WET_COBBLES)?;
+    text(rt, b", icy cobbles ")?;
+    number(rt, ICY_COBBLES)?;
+    text(rt, b".\nCut to 32 bits they are ")?;
+    number(rt, WET_COBBLES % CUT)?;
+    text(rt, b" and ")?;
+    number(rt, ICY_COBBLES % CUT)?;
+    text(rt, b".\n\n")
 }
 
-fn main() {
-    text(b"The friction of a lesson on wet cobbles with a tyre for all seasons, by speed band\n\n");
-    keys();
+fn main(rt: HostRuntime) -> io::Result<()> {
+    text(
+        &rt,
+        b"The friction of a lesson on wet cobbles with a tyre for all seasons, by speed band\n\n",
+    )?;
+    keys(&rt)?;
     let mut window = [0u64; 64];
-    let rows = joined(false, &mut window);
+    let rows = joined(&rt, false, &mut window)?;
     let mut over_cut = [0u64; 64];
-    let rows_cut = joined(true, &mut over_cut);
-    text(b"surface     | tyre       | up to km/h | friction | with keys cut to 32 bits\n");
-    text(b"------------+------------+------------+----------+-------------------------\n");
-    table(&window, rows, &over_cut, rows_cut);
-    text(b"\nRows joined: ");
-    number(rows as u64);
-    text(b"; over cut keys: ");
-    number(rows_cut as u64);
-    text(b"\n");
-    school_rows();
-    stretches();
+    let rows_cut = joined(&rt, true, &mut over_cut)?;
+    text(
+        &rt,
+        b"surface     | tyre       | up to km/h | friction | with keys cut to 32 bits\n",
+    )?;
+    text(
+        &rt,
+        b"------------+------------+------------+----------+-------------------------\n",
+    )?;
+    table(&rt, &window, rows, &over_cut, rows_cut)?;
+    text(&rt, b"\nRows joined: ")?;
+    number(&rt, rows as u64)?;
+    text(&rt, b"; over cut keys: ")?;
+    number(&rt, rows_cut as u64)?;
+    text(&rt, b"\n")?;
+    school_rows(&rt)?;
+    stretches(&rt)
 }

@@ -2,6 +2,8 @@
 //
 // Each file holds the cases of one kind, and starts with their number; docs/WORKED.md says how they are written. A new case is a few lines there and
 // costs no proof. The gate holds the counts to the file `stdout`.
+#![tactic(auto)]
+
 ghost use Rattle.std.specs.Prelude.{◌≡◌, length};
 
 mod choices;
@@ -20,12 +22,14 @@ use cases::reader::{NOWHERE, cut, number};
 use cases::tally::{Tally, print_wrong};
 use lists::fill;
 use seek::SeekStrategy;
+use std::io;
+use std::rt::Files;
 
 // Words of each of the two lists that a case can start with.
 const WORDS: usize = 131074;
 
 // Cases that start with one list, which is only read.
-#[derive(Drop)]
+#[derive(Clone, Copy)]
 enum OfOne {
     Seeks,
     Listings,
@@ -33,7 +37,7 @@ enum OfOne {
 }
 
 // Cases that start with two lists.
-#[derive(Drop)]
+#[derive(Clone, Copy)]
 enum OfTwo {
     Builds,
     Inserts,
@@ -41,7 +45,7 @@ enum OfTwo {
     Joins(SeekStrategy),
 }
 
-#[derive(Drop)]
+#[derive(Clone, Copy)]
 enum Kind {
     Grades,
     Empties,
@@ -115,34 +119,42 @@ fn case(kind: Kind, text: &[u8], tally: Tally, pool: &mut [u64], words: &mut [u6
 }
 
 // A case with a wrong answer is named, and so is one that isn't written as it must be.
-fn name_wrong(name: &[u8], number: u64, before: Tally, after: Tally) {
+fn name_wrong(
+    rt: &impl Print,
+    name: &str,
+    number: u64,
+    before: Tally,
+    after: Tally,
+) -> io::Result<()> {
     if after.wrong != before.wrong || after.at == NOWHERE {
-        print_wrong(name, number);
+        print_wrong(rt, name, number)?;
     }
+    Ok(())
 }
 
 // So many cases, as far as the text goes.
 fn each_case(
+    rt: &impl Print,
     kind: Kind,
-    name: &[u8],
+    name: &str,
     text: &[u8],
     start: Tally,
     count: u64,
     pool: &mut [u64],
     words: &mut [u64],
-) -> Tally {
+) -> io::Result<Tally> {
     let mut tally = start;
     let mut left = count;
     while 0 < left {
         if tally.at == NOWHERE {
-            return tally;
+            return Ok(tally);
         }
         let before = tally;
         tally = case(kind, text, before, pool, words);
         left -= 1;
-        name_wrong(name, count - left, before, tally);
+        name_wrong(rt, name, count - left, before, tally)?;
     }
-    tally
+    Ok(tally)
 }
 
 // The `ensures` gives only the length, which lending the array as a slice needs.
@@ -152,32 +164,35 @@ fn room() -> [u64; WORDS]
     [0; WORDS]
 }
 
-fn told(kind: Kind, name: &[u8], text: &[u8]) {
+fn told(rt: &impl Print, kind: Kind, name: &str, text: &[u8]) -> io::Result<()> {
     let mut pool = room();
     let mut words = room();
     let count = number(text, 0);
     let start = Tally::new(count.at);
-    let tally = each_case(kind, name, text, start, count.word, &mut pool, &mut words);
-    tally.closed(text).print(name, count.word);
+    let tally = each_case(
+        rt, kind, name, text, start, count.word, &mut pool, &mut words,
+    )?;
+    tally.closed(text).print(rt, name, count.word)
 }
 
-fn work(kind: Kind, name: &[u8]) {
+fn work<R: Files + Print + Eprint>(rt: &R, kind: Kind, name: &str) -> io::Result<()> {
     let mut text = cases::file::room();
-    let loaded = load(name, &mut text);
+    let loaded = load(rt, name, &mut text)?;
     if loaded.is_there {
         let n = cut_bytes(&text, loaded.len);
-        told(kind, name, &text[..n]);
+        told(rt, kind, name, &text[..n])?;
     }
+    Ok(())
 }
 
-fn main() {
-    work(Kind::OfOne(OfOne::Seeks), b"seeks");
-    work(Kind::Grades, b"grades");
-    work(Kind::Empties, b"empties");
-    work(Kind::OfTwo(OfTwo::Builds), b"builds");
-    work(Kind::OfTwo(OfTwo::Inserts), b"inserts");
-    work(Kind::OfTwo(OfTwo::Removals), b"removals");
-    work(Kind::OfOne(OfOne::Listings), b"listings");
-    work(Kind::OfOne(OfOne::Cursors), b"cursors");
-    work(Kind::Joins, b"joins");
+fn main(rt: HostRuntime) -> io::Result<()> {
+    work(&rt, Kind::OfOne(OfOne::Seeks), "seeks")?;
+    work(&rt, Kind::Grades, "grades")?;
+    work(&rt, Kind::Empties, "empties")?;
+    work(&rt, Kind::OfTwo(OfTwo::Builds), "builds")?;
+    work(&rt, Kind::OfTwo(OfTwo::Inserts), "inserts")?;
+    work(&rt, Kind::OfTwo(OfTwo::Removals), "removals")?;
+    work(&rt, Kind::OfOne(OfOne::Listings), "listings")?;
+    work(&rt, Kind::OfOne(OfOne::Cursors), "cursors")?;
+    work(&rt, Kind::Joins, "joins")
 }

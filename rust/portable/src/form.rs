@@ -1,4 +1,4 @@
-//! The text of MIR as nested forms: what `rt mir` prints, before it means anything.
+//! The text of MIR as nested forms: what `portable/mir` prints, before it means anything.
 use crate::Refused;
 
 #[derive(Clone, Debug, PartialEq)]

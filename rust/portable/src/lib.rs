@@ -1,4 +1,4 @@
-//! Translates MIR, which `rt mir` prints and the proofs are about, to one C99 file with the functions that a header declares.
+//! Translates MIR, which `portable/mir` prints and the proofs are about, to one C99 file with the functions that a header declares.
 //!
 //! What MIR means is the kit's `Mir/Syntax.antt`, `Mir/Val.antt`, `Prog/Memory.antt` and `Prog/Machine.antt`. In C
 //! - integers are unsigned and as wide as in MIR; sums of narrow ones are made at 64 bits and cut, and a signed comparison moves both sides by half the

@@ -1,4 +1,4 @@
-//! `portable HEADER CRATES < MIR`: the C file of what `rt mir` prints of some crates, one behind the other, with the header's functions and the names of the
+//! `portable HEADER CRATES < MIR`: the C file of what `portable/mir` prints of some crates, one behind the other, with the header's functions and the names of the
 //! sources below CRATES.
 use portable::{translate, Names};
 use std::error::Error;

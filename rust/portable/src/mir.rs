@@ -142,7 +142,7 @@ impl Program {
     }
 }
 
-/// The programs that `rt mir` prints of one crate or, one behind the other, of several, as one program: what several have must be the same in each, and
+/// The programs that `portable/mir` prints of one crate or, one behind the other, of several, as one program: what several have must be the same in each, and
 /// stands where it is first.
 pub fn read(text: &str) -> Read<Program> {
     let forms = form::read(text)?;

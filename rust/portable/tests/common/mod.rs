@@ -1,4 +1,4 @@
-//! Small MIR texts, as `rt mir` would print them.
+//! Small MIR texts, as `portable/mir` would print them.
 #![allow(dead_code)] // each test takes what it needs
 use portable::{translate, Names};
 

@@ -1,6 +1,5 @@
 -- `cases::excerpt::cut_bytes` counts bytes of the list: so many can be taken.
 use Rattle.std.proofs.Common.{sym, arith, length-take-le, rules}
-
 use borrow.Author.Rules.{rules}
 use Rattle.cases.proofs.excerpt.cut_bytes.Goals as goal
 

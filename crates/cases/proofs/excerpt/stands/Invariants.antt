@@ -1,6 +1,5 @@
 -- `cases::excerpt::stands` is safe and ends: each turn goes one byte on, and n bytes fit behind `from`.
-use Rattle.std.proofs.Common.{◌-◌, rules}
-
+use Rattle.std.proofs.Common.{◌-◌}
 use Rattle.cases.proofs.excerpt.stands.Given as goal
 
 abbrev pub invariant-loop-i : goal.invariant-loop-i

@@ -1,7 +1,6 @@
 -- `cases::file::room` answers as many bytes as its type says: by the law on such lists, since counting them one by one takes seconds.
 use Rattle.std.proofs.Common.{ℕ, sym}
 use lib.ListN.{length-replicate}
-
 use Rattle.cases.proofs.file.room.Goals as goal
 
 pub returns : goal.returns

@@ -1,6 +1,5 @@
 -- `cases::reader::cut` counts words of the list: so many can be taken.
 use Rattle.std.proofs.Common.{sym, arith, length-take-le, rules}
-
 use borrow.Author.Rules.{rules}
 use Rattle.cases.proofs.reader.cut.Goals as goal
 

@@ -1,6 +1,5 @@
 -- `cases::reader::first_digit` is safe and ends: each turn goes one byte on.
-use Rattle.std.proofs.Common.{◌-◌, length, rules}
-
+use Rattle.std.proofs.Common.{◌-◌, length}
 use Rattle.cases.proofs.reader.first_digit.Given as goal
 
 abbrev pub invariant-loop-at : goal.invariant-loop-at

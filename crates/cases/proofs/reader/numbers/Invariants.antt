@@ -1,6 +1,5 @@
 -- `cases::reader::numbers` is safe and ends: each turn fills one word, and there are n.
-use Rattle.std.proofs.Common.{◌≡◌, ◌-◌, length, rules}
-
+use Rattle.std.proofs.Common.{◌≡◌, ◌-◌, length}
 use Rattle.cases.proofs.reader.numbers.Given as goal
 
 abbrev pub invariant-loop-i : goal.invariant-loop-i

@@ -1,0 +1,51 @@
+-- The goals of `add_row` that the check leaves.
+use Prim.Native.Nat.{suc}
+use mathlib.Core.Path.{◌≡◌, refl, ◌∙◌}
+use mathlib.Core.Logic.{inl, inr}
+use native.Mathlib.Omega.{arith}
+use Rattle.relation.proofs.Insert.{rank_of}
+use Rattle.column_trie.specs.Table.{rows_in}
+use Rattle.column_trie.proofs.Layers.{Whole}
+use Rattle.column_trie_insert.proofs.Enters.{ready, growing_first}
+use Rattle.column_trie_insert.proofs.Rows.{Ready, Growing, placed, room_here, grown_sound, grown_long, inside_out, growing_step, grown_words, grown_header}
+use borrow.Author.Rules.{rules}
+use Rattle.column_trie_insert.proofs.add_row.Goals as goal
+use Rattle.column_trie_insert.proofs.add_row.Goals.{Joined-fresh, Start, else-fresh, then-fresh}
+
+whole : (s : Start) → Whole s.args.t
+whole s = record { data_long = search rules; interval_long = search rules }
+
+can : (s : Start) → Ready s.args.pool.now s.args.t (rows_in s.args.pool.now s.args.t) s.args.tuple.now
+can s = ready (whole s) s.requires
+
+-- where the key goes is settled once the arms meet
+settled :
+    (c : Joined-fresh) →
+    Ready c.args.pool.now c.args.t (rows_in c.args.pool.now c.args.t) c.args.tuple.now →
+    Growing c.args.pool.now c.args.t (rows_in c.args.pool.now c.args.t) c.args.tuple.now c.loop-d.pool c.loop-d.out c.loop-d.d c.loop-d.i c.if-fresh.at c.loop-d.fresh ×
+    (c.if-fresh.at ≡ rank_of (rows_in c.args.pool.now c.args.t) c.args.tuple.now (suc c.loop-d.d))
+settled c r =
+    placed r c.loop-d.invariant c.loop-d-test.true c.if-fresh.at
+    (elim c.if-fresh.branch [ then-fresh w ↦ inl (w.if-fresh.true, w.at-is ∙ w.begins-at.ensures) | else-fresh w ↦ inr (w.if-fresh.false, w.at-is) ])
+
+pub loop-d-init : goal.loop-d-init
+loop-d-init c = growing_first (whole (goal.at.loop-d-init c).Start) c.requires _ refl
+
+pub begins-at-requires : goal.begins-at-requires
+begins-at-requires c =
+    (grown_sound (can (goal.at.begins-at-requires c).Start) c.loop-d.invariant, inside_out (can (goal.at.begins-at-requires c).Start) c.loop-d.invariant c.loop-d-test.true)
+
+pub bounds-tuple-d : goal.bounds-tuple-d
+bounds-tuple-d c = omega (arith, c.requires.long)
+
+pub add_layer-out-requires : goal.add_layer-out-requires
+add_layer-out-requires c = let q = settled (goal.at.add_layer-out-requires c).Joined-fresh (can (goal.at.add_layer-out-requires c).Start) in room_here (can (goal.at.add_layer-out-requires c).Start) q.0 c.loop-d-test.true q.1
+
+pub loop-d-preserved : goal.loop-d-preserved
+loop-d-preserved c = let q = settled (goal.at.loop-d-preserved c).Joined-fresh (can (goal.at.loop-d-preserved c).Start) in growing_step (can (goal.at.loop-d-preserved c).Start) q.0 c.loop-d-test.true q.1 c.add_layer-out.ensures
+
+pub shape_of-pool : goal.shape_of-pool
+shape_of-pool c = grown_long (can (goal.at.shape_of-pool c).Start) c.loop-d.invariant
+
+pub returns : goal.returns
+returns c = record { words = grown_words (can (goal.at.returns c).Start) c.loop-d.invariant c.loop-d-test.false; header = grown_header (can (goal.at.returns c).Start) c.loop-d.invariant c.loop-d-test.false }

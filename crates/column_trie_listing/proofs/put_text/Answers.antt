@@ -1,0 +1,56 @@
+-- The goals of `put_text` that the check leaves.
+use Prim.Native.Nat.{ℕ, ◌+◌, ◌<◌}
+use mathlib.Core.Path.{◌≡◌, sym, ap, ◌∙◌}
+use mathlib.Core.List.{◌++◌}
+use native.Mathlib.Omega.{arith}
+use native.Mathlib.Numerals.{add-one}
+use lib.ListN.{length, take}
+use lib.Seq.{take_all}
+use Rattle.relation.specs.Layers.{Layer}
+use Rattle.column_trie.specs.Table.{layers_in, layer_in}
+use Rattle.column_trie.proofs.Header.{InPool}
+use Rattle.column_trie.proofs.Layers.{Whole, layers_length, layers_at}
+use Rattle.column_trie.proofs.Damage.{undamaged_told, undamaged_header}
+use Rattle.column_trie.proofs.Stored.{in_pool}
+use Rattle.layer_text.specs.Text.{layer_text, text}
+use Rattle.layer_text.proofs.Texts.{no_text, text_more, written_none, written_more, written_as}
+use borrow.Author.Rules.{rules}
+use Rattle.column_trie_listing.proofs.put_text.Goals as goal
+use Rattle.column_trie_listing.proofs.put_text.Goals.{Start}
+
+whole : (s : Start) → Whole s.args.t
+whole s = record { data_long = search rules; interval_long = search rules }
+
+sound : (s : Start) → InPool (length s.args.pool.now) s.args.t
+sound s = in_pool (undamaged_told s.args.pool.now s.args.t s.requires)
+
+many : (s : Start) → length (layers_in s.args.pool.now s.args.t) ≡ s.args.t.arity
+many s = layers_length s.args.pool.now s.args.t (whole s) (sound s).few
+
+-- one layer more of the text
+more : (s : Start) (d : ℕ) → d < s.args.t.arity → text (take (d + 1) (layers_in s.args.pool.now s.args.t)) ≡ text (take d (layers_in s.args.pool.now s.args.t)) ++ layer_text d (layer_in s.args.pool.now s.args.t d)
+more s d h =
+    let ls = layers_in s.args.pool.now s.args.t in
+    ap (λ (n : ℕ). text (take n ls)) (add-one d) ∙ text_more ls d (omega (arith, many s)) ∙ ap (λ (l : Layer). text (take d ls) ++ layer_text d l) (layers_at s.args.pool.now s.args.t (whole s) (sound s).few d h)
+
+pub loop-d-init : goal.loop-d-init
+loop-d-init c = (omega arith, written_as (sym no_text) (written_none c.args.bytes.now 0), omega arith)
+
+pub put_depth-end-requires : goal.put_depth-end-requires
+put_depth-end-requires c =
+    (undamaged_header c.args.pool.now c.args.t c.requires, c.loop-d-test.true, omega (arith, sound (goal.at.put_depth-end-requires c).Start, c.loop-d.invariant.2, c.loop-d-test.true))
+
+pub overflow_add-d : goal.overflow_add-d
+overflow_add-d c = omega (arith, sound (goal.at.overflow_add-d c).Start)
+
+pub loop-d-preserved : goal.loop-d-preserved
+loop-d-preserved c =
+    let w = written_more c.loop-d.invariant.1 c.put_depth-end.ensures.0 in
+    (omega arith, written_as (sym (more (goal.at.loop-d-preserved c).Start c.loop-d.d c.loop-d-test.true)) w, omega (arith, c.loop-d.invariant.2, c.put_depth-end.ensures.1))
+
+pub shape_of-bytes : goal.shape_of-bytes
+shape_of-bytes c = c.loop-d.invariant.1.room
+
+pub returns : goal.returns
+returns c =
+    written_as (ap text (take_all c.loop-d.d (layers_in c.args.pool.now c.args.t) (omega (arith, many (goal.at.returns c).Start, c.loop-d-test.false)))) c.loop-d.invariant.1

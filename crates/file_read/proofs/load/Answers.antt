@@ -1,0 +1,134 @@
+-- The goals of `load` that the check leaves.
+use Prim.Native.Nat.{ℕ, ◌+◌, ◌*◌, ◌-◌, ◌≤◌, ◌<◌}
+use mathlib.Core.Path.{◌≡◌, sym, ap, ap₂, ◌∙◌, subst}
+use mathlib.Core.List.{List, []}
+use native.Mathlib.Omega.{arith}
+use lib.ListN.{length, take, drop, get_or}
+use Rattle.relation.specs.Order.{Row}
+use Rattle.relation.proofs.Order.{shared}
+use Rattle.column_trie.specs.Limits.{max_arity}
+use Rattle.from_sorted.specs.Push.{Pushing, Fills}
+use Rattle.from_sorted.proofs.Fill.{pushing_first, filled_first, pushing_next, filled_next, fills_none, fills_all, can_push, pushed}
+use Rattle.table_file.specs.Bytes.{decode}
+use Rattle.table_file.specs.File.{parse}
+use Rattle.table_file.specs.Places.{place}
+use Rattle.file_read.specs.Load.{rows_found}
+use Rattle.file_read.proofs.Strict.{neighbours_differ}
+use borrow.Author.Rules.{rules}
+use Rattle.file_read.proofs.load.Goals as goal
+use Rattle.file_read.proofs.load.Goals.{After-common_prefix_len-d, After-read_row-last, After-read_row-row, Start}
+
+-- what the function is handed
+module _ (s : Start) where
+  abbrev a : ℕ
+  a = s.args.t.arity
+
+  placed : (i : ℕ) → i < s.args.n → (0 < a) × (a ≤ 8) × (s.args.at + place a i < 18446744073709551616)
+  placed i h = (s.requires.fill.positive, s.requires.fill.few, omega (arith, (s.requires.lies i h).inside, s.well_formed))
+
+  seated : (i : ℕ) → i < s.args.n → (y : ℕ) → y ≡ s.args.at + place a i → (a ≤ max_arity) × (y + 8 * a ≤ length s.args.bytes.now)
+  seated i h y e = (s.requires.fill.few, omega (arith, (s.requires.lies i h).inside))
+
+-- the first row, read
+module _ (k : After-read_row-last) where
+  there : 0 < k.args.n
+  there = omega (arith, k.if-n-eq0.false)
+
+  first_row : take k.args.t.arity k.read_row-last.result ≡ get_or (rows_found (parse k.args.bytes.now)) 0 []
+  first_row = k.read_row-last.ensures ∙ ap (λ (z : ℕ). decode k.args.t.arity (drop z k.args.bytes.now)) k.row_place-first.ensures ∙ (k.requires.lies 0 there).is
+
+  first : 0 < length (rows_found (parse k.args.bytes.now))
+  first = omega (arith, k.requires.many, there)
+
+pub returns-then-n-eq0 : goal.returns-then-n-eq0
+returns-then-n-eq0 c = fills_none c.requires.fill c.requires.width (sym c.requires.many ∙ c.if-n-eq0.true)
+
+pub row_place-first-requires : goal.row_place-first-requires
+row_place-first-requires c = placed (goal.at.row_place-first-requires c).Start 0 (omega (arith, c.if-n-eq0.false))
+
+pub read_row-last-requires : goal.read_row-last-requires
+read_row-last-requires c = seated (goal.at.read_row-last-requires c).Start 0 (omega (arith, c.if-n-eq0.false)) c.row_place-first.result c.row_place-first.ensures
+
+pub append_row-requires : goal.append_row-requires
+append_row-requires c =
+    let k = (goal.at.append_row-requires c).After-read_row-last in
+    can_push (first_row k) (pushing_first c.requires.fill c.requires.width (first k))
+
+pub loop-i-init : goal.loop-i-init
+loop-i-init c =
+    let k = (goal.at.loop-i-init c).After-read_row-last in
+    let e : length c.read_row-last.result ≡ max_arity = search rules in
+    (filled_first c.requires.fill c.requires.width (first k) (pushed (first_row k) (pushing_first c.requires.fill c.requires.width (first k)) c.append_row.ensures), e, first_row k)
+
+pub row_place-place-requires : goal.row_place-place-requires
+row_place-place-requires c = placed (goal.at.row_place-place-requires c).Start c.loop-i.i c.loop-i-test.true
+
+pub read_row-row-requires : goal.read_row-row-requires
+read_row-row-requires c = seated (goal.at.read_row-row-requires c).Start c.loop-i.i c.loop-i-test.true c.row_place-place.result c.row_place-place.ensures
+
+row_long : (c : After-read_row-row) → length c.read_row-row.result ≡ max_arity
+row_long c = search rules
+
+pub common_prefix_len-d-requires : goal.common_prefix_len-d-requires
+common_prefix_len-d-requires c =
+    (omega (arith, c.requires.fill.few, c.loop-i.invariant.1), omega (arith, c.requires.fill.few, row_long (goal.at.common_prefix_len-d-requires c).After-read_row-row))
+
+-- the row that a turn appends, and from which column on
+module _ (c : After-common_prefix_len-d) where
+  abbrev rows : List Row
+  rows = rows_found (parse c.args.bytes.now)
+
+  abbrev i : ℕ
+  i = c.loop-i.i
+
+  ahead : i < length rows
+  ahead = omega (arith, c.requires.many, c.loop-i-test.true)
+
+  row_read : take c.args.t.arity c.read_row-row.result ≡ get_or rows i []
+  row_read = c.read_row-row.ensures ∙ ap (λ (z : ℕ). decode c.args.t.arity (drop z c.args.bytes.now)) c.row_place-place.ensures ∙ (c.requires.lies i c.loop-i-test.true).is
+
+  -- the keys that row i shares with the row before it, and that it differs from it
+  from : c.common_prefix_len-d.result ≡ shared (get_or rows (i - 1) []) (get_or rows i [])
+  from = c.common_prefix_len-d.ensures ∙ ap₂ shared c.loop-i.invariant.2 row_read
+
+  differs : c.common_prefix_len-d.result < c.args.t.arity
+  differs = omega (arith, from, neighbours_differ c.requires.asc c.requires.width i c.loop-i.invariant.0.low ahead)
+
+  next : Pushing (length c.loop-i.pool) c.args.t c.loop-i.data_len c.loop-i.interval_len (take i rows) (get_or rows i []) c.common_prefix_len-d.result (c.common_prefix_len-d.result + 1)
+  next =
+      let l = c.loop-i in
+      let d = c.common_prefix_len-d.result in
+      subst (λ (n : ℕ). Pushing n c.args.t l.data_len l.interval_len (take i rows) (get_or rows i []) d (d + 1)) (sym (l.invariant.0.long ∙ c.append_row.auto.pool))
+      (pushing_next c.requires.fill c.requires.width d l.invariant.0 ahead from differs)
+
+pub overflow_add-d : goal.overflow_add-d
+overflow_add-d c = omega (arith, differs (goal.at.overflow_add-d c).After-common_prefix_len-d, c.requires.fill.few)
+
+pub append_row-requires-in-loop-i : goal.append_row-requires-in-loop-i
+append_row-requires-in-loop-i c =
+    let k = (goal.at.append_row-requires-in-loop-i c).After-common_prefix_len-d in
+    can_push (row_read k) (next k)
+
+pub overflow_add-i : goal.overflow_add-i
+overflow_add-i c = omega (arith, c.loop-i-test.true, c.requires.many, c.requires.fill.room, c.requires.fill.small)
+
+pub loop-i-preserved : goal.loop-i-preserved
+loop-i-preserved c =
+    let k = (goal.at.loop-i-preserved c).After-common_prefix_len-d in
+    let q : c.loop-i.i + 1 - 1 ≡ c.loop-i.i = omega arith in (
+      filled_next c.requires.fill c.requires.width c.loop-i.invariant.0 (ahead k) c.append_row-in-loop-i.auto.pool (pushed (row_read k) (next k) c.append_row-in-loop-i.ensures),
+      row_long (goal.at.loop-i-preserved c).After-read_row-row,
+      row_read k ∙ ap (λ (n : ℕ). get_or (rows k) n []) (sym q),
+    )
+
+pub filled-requires : goal.filled-requires
+filled-requires c = (c.requires.fill.positive, c.requires.fill.few)
+
+pub shape_of-pool : goal.shape_of-pool
+shape_of-pool c = c.loop-i.invariant.0.long ∙ c.append_row.auto.pool
+
+pub returns : goal.returns
+returns c =
+    let k = (goal.at.returns c).After-read_row-last in
+    subst (Fills c.args.pool.now c.args.t (rows_found (parse c.args.bytes.now)) c.loop-i.pool) (sym c.filled.ensures)
+    (fills_all c.requires.fill c.requires.width (first k) (pushed (first_row k) (pushing_first c.requires.fill c.requires.width (first k)) c.append_row.ensures) c.loop-i.invariant.0 (omega (arith, c.requires.many, c.loop-i-test.false)))

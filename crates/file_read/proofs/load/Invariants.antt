@@ -1,0 +1,16 @@
+-- `file_read::load` meets its contract. The loop's invariant: the table holds the first i rows, and the last of them is kept. The measure is the rows left.
+use Prim.Native.Nat.{◌-◌}
+use mathlib.Core.Path.{◌≡◌}
+use mathlib.Core.List.{[]}
+use lib.ListN.{length, take, get_or}
+use Rattle.column_trie.specs.Limits.{max_arity}
+use Rattle.from_sorted.proofs.Fill.{Filled}
+use Rattle.table_file.specs.File.{parse}
+use Rattle.file_read.specs.Load.{rows_found}
+use Rattle.file_read.proofs.load.Given as goal
+
+abbrev pub invariant-loop-i : goal.invariant-loop-i
+invariant-loop-i l = Filled l.t (rows_found (parse l.bytes)) l.initial.pool l.pool l.data_len l.interval_len l.i × (length l.last ≡ max_arity) × (take l.t.arity l.last ≡ get_or (rows_found (parse l.bytes)) (l.i - 1) [])
+
+abbrev pub decreases-loop-i : goal.decreases-loop-i
+decreases-loop-i l = l.n - l.i

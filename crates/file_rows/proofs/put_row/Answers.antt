@@ -1,0 +1,140 @@
+-- The goals of `put_row` that the check leaves.
+use Prim.Native.Nat.{ℕ, ◌+◌, ◌*◌, ◌<◌, ◌≤◌}
+use mathlib.Core.Path.{◌≡◌, ap, ◌∙◌}
+use mathlib.Core.List.{List, []}
+use native.Mathlib.Omega.{arith}
+use native.Mathlib.Nat.{one-mul}
+use lib.ListN.{length, take, get_or}
+use lib.Seq.{take_all}
+use Rattle.column_trie.specs.Pool.{lay}
+use Rattle.column_trie.specs.Table.{rows_in, Undamaged}
+use Rattle.column_trie.proofs.Header.{LayerFits, layer_fits}
+use Rattle.column_trie.proofs.Layers.{Whole}
+use Rattle.column_trie.proofs.Damage.{undamaged_told}
+use Rattle.column_trie.proofs.Pool.{lay_length}
+use Rattle.column_trie.proofs.Stored.{in_pool}
+use Rattle.table_file.specs.Bytes.{bytes_of, encode}
+use Rattle.file_rows.specs.Rows.{Laid}
+use Rattle.row_path.proofs.Keys.{KeyAt, key_on}
+use Rattle.file_rows.proofs.Pieces.{laid_more, no_words, words_long, word_more}
+use Rattle.file_rows.proofs.Tables.{row_long}
+use borrow.Author.Rules.{rules}
+use Rattle.file_rows.proofs.put_row.Goals as goal
+use Rattle.file_rows.proofs.put_row.Goals.{At-loop-d}
+
+whole : (l : At-loop-d) → Whole l.args.t
+whole l = record { data_long = search rules; interval_long = search rules }
+
+sound : (l : At-loop-d) → Undamaged l.args.pool.now l.args.t
+sound l = undamaged_told l.args.pool.now l.args.t l.requires.sound
+
+counted : (l : At-loop-d) → l.args.i < l.args.t.tuple_count
+counted l = omega (arith, l.requires.there)
+
+long : (l : At-loop-d) → length (get_or (rows_in l.args.pool.now l.args.t) l.args.i []) ≡ l.args.t.arity
+long l = row_long (whole l) (sound l) l.args.i (counted l)
+
+fits : (l : At-loop-d) (d : ℕ) → d < l.args.t.arity → LayerFits (length l.args.pool.now) l.args.t d
+fits l d h = layer_fits (in_pool (sound l)) h
+
+-- the room that is asked for is that of the row
+room : (l : At-loop-d) → l.args.at + 8 * l.args.t.arity ≤ length l.args.bytes.now
+room l = omega (arith, l.requires.fits, one-mul l.args.t.arity)
+
+key : (l : At-loop-d) (d : ℕ) → d < l.args.t.arity → KeyAt l.args.pool.now l.args.t l.args.i d (get_or l.next_path.new.path d 0)
+key l d h = key_on (whole l) (sound l) l.next_path.ensures (counted l) d h
+
+kept : (l : At-loop-d) → length l.loop-d.bytes ≡ length l.args.bytes.now
+kept l = ap length l.loop-d.invariant.1 ∙ lay_length l.args.bytes.now l.args.at (encode (take l.loop-d.d (get_or (rows_in l.args.pool.now l.args.t) l.args.i [])))
+
+pub next_path-requires : goal.next_path-requires
+next_path-requires c = (c.requires.sound, omega (arith, c.requires.there), c.requires.before)
+
+pub loop-d-init : goal.loop-d-init
+loop-d-init c = (omega arith, no_words c.args.bytes.now c.args.at (get_or (rows_in c.args.pool.now c.args.t) c.args.i []))
+
+pub layer_at-requires : goal.layer_at-requires
+layer_at-requires c =
+    let l = (goal.at.layer_at-requires c).At-loop-d in
+    let f = fits l c.loop-d.d c.loop-d-test.true in
+    (omega (arith, f, c.well_formed), f.small, f.depth)
+
+pub offset_bounds-path-d : goal.offset_bounds-path-d
+offset_bounds-path-d c = let l = (goal.at.offset_bounds-path-d c).At-loop-d in omega (arith, (fits l c.loop-d.d c.loop-d-test.true).depth)
+
+pub bounds-path-d : goal.bounds-path-d
+bounds-path-d c = let l = (goal.at.bounds-path-d c).At-loop-d in omega (arith, (fits l c.loop-d.d c.loop-d-test.true).depth)
+
+pub overflow_add-place : goal.overflow_add-place
+overflow_add-place c =
+    let l = (goal.at.overflow_add-place c).At-loop-d in
+    let h = c.loop-d-test.true in
+    let f = fits l c.loop-d.d h in
+    let k = key l c.loop-d.d h in
+    omega (arith, f, k.inside, c.layer_at.ensures, c.well_formed)
+
+pub overflow_mul-d : goal.overflow_mul-d
+overflow_mul-d c =
+    let l = (goal.at.overflow_mul-d c).At-loop-d in
+    let h = c.loop-d-test.true in
+    let f = fits l c.loop-d.d h in
+    omega (arith, f.depth)
+
+pub overflow_add-at : goal.overflow_add-at
+overflow_add-at c =
+    let l = (goal.at.overflow_add-at c).At-loop-d in
+    let h = c.loop-d-test.true in
+    omega (arith, h, room l, c.well_formed)
+
+pub offset_bounds-pool-place : goal.offset_bounds-pool-place
+offset_bounds-pool-place c =
+    let l = (goal.at.offset_bounds-pool-place c).At-loop-d in
+    let h = c.loop-d-test.true in
+    let f = fits l c.loop-d.d h in
+    let k = key l c.loop-d.d h in
+    omega (arith, f, k.inside, c.layer_at.ensures, c.well_formed)
+
+pub bounds-pool-place : goal.bounds-pool-place
+bounds-pool-place c =
+    let l = (goal.at.bounds-pool-place c).At-loop-d in
+    let h = c.loop-d-test.true in
+    let f = fits l c.loop-d.d h in
+    let k = key l c.loop-d.d h in
+    omega (arith, f, k.inside, c.layer_at.ensures)
+
+pub put_word-requires : goal.put_word-requires
+put_word-requires c =
+    let l = (goal.at.put_word-requires c).At-loop-d in
+    let h = c.loop-d-test.true in
+    omega (arith, h, room l, kept l)
+
+pub overflow_add-d : goal.overflow_add-d
+overflow_add-d c =
+    let l = (goal.at.overflow_add-d c).At-loop-d in
+    let h = c.loop-d-test.true in
+    let f = fits l c.loop-d.d h in
+    omega (arith, f.depth)
+
+pub loop-d-smaller : goal.loop-d-smaller
+loop-d-smaller c =
+    let l = (goal.at.loop-d-smaller c).At-loop-d in
+    omega arith
+
+pub loop-d-preserved : goal.loop-d-preserved
+loop-d-preserved c =
+    let l = (goal.at.loop-d-preserved c).At-loop-d in
+    let d = c.loop-d.d in
+    let h = c.loop-d-test.true in
+    let row = get_or (rows_in c.args.pool.now c.args.t) c.args.i [] in
+    let here = get_or c.next_path.new.path d 0 in
+    let w : get_or c.args.pool.now (c.layer_at.result + here) 0 ≡ get_or row d 0 = ap (λ (n : ℕ). get_or c.args.pool.now (n + here) 0) c.layer_at.ensures ∙ (key l d h).word in
+    let p : Laid c.args.bytes.now c.args.at (encode (take d row)) c.loop-d.bytes (c.args.at + 8 * d) = record { is = c.loop-d.invariant.1; ends = omega (arith, words_long row d (omega (arith, long l))) } in
+    (omega arith, laid_more p (bytes_of 8 (get_or row d 0)) (c.put_word.ensures ∙ ap (λ (n : ℕ). lay c.loop-d.bytes (c.args.at + 8 * d) (bytes_of 8 n)) w) (word_more row d (omega (arith, long l))))
+
+pub shape_of-bytes : goal.shape_of-bytes
+shape_of-bytes c = kept (goal.at.shape_of-bytes c).At-loop-d
+
+pub returns : goal.returns
+returns c =
+    let row = get_or (rows_in c.args.pool.now c.args.t) c.args.i [] in
+    record { laid = c.loop-d.invariant.1 ∙ ap (λ (r : List ℕ). lay c.args.bytes.now c.args.at (encode r)) (take_all c.loop-d.d row (omega (arith, long (goal.at.returns c).At-loop-d, c.loop-d-test.false))); on = c.next_path.ensures }

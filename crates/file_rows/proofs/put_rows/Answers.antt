@@ -1,0 +1,40 @@
+-- The goals of `put_rows` that the check leaves.
+use native.Mathlib.Omega.{arith}
+use Rattle.column_trie.proofs.Layers.{Whole}
+use Rattle.file_rows.proofs.Tables.{none_laid, rows_kept, row_asked, row_ends, one_laid, all_laid}
+use borrow.Author.Rules.{rules}
+use Rattle.file_rows.proofs.put_rows.Goals as goal
+use Rattle.file_rows.proofs.put_rows.Goals.{Start}
+
+whole : (s : Start) → Whole s.args.t
+whole s = record { data_long = search rules; interval_long = search rules }
+
+pub loop-k-init : goal.loop-k-init
+loop-k-init c = none_laid c.args.bytes.now c.requires
+
+pub overflow_add-i : goal.overflow_add-i
+overflow_add-i c = omega (arith, c.loop-k-test.true, c.requires.there, c.well_formed)
+
+pub put_row-requires : goal.put_row-requires
+put_row-requires c = row_asked (whole (goal.at.put_row-requires c).Start) c.loop-k.invariant c.requires c.loop-k-test.true
+
+pub overflow_mul-p : goal.overflow_mul-p
+overflow_mul-p c = omega (arith, row_ends (whole (goal.at.overflow_mul-p c).Start) c.loop-k.invariant c.requires c.loop-k-test.true, c.well_formed)
+
+pub overflow_add-p : goal.overflow_add-p
+overflow_add-p c = omega (arith, row_ends (whole (goal.at.overflow_add-p c).Start) c.loop-k.invariant c.requires c.loop-k-test.true, c.well_formed)
+
+pub overflow_add-k : goal.overflow_add-k
+overflow_add-k c = omega (arith, c.loop-k-test.true, c.well_formed)
+
+pub loop-k-smaller : goal.loop-k-smaller
+loop-k-smaller c = omega (arith, c.loop-k-test.true)
+
+pub loop-k-preserved : goal.loop-k-preserved
+loop-k-preserved c = one_laid (whole (goal.at.loop-k-preserved c).Start) c.loop-k.invariant c.requires c.loop-k-test.true c.put_row.ensures
+
+pub shape_of-bytes : goal.shape_of-bytes
+shape_of-bytes c = rows_kept (whole (goal.at.shape_of-bytes c).Start) c.loop-k.invariant
+
+pub returns : goal.returns
+returns c = all_laid c.loop-k.invariant c.loop-k-test.false

@@ -1,0 +1,37 @@
+-- The goals of `put_others` that the check leaves.
+use Prim.Native.Nat.{ℕ}
+use mathlib.Core.Path.{sym, ap, ◌∙◌}
+use native.Mathlib.Omega.{arith}
+use native.Mathlib.Numerals.{add-one}
+use lib.ListN.{take}
+use lib.Seq.{take_all}
+use Rattle.layer_text.specs.Text.{others}
+use Rattle.layer_text.proofs.Texts.{none_others, others_more, written_none, written_more, written_as}
+use Rattle.layer_text.proofs.put_others.Goals as goal
+
+pub loop-i-init : goal.loop-i-init
+loop-i-init c = (omega arith, written_as (sym none_others) (written_none c.args.text.now c.args.at), omega arith)
+
+pub put-end-requires : goal.put-end-requires
+put-end-requires c =
+    omega (arith, c.requires, c.loop-i.invariant.2, c.loop-i-test.true)
+
+pub put_number-end-requires : goal.put_number-end-requires
+put_number-end-requires c =
+    omega (arith, c.requires, c.loop-i.invariant.2, c.loop-i-test.true, c.put-end.ensures.ends)
+
+pub loop-i-preserved : goal.loop-i-preserved
+loop-i-preserved c =
+    let xs = c.args.words.now in
+    let e = ap (λ (n : ℕ). others (take n xs)) (add-one c.loop-i.i) ∙ others_more xs c.loop-i.i c.loop-i-test.true in
+    let w = written_more c.loop-i.invariant.1 (written_more c.put-end.ensures c.put_number-end.ensures.0) in
+    (omega arith, written_as (sym e) w, omega (arith, c.loop-i.invariant.2, c.put-end.ensures.ends, c.put_number-end.ensures.1))
+
+pub shape_of-text : goal.shape_of-text
+shape_of-text c = c.loop-i.invariant.1.room
+
+pub returns : goal.returns
+returns c =
+    let l = c.loop-i in
+    let xs = c.args.words.now in
+    (written_as (ap others (take_all l.i xs c.loop-i-test.false)) l.invariant.1, omega (arith, l.invariant.2, l.invariant.0))
