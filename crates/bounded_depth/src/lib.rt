@@ -1,5 +1,7 @@
 // Internal: the function here asks something of its caller by a `requires`. The opening of a depth of a join that goes on after a given row: the depth is
 // opened as any other (crates/join_depths), and its leapfrog seeks the row's word, so that no key before it is listed only to be skipped.
+#![tactic(auto)]
+
 ghost use Rattle.std.specs.Prelude.{◌<◌};
 ghost use Rattle.stretches.specs.Stand.{state};
 ghost use Rattle.join_depths.specs.Depth.{Standing, Fresh};

@@ -3,7 +3,7 @@ use Prim.Native.Nat.{ℕ, ◌+◌, ◌-◌, ◌≤◌, ◌<◌}
 use mathlib.Core.Path.{◌≡◌, refl, sym, ap, ◌∙◌, subst}
 use mathlib.Core.List.{List, []}
 use native.Mathlib.Omega.{arith}
-use lib.ListN.{length, take, get_or}
+use lib.ListN.{length, get_or}
 use Rattle.relation.specs.Order.{Row}
 use Rattle.relation.specs.Rows.{Asc, Width, sort, as_set}
 use Rattle.relation.specs.Layers.{layers_of}

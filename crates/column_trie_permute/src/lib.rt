@@ -2,6 +2,8 @@
 //
 // The public call is `permute`. Its answer and every word of the second pool are those that specs/Permute.antt gives, for any arguments: nothing is asked of them.
 // The first pool is only read. No other buffer is needed, and no word is used on the way that the new table doesn't use (crate permuted_fill).
+#![tactic(auto)]
+
 ghost use Rattle.std.specs.Prelude.{◌≡◌, true, ℕ, ◌≤◌, ◌<◌, length, take, get_or};
 ghost use Rattle.query.specs.Checks.{permutes};
 ghost use Rattle.column_trie.specs.Limits.{max_arity};

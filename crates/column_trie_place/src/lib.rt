@@ -6,6 +6,7 @@
 //
 // The Rust's cursor holds the trie and the slice of its run; here the run is found anew, and what would panic there is refused.
 #![tactic(auto)]
+
 ghost use Rattle.std.specs.Prelude.{◌≡◌, true, ◌+◌, ◌<◌, ◌^◌, length};
 ghost use Rattle.column_trie.specs.Table.{layer_in, header_sound};
 ghost use Rattle.column_trie_place.specs.Checks.{at_root, past};

@@ -26,6 +26,7 @@ use Rattle.query.proofs.Listed.{listing_listing}
 use Rattle.query.proofs.Window.{full_exactly, fit_whole, more_whole, filled_whole}
 use contract.Lifetimes.{Lfts}
 use denote.Ref.{Bor}
+use denote.MutBor.{MutBor}
 use Rattle.seek.specs.declared.SeekStrategy.{SeekStrategy}
 use Rattle.leapfrog.specs.Walk.{walk_of, join_seeks}
 use Rattle.query.specs.Limits.{max_atoms}
@@ -158,7 +159,7 @@ module _ {pool : List ℕ} {ts : Tables} {q : Query} {window : List ℕ} (a : Ac
 
 -- "the same under all three seek strategies": of two calls of `join` that differ in the strategy alone, whatever its contract promises of each, the answers
 -- and the windows are the same. `Post` is that promise, of the arguments, the answer and the arguments as they are when the call returns
-module _ (κs : Lfts 2) (s₁ s₂ : SeekStrategy) (pool : Bor (List ℕ)) (ts : Tables) (q : Query) (window : Bor (List ℕ)) (r₁ r₂ : Joined) (e₁ e₂ : SeekStrategy × (Bor (List ℕ) × (Tables × (Query × (Bor (List ℕ) × Unit {0}))))) where
+module _ (κs : Lfts 2) (s₁ s₂ : SeekStrategy) (pool : Bor (List ℕ)) (ts : Tables) (q : Query) (window : MutBor (List ℕ)) (r₁ r₂ : Joined) (e₁ e₂ : SeekStrategy × (Bor (List ℕ) × (Tables × (Query × (MutBor (List ℕ) × Unit {0}))))) where
   pub the_same_under_all_strategies : Post κs (s₁, (pool, (ts, (q, (window, tt))))) r₁ e₁ → Post κs (s₂, (pool, (ts, (q, (window, tt))))) r₂ e₂ → (r₁ ≡ r₂) × (e₁.1.1.1.1.0.now ≡ e₂.1.1.1.1.0.now)
   the_same_under_all_strategies one two = (one_answer one two, one_window one two)
 

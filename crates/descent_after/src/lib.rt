@@ -1,5 +1,7 @@
 // Internal: the function here asks something of its caller by a `requires`. The descent of a join that goes on after a given row. At each depth the leapfrog seeks
 // the row's word: where it stands on that very word the descent goes down with the bound, and from the next key on without it.
+#![tactic(auto)]
+
 ghost use Rattle.std.specs.Prelude.{length};
 ghost use Rattle.join_window.specs.Window.{Fits};
 ghost use Rattle.join_depths.specs.Depth.{Standing};

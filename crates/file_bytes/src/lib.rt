@@ -1,5 +1,6 @@
 // Numbers and rows as bytes, words high byte first: read and written where they lie (internal). The fields' lengths and the rows' words of a table file are such numbers.
 #![tactic(auto)]
+
 ghost use Rattle.std.specs.Prelude.{◌≡◌, ◌+◌, ◌*◌, ◌≤◌, length, take, drop};
 ghost use Rattle.column_trie.specs.Limits.{max_arity};
 ghost use Rattle.column_trie.specs.Pool.{lay};

@@ -2,6 +2,8 @@
 // crates/rows_after gives (specs/After.antt, `JoinsAfter`), for any pool, tables, query, row and window, under each strategy: nothing is asked of them.
 //
 // By seeking, not by skipping: it goes down to the given row's place (crates/descent_after), so a call costs the seeks of one path and then its rows.
+#![tactic(auto)]
+
 ghost use Rattle.std.specs.Prelude.{◌≡◌, length};
 ghost use Rattle.join_query.specs.Query.{Accepted};
 ghost use Rattle.join_window.specs.Window.{written};

@@ -5,11 +5,9 @@ use native.Mathlib.Omega.{arith}
 use native.Mathlib.Decide.{ℕ_discrete}
 use mathlib.Core.Path.{◌≡◌, sym, subst, ap, ◌∙◌}
 use mathlib.Core.List.{List}
-use lib.ListN.{length, get_or}
+use lib.ListN.{length}
 use lib.Seq.{ext_get_or}
-use Rattle.relation.specs.Rows.{as_set}
 use Rattle.relation.proofs.Sorting.{as_set_is}
-use Rattle.query.specs.Meaning as meaning
 use Rattle.query.specs.Solve.{listing}
 use Rattle.query.specs.Window.{windowed}
 use Rattle.query.specs.Descend.{nobody}
@@ -18,18 +16,16 @@ use Rattle.leapfrog.specs.Walk.{join_seeks}
 use Rattle.overlay.specs.Laid.{laid}
 use Rattle.overlay.proofs.Laid.{laid_asc}
 use Rattle.column_trie.specs.Table.{rows_in}
-use Rattle.column_trie.specs.declared.ColumnTrie.{ColumnTrie}
-use Rattle.from_sorted.specs.Given.{rows_given}
 use Rattle.build_laws.proofs.Leaves.{build_leaves_the_layers_of_the_set_of_rows}
-use Rattle.join_query.specs.Query.{atom_at, atom_table, atom_maker, order_of, vars_of, rows_at, atom_of, atoms_of, Accepted}
-use Rattle.join_query.specs.Outcome.{listed, outcome}
+use Rattle.join_query.specs.Query.{atom_at, atom_table, atom_maker, order_of, rows_at, atom_of, atoms_of, Accepted}
+use Rattle.join_query.specs.Outcome.{outcome}
 use Rattle.join_query.specs.declared.Query.{Query}
 use Rattle.join_query.specs.declared.Tables.{Tables}
 use Rattle.join_query.proofs.Accepted.{rows_plain, rows_laid, atoms_length, atoms_at}
 use Rattle.join_query.proofs.Outcome.{outcome_listed}
 use Rattle.leapfrog_triejoin.specs.Outcome.{seeks_at, Joins}
 use Rattle.leapfrog_triejoin.specs.declared.Joined.{Joined}
-use Rattle.join_laws.specs.Afresh.{BuiltOf, Afresh}
+use Rattle.join_laws.specs.Afresh.{Afresh}
 
 -- ---- the same atoms, the same answer
 

@@ -1,5 +1,6 @@
 // A table laid over another, a school's over a maker's: whether the two are of the same shape. A join, a lookup and a cursor give 17 where they are not, each by this test.
 #![tactic(auto)]
+
 ghost use Rattle.std.specs.Prelude.{◌≡◌, ◌≤◌};
 ghost use Rattle.column_trie.specs.Limits.{max_arity};
 ghost use Rattle.laid_over.specs.Shape.{same_shape};

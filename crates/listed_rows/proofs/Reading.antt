@@ -3,13 +3,13 @@ use Prim.Native.Nat.{ℕ, zero, suc, ◌+◌, ◌*◌, ◌-◌, ◌≤◌, ◌<�
 use native.Mathlib.Omega.{arith}
 use native.Mathlib.Nat.{suc-mul, mul-le-mul_right}
 use native.Mathlib.Numerals.{add-one}
-use mathlib.Core.Path.{◌≡◌, refl, sym, ap, subst, ◌∙◌}
+use mathlib.Core.Path.{◌≡◌, refl, sym, ap, ◌∙◌}
 use mathlib.Core.Bool.{Bool, true, false, ◌&&◌}
-use mathlib.Core.List.{List, [], ◌∷◌, ◌++◌, map}
-use lib.ListN.{length, get_or, set, take, drop, replicate, length-drop, get_or-append, length-append, length-replicate}
-use lib.Seq.{take-suc, drop-cons, get_or-drop, get_or-take, set_at, append_snoc, take_at, length-take-le, drop-length}
+use mathlib.Core.List.{List, [], ◌∷◌, ◌++◌}
+use lib.ListN.{length, get_or, set, take, drop, replicate, length-drop, get_or-append, length-append}
+use lib.Seq.{take-suc, drop-cons, get_or-drop, set_at, append_snoc, take_at, length-take-le}
 use lib.Dec.{ltb, eqb}
-use borrow.Author.Tests.{eq-eqb, ne_eqb, eqb-true, lt-ltb, le-ltb}
+use borrow.Author.Tests.{eq-eqb, ne_eqb, le-ltb}
 use Rattle.relation.specs.Order.{Row, pick, before}
 use Rattle.relation.specs.Lists.{◌∈◌, hd, tl}
 use Rattle.relation.specs.Rows.{cut, same}

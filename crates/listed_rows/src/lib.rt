@@ -1,5 +1,7 @@
 // Internal: a pass over the rows of a recorded listing: the first that is not an answer, or does not come strictly after the one before it. No row is searched for: an
 // atom's part of a listed row is looked up in the atom's table, as the plain engine does once an atom is complete.
+#![tactic(auto)]
+
 ghost use Rattle.std.specs.Prelude.{◌≡◌, true, ℕ, ◌+◌, ◌*◌, ◌≤◌, ◌<◌, length, take, drop};
 ghost use Rattle.relation.specs.Order.{before};
 ghost use Rattle.relation.specs.Rows.{cut, same};

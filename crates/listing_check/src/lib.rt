@@ -7,6 +7,8 @@
 // row missing.
 //
 // The public call is `check_listing`; its contract is `Checks` of crates/listing_verdict, and crates/verdict_laws says what follows of it. Nothing is written.
+#![tactic(auto)]
+
 ghost use Rattle.std.specs.Prelude.{◌≡◌, ◌*◌, ◌-◌, ◌≤◌, length, take, drop};
 ghost use Rattle.relation.specs.Rows.{cut, same};
 ghost use Rattle.join_query.specs.Query.{max_variables, order_of, atoms_of};

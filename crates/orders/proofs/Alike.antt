@@ -2,7 +2,7 @@
 -- a permutation of columns confuses no rows.
 use Prim.Native.Nat.{ℕ, ◌<◌}
 use native.Mathlib.Omega.{arith}
-use mathlib.Core.Path.{◌≡◌, sym, ap, ap₂, ◌∙◌, subst, subst₂}
+use mathlib.Core.Path.{◌≡◌, sym, ap, ◌∙◌, subst, subst₂}
 use mathlib.Core.List.Memᴰ
 use mathlib.Core.List.{List}
 use lib.ListN.{length, take, get_or, length-map}
@@ -18,7 +18,7 @@ use Rattle.column_trie.specs.Table.{rows_in}
 use Rattle.permuted_rows.specs.Permuted.{permuted, rows_permuted}
 use Rattle.permuted_rows.proofs.Rows.{part_word}
 use Rattle.column_trie_permute.proofs.Distinct.{same_row}
-use Rattle.permute_laws.proofs.Leaves.{rebuild_accepted, old, size, a_rebuild_leaves_the_table_with_its_columns_permuted}
+use Rattle.permute_laws.proofs.Leaves.{rebuild_accepted, old, a_rebuild_leaves_the_table_with_its_columns_permuted}
 use Rattle.join_query.specs.Query.{rows_at}
 use Rattle.join_query.proofs.Accepted.{rows_plain}
 use Rattle.orders.specs.Orders.{Sited, table_in, list_in, meant, Rebuilt, Alike, equal, there, back, through}

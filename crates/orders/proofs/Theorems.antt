@@ -6,24 +6,24 @@ use native.Mathlib.Decide.{dec_lt}
 use native.Mathlib.Omega.{arith}
 use mathlib.Core.Path.{◌≡◌, refl, sym, ap, ◌∙◌, subst}
 use mathlib.Core.List.{List, ◌++◌}
-use lib.ListN.{length, get_or, take, drop}
+use lib.ListN.{length, take, drop}
 use lib.Seq.{take_all}
 use Rattle.relation.specs.Order.{Row}
 use Rattle.relation.specs.Lists.{◌∈◌}
-use Rattle.relation.specs.Rows.{Members, flat}
+use Rattle.relation.specs.Rows.{flat}
 use Rattle.relation.proofs.Lists.{in_get_or, get_or_in}
 use Rattle.query.specs.Meaning as meaning
 use Rattle.query.specs.Meaning.{part, Answer, Listing}
 use Rattle.query.specs.Descend.{nobody}
 use Rattle.query.specs.Window.{fit}
-use Rattle.join_query.specs.Query.{atom_at, order_of, atom_of, atoms_of, Accepted}
+use Rattle.join_query.specs.Query.{atom_at, atom_of, atoms_of, Accepted}
 use Rattle.join_query.specs.declared.Query.{Query}
 use Rattle.join_query.specs.declared.Tables.{Tables}
 use Rattle.join_query.proofs.Accepted.{atoms_length, atoms_at}
 use Rattle.leapfrog_triejoin.specs.Outcome.{Joins}
 use Rattle.leapfrog_triejoin.specs.declared.Joined.{Joined}
 use Rattle.demand_3.proofs.Theorems.{Demand3, demand_3}
-use Rattle.orders.specs.Orders.{Alike, sited, SameAtoms, Wrote, SameRows}
+use Rattle.orders.specs.Orders.{sited, SameAtoms, Wrote, SameRows}
 use Rattle.orders.proofs.Alike.{Allows, alike_allows}
 
 -- atom i of a query that passed

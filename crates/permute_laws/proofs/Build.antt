@@ -2,8 +2,8 @@
 use Prim.Native.Nat.{ℕ}
 use mathlib.Core.Path.{◌≡◌, sym, ap, ap₂, ◌∙◌}
 use mathlib.Core.Bool.{Bool}
-use mathlib.Core.List.{List, ◌++◌}
-use lib.ListN.{length, take}
+use mathlib.Core.List.{List}
+use lib.ListN.{length}
 use Rattle.relation.specs.Order.{Row}
 use Rattle.relation.specs.Rows.{Members}
 use Rattle.relation.specs.Layers.{layers_of}
@@ -19,7 +19,7 @@ use Rattle.from_sorted.specs.declared.Built.{Built}
 use Rattle.column_trie_build.specs.Build.{Builds}
 use Rattle.build_laws.proofs.Leaves.{built_pool, built_table}
 use Rattle.permuted_rows.specs.Permuted.{rows_permuted}
-use Rattle.column_trie_permute.specs.Permute.{kinds_permuted, rows_left, Permutes}
+use Rattle.column_trie_permute.specs.Permute.{kinds_permuted, Permutes}
 use Rattle.permute_laws.proofs.Leaves.{rebuilt_pool, rebuilt_table}
 
 -- a build over the permuted rows, in any sequence, with the permuted kinds, at the same place of the same pool

@@ -14,7 +14,7 @@ use Rattle.query.specs.Meaning.{Permutation}
 use Rattle.query.specs.Checks.{permutes}
 use Rattle.query.proofs.Checks.{permutes_true, true_permutes, permutes_false}
 use Rattle.column_trie.specs.Limits.{max_capacity}
-use Rattle.column_trie.specs.Table.{Undamaged, undamaged, lies_in}
+use Rattle.column_trie.specs.Table.{Undamaged, undamaged}
 use Rattle.column_trie.specs.declared.ColumnTrie.{ColumnTrie}
 use Rattle.column_trie.proofs.Damage.{undamaged_told, told_undamaged}
 use Rattle.from_sorted.specs.declared.Built.{Built}

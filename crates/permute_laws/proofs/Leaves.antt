@@ -1,16 +1,14 @@
 -- What an accepted rebuild leaves: an undamaged table with the permuted rows, ascending, and their kinds.
 use Prim.Native.Nat.{ℕ, ◌≤◌}
 use mathlib.Core.Path.{◌≡◌, refl, sym, ap, ◌∙◌, subst, subst₂}
-use mathlib.Core.Bool.{Bool}
 use mathlib.Core.List.Memᴰ
 use mathlib.Core.List.{List}
 use native.Mathlib.Omega.{arith}
 use lib.ListN.{length, take, length-map}
 use lib.Seq.{length-take-le}
 use Rattle.relation.specs.Order.{Row}
-use Rattle.relation.specs.Rows.{Width, Members, as_set}
+use Rattle.relation.specs.Rows.{Width, Members}
 use Rattle.relation.specs.Layers.{layers_of}
-use Rattle.relation.specs.Lists.{◌∈◌}
 use Rattle.relation.proofs.Sorting.{as_set_asc, as_set_members, length_as_set}
 use Rattle.relation.proofs.Tables.{layers_undamaged}
 use Rattle.query.specs.Meaning.{part}

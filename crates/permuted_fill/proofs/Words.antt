@@ -1,7 +1,7 @@
 -- A word that is not laid yet is still there: the last layer has as many keys as rows are laid.
 use Prim.Native.Nat.{ℕ, zero, suc, ◌+◌, ◌-◌, ◌≤◌, ◌<◌}
 use mathlib.Core.Path.{◌≡◌, refl, sym, ap, ◌∙◌}
-use mathlib.Core.List.{List, [], ◌∷◌, ◌++◌}
+use mathlib.Core.List.{List, [], ◌∷◌}
 use native.Mathlib.Omega.{arith}
 use lib.ListN.{length, take, get_or}
 use lib.Seq.{length-take-le, take-suc}
@@ -14,7 +14,7 @@ use Rattle.column_trie.specs.Pool.{spot, store}
 use Rattle.column_trie.specs.declared.ColumnTrie.{ColumnTrie}
 use Rattle.column_trie.proofs.Kept.{stored_kept}
 use Rattle.column_trie.proofs.Stored.{header_keys}
-use Rattle.from_sorted.specs.Push.{Filling, Fills, Pushes}
+use Rattle.from_sorted.specs.Push.{Filling, Pushes}
 use Rattle.from_sorted.proofs.Fill.{Filled, fills_none}
 
 in_front : (n : ℕ) (rows : List Row) {q : Row} → q ∈ take n rows → q ∈ rows

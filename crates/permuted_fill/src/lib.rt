@@ -2,6 +2,8 @@
 //
 // The last layer of the new table will hold one key for each row. Until then its words stand for the rows (crate permuted_rows): all of them, sorted by the permuted
 // rows, and then those that are not laid yet, since row j's last key goes where word j was. So no word is needed that the new table doesn't use.
+#![tactic(auto)]
+
 ghost use Rattle.std.specs.Prelude.{◌≡◌, ◌+◌, ◌≤◌, length};
 ghost use Rattle.relation.specs.Rows.{sort};
 ghost use Rattle.from_sorted.specs.Push.{Fills};

@@ -1,6 +1,6 @@
 -- The loop over the keys to try for one variable. Idea: to emit the rows of the keys left, from where the window stands, ends where the whole search ends; a key's call takes
 -- the first of them away, and a key that fails a test has no rows.
-use Prim.Native.Nat.{ℕ, suc, ◌+◌, ◌*◌, ◌-◌, ◌≤◌, ◌<◌}
+use Prim.Native.Nat.{ℕ, suc, ◌*◌, ◌-◌, ◌≤◌, ◌<◌}
 use native.Mathlib.Omega.{arith}
 use native.Mathlib.Nat.{le-mul_of_pos_right}
 use mathlib.Core.Path.{◌≡◌, refl, sym, subst, ap, ◌∙◌}

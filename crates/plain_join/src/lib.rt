@@ -9,6 +9,8 @@
 //
 // The public call is `plain_join`; its answer and every word of the window are those that crates/join_query's `outcome` gives, for any pool, tables, query and window, and so
 // those of the leapfrog triejoin (crates/engines). The keys and the tests are crates/plain_atoms and crates/plain_keys.
+#![tactic(auto)]
+
 ghost use Rattle.std.specs.Prelude.{◌≡◌, false, ◌≤◌, ◌-◌, length, drop};
 ghost use Rattle.query.specs.Window.{emits};
 ghost use Rattle.join_query.specs.Query.{order_of, atoms_of};

@@ -1,5 +1,7 @@
 // Internal: the function here asks something of its caller by a `requires`. The rest of a depth from a key on: the rows under that key and under those that
 // follow it, each by the descent of crates/descent. A join that goes on after a given row does so at each depth, behind the row's word.
+#![tactic(auto)]
+
 ghost use Rattle.std.specs.Prelude.{length};
 ghost use Rattle.stretches.specs.Stand.{state};
 ghost use Rattle.join_window.specs.Window.{Fits};

@@ -3,6 +3,7 @@
 // A row's path is the place of its key in each layer: its own number in the last, and above that the place of the parent. From a row to the next
 // each place stays or goes on by one, so that the walk over all rows searches nothing.
 #![tactic(auto)]
+
 ghost use Rattle.std.specs.Prelude.{◌≡◌, true, ◌-◌, ◌<◌};
 ghost use Rattle.column_trie.specs.Table.{layers_in, undamaged};
 ghost use Rattle.row_path.specs.Path.{OnPath};

@@ -85,13 +85,13 @@ pub any_sequence_leaves_the_set_that_it_means :
 unfolding meant
 any_sequence_leaves_the_set_that_it_means h no_more = h
 any_sequence_leaves_the_set_that_it_means h (elsewhere a rest) = any_sequence_leaves_the_set_that_it_means (a_table_is_its_own_words h a) rest
-any_sequence_leaves_the_set_that_it_means h (inserted {pool₁ = pool₁} {tuple = tuple} {r = r} s z rest) =
-    any_sequence_leaves_the_set_that_it_means
+any_sequence_leaves_the_set_that_it_means {rows = rows} h (inserted {pool₁ = pool₁} {tuple = tuple} {r = r} s z rest) =
+    any_sequence_leaves_the_set_that_it_means {rows = put tuple rows}
     (subst₂ (λ (x : ColumnTrie) (qs : List Row). Table x.start x.arity x.capacity x.grade (put tuple qs) pool₁ r.table) h.header_is h.rows_are
     (insert_leaves_the_layers_of_the_set_of_the_old_rows_and_the_new_one h.whole s z))
     rest
-any_sequence_leaves_the_set_that_it_means h (removed {pool₁ = pool₁} {tuple = tuple} {r = r} s z rest) =
-    any_sequence_leaves_the_set_that_it_means
+any_sequence_leaves_the_set_that_it_means {rows = rows} h (removed {pool₁ = pool₁} {tuple = tuple} {r = r} s z rest) =
+    any_sequence_leaves_the_set_that_it_means {rows = without tuple rows}
     (subst₂ (λ (x : ColumnTrie) (qs : List Row). Table x.start x.arity x.capacity x.grade (without tuple qs) pool₁ r.table) h.header_is h.rows_are
     (removal_leaves_the_layers_of_the_remaining_rows h.whole s z))
     rest

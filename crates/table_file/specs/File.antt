@@ -1,5 +1,5 @@
 -- Public: table files: the bytes of a table, and the table that bytes are.
-use Rattle.std.specs.Prelude.{ℕ, zero, suc, ◌+◌, ◌*◌, ◌/◌, ◌-◌, ◌<◌, ◌≤◌, ◌≡◌, Bool, true, false, ◌&&◌, ◌||◌, not, List, [], ◌∷◌, ◌++◌, map, length, take, drop, get_or, replicate, eqb}
+use Rattle.std.specs.Prelude.{ℕ, zero, suc, ◌*◌, ◌/◌, ◌-◌, ◌<◌, ◌≤◌, ◌≡◌, Bool, true, false, ◌&&◌, ◌||◌, not, List, [], ◌∷◌, ◌++◌, map, length, take, drop, get_or, replicate, eqb}
 use Rattle.relation.specs.Tests.{every}
 use Rattle.relation.specs.Order.{Row, before}
 use Rattle.relation.specs.Lists.{◌∈◌}

@@ -1,5 +1,5 @@
 -- What the checker's answer says, of its contract alone: accepted exactly when the words are the complete listing; the row named is the first wrong one; the row missing is the least.
-use Prim.Native.Nat.{ℕ, zero, suc, ◌<◌}
+use Prim.Native.Nat.{ℕ, suc, ◌<◌}
 use native.Mathlib.Omega.{arith}
 use mathlib.Core.Path.{◌≡◌, refl, sym, ap, subst, ◌∙◌}
 use mathlib.Core.List.{List, [], ◌∷◌}

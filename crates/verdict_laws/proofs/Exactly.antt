@@ -7,10 +7,10 @@ use lib.ListN.{get_or}
 use Rattle.relation.specs.Exactly.{Exactly}
 use Rattle.relation.specs.Order.{Row}
 use Rattle.relation.specs.Lists.{◌∈◌}
-use Rattle.relation.proofs.Lists.{get_or_in, in_get_or, same_members}
+use Rattle.relation.proofs.Lists.{get_or_in, same_members}
 use Rattle.relation.proofs.Order.{asym}
-use Rattle.listing_verdict.specs.Verdict.{accepted, wrong, missing, lacks, verdict}
-use Rattle.listing_verdict.specs.Facts.{Earlier, InOrder, Right, AllRight, FirstWrong, LeastMissing}
+use Rattle.listing_verdict.specs.Verdict.{accepted, wrong, missing, verdict}
+use Rattle.listing_verdict.specs.Facts.{InOrder, AllRight, FirstWrong, LeastMissing}
 use Rattle.listing_verdict.proofs.Told.{Case, found, clean, cases, rise, comes_lacks}
 use Rattle.listing_verdict.proofs.Lacks.{not_wrong, wrong_not_missing, same_wrong, lacks_never_wrong, lacks_none, none_lacking, lacking_least}
 use Rattle.listing_verdict.proofs.Differs.{right_ascend, right_among}

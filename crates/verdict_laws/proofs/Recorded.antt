@@ -1,6 +1,6 @@
 -- What becomes of the listing that a join wrote: complete it is accepted, cut by 12 it lacks the first row that did not fit, and bent it is refused with the verdict that says
 -- where. Of the calls' contracts alone.
-use Prim.Native.Nat.{ℕ, zero, suc, ◌*◌, ◌≤◌, ◌<◌, min}
+use Prim.Native.Nat.{ℕ, zero, suc, ◌*◌, ◌≤◌, ◌<◌}
 use native.Mathlib.Omega.{arith}
 use mathlib.Core.Path.{◌≡◌, refl, sym, ap, subst, ◌∙◌}
 use mathlib.Core.Logic.{◌⊎◌, inl, inr, ⊎_elim}

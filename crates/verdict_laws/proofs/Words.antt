@@ -1,23 +1,23 @@
 -- The rows that words list, and the words of rows: each from the other, where the words are whole rows. And the checks, which look at the number of words for that alone.
-use Prim.Native.Nat.{ℕ, zero, suc, ◌*◌, ◌/◌, ◌%◌, ◌≤◌, ◌<◌}
+use Prim.Native.Nat.{ℕ, zero, suc, ◌*◌, ◌/◌, ◌%◌, ◌<◌}
 use native.Mathlib.Omega.{arith}
-use native.Mathlib.Nat.{mul-div_cancel, mul-mod_left, div-add-mod', div-mul-le_self}
-use mathlib.Core.Path.{◌≡◌, refl, sym, ap, subst, ◌∙◌}
+use native.Mathlib.Nat.{mul-div_cancel, mul-mod_left, div-add-mod'}
+use mathlib.Core.Path.{◌≡◌, refl, sym, ap, ◌∙◌}
 use mathlib.Core.Bool.{Bool, true, false, ◌||◌}
-use mathlib.Core.List.{List, [], ◌∷◌, ◌++◌, append-nil}
-use lib.ListN.{length, take}
+use mathlib.Core.List.{List, [], append-nil}
+use lib.ListN.{length}
 use lib.Seq.{take_all}
 use lib.Dec.{eqb}
 use borrow.Author.Tests.{eq-eqb, eqb-true}
 use Rattle.relation.specs.Order.{Row}
 use Rattle.relation.specs.Rows.{Width, cut, flat}
 use Rattle.relation.proofs.Tests.{or_right}
-use Rattle.relation.proofs.Words.{length_cut, cut_flat, flat_cut}
+use Rattle.relation.proofs.Words.{cut_flat, flat_cut}
 use Rattle.from_sorted.proofs.Given.{length_flat}
-use Rattle.join_query.specs.Query.{whole_rows, Accepted}
+use Rattle.join_query.specs.Query.{Accepted}
 use Rattle.join_query.specs.declared.Query.{Query}
 use Rattle.join_query.specs.declared.Tables.{Tables}
-use Rattle.join_query.proofs.Lists.{Passed, passed_all, number_0, either}
+use Rattle.join_query.proofs.Lists.{passed_all, number_0}
 use Rattle.listing_verdict.specs.Verdict.{how_many, rows_listed}
 
 -- as many rows as there are

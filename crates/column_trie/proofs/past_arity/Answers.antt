@@ -7,7 +7,6 @@ use Rattle.column_trie.specs.Limits.{max_arity}
 use Rattle.column_trie.specs.Table.{past_at}
 use Rattle.column_trie.proofs.Header.{past_told, past_not}
 use Rattle.column_trie.proofs.past_arity.Goals as goal
-use Rattle.column_trie.proofs.past_arity.Goals.{then-t-d-ne0-via-then-t-d-ne0, then-t-d-ne0-via-else-t-d-ne0+then-t-d-ne0-2, then-t-d-ne0-via-else-t-d-ne0+else-t-d-ne0-2+then-t-d}
 
 pub loop-d-init : goal.loop-d-init
 loop-d-init c =
@@ -21,11 +20,7 @@ returns-then-t-d-ne0 c =
     sym
     (every_fails (past_at t) max_arity d (omega arith)
     (past_not t d c.loop-d.invariant.0
-    (elim c.then-t-d-ne0.branch [
-      | then-t-d-ne0-via-then-t-d-ne0 w ↦ inl w.if-t-d-ne0.true
-      | then-t-d-ne0-via-else-t-d-ne0+then-t-d-ne0-2 w ↦ inr (inl w.if-t-d-ne0-2.true)
-      | then-t-d-ne0-via-else-t-d-ne0+else-t-d-ne0-2+then-t-d w ↦ inr (inr w.if-t-d.true)
-    ])))
+    (grind arith)))
 
 pub loop-d-preserved : goal.loop-d-preserved
 loop-d-preserved c =
@@ -34,7 +29,7 @@ loop-d-preserved c =
     let t = c.args.t in (
       omega arith,
       every_more (past_at t) d l.invariant.1
-          (past_told t d (inr (c.if-t-d-ne0.false, c.if-t-d-ne0-2.false, c.if-t-d.false))),
+          (past_told t d (inr (omega arith, omega arith, (cc)))),
     )
 
 pub returns : goal.returns

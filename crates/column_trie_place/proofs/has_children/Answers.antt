@@ -1,7 +1,6 @@
 -- `column_trie_place::has_children` meets its contract: its tests are the definition's.
 use borrow.Author.Tests.{lt-ltb, le-ltb, eq-eqb, ne_eqb}
 use Rattle.column_trie_place.specs.Inside.{has_children}
-
 use Rattle.column_trie_place.proofs.has_children.Goals as goal
 
 pub returns-then-depth-eq0 : goal.returns-then-depth-eq0

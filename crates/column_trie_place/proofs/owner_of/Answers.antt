@@ -14,7 +14,6 @@ use Rattle.column_trie.specs.Table.{layer_in}
 use Rattle.column_trie_place.specs.Checks.{count_up_to}
 use Rattle.column_trie_place.proofs.Groups.{Lying, group_out, group_in}
 use Rattle.column_trie_place.proofs.Owners.{owner_none, not_above, owner_out, owner_past, owner_in}
-
 use Rattle.column_trie_place.proofs.owner_of.Goals as goal
 use Rattle.column_trie_place.proofs.owner_of.Goals.{After-halve-counted, Else-not-g, Start}
 

@@ -10,7 +10,6 @@ use Rattle.column_trie_place.specs.Checks.{layer_of}
 use Rattle.column_trie.proofs.Groups.{keys_long}
 use Rattle.column_trie_place.proofs.Groups.{Lying, group_out, group_in}
 use Rattle.column_trie_place.proofs.Places.{too_deep, no_group, too_far, stands_there, misplaced, well_placed}
-
 use Rattle.column_trie_place.proofs.place_below.Goals as goal
 use Rattle.column_trie_place.proofs.place_below.Goals.{Else-not-g, Start}
 

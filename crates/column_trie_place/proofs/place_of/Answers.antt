@@ -1,16 +1,13 @@
 -- `column_trie_place::place_of` meets its contract: the tests stand in the sequence of the definition's (Places.antt).
 use mathlib.Core.Path.{◌≡◌, sym, subst}
 use mathlib.Core.Bool.{true}
-use mathlib.Core.Logic.{inl, inr, ⊎_elim}
+use mathlib.Core.Logic.{inl, inr}
 use native.Mathlib.Omega.{arith}
 use lib.ListN.{length}
-use lib.Dec.{eqb}
-use borrow.Author.Tests.{eqb-true, eqb-false, not-true, not-false}
 use Rattle.relation.proofs.Tests.{passed, failed}
 use Rattle.column_trie.specs.Table.{header_sound}
 use Rattle.column_trie_place.specs.Inside.{Placed}
 use Rattle.column_trie_place.proofs.Places.{header_refused, root_refused, root_placed, below_placed}
-
 use mathlib.Core.Path.{ap}
 use mathlib.Core.Bool.{not}
 use Rattle.column_trie_place.proofs.place_of.Goals as goal

@@ -3,9 +3,6 @@ use native.Mathlib.Omega.{arith}
 use lib.ListN.{length-set}
 use Rattle.table_file.specs.Bytes.{bytes_of}
 use Rattle.file_bytes.proofs.Steps.{word_laid}
-use Rattle.file_bytes.proofs.put_word.Reads as reads
-use Rattle.file_bytes.proofs.put_word.Lts as lts
-
 use Rattle.file_bytes.proofs.put_word.Goals as goal
 
 pub bounds-text-at-2 : goal.bounds-text-at-2

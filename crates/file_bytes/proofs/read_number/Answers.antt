@@ -1,14 +1,10 @@
 -- The goals of `read_number` that the check leaves.
-use Prim.Native.Nat.{ℕ, ◌+◌, ◌*◌, ◌-◌, ◌≤◌, ◌<◌}
+use Prim.Native.Nat.{ℕ, ◌+◌, ◌*◌, ◌<◌}
 use mathlib.Core.Path.{◌≡◌, sym, ap, ◌∙◌}
 use native.Mathlib.Omega.{arith}
 use lib.ListN.{drop}
 use Rattle.table_file.specs.Bytes.{number}
 use Rattle.file_bytes.proofs.Steps.{number_none, number_more, number_fits}
-use Rattle.file_bytes.proofs.read_number.Reads as reads
-use Rattle.file_bytes.proofs.read_number.Lts as lts
-use Rattle.file_bytes.proofs.wide.Reads as wide_reads
-
 use Rattle.file_bytes.proofs.read_number.Goals as goal
 use Rattle.file_bytes.proofs.read_number.Goals.{After-wide-b}
 

@@ -1,14 +1,8 @@
 -- `file_bytes::read_number` meets its contract. The loop's invariant: w is the number of the bytes passed.
-use Prim.Native.Nat.{ℕ, ◌+◌, ◌*◌, ◌-◌, ◌≤◌, ◌<◌}
-use mathlib.Core.Path.{◌≡◌, sym, ap, ◌∙◌}
-use native.Mathlib.Omega.{arith}
+use Prim.Native.Nat.{◌-◌, ◌≤◌}
+use mathlib.Core.Path.{◌≡◌}
 use lib.ListN.{drop}
 use Rattle.table_file.specs.Bytes.{number}
-use Rattle.file_bytes.proofs.Steps.{number_none, number_more, number_fits}
-use Rattle.file_bytes.proofs.read_number.Reads as reads
-use Rattle.file_bytes.proofs.read_number.Lts as lts
-use Rattle.file_bytes.proofs.wide.Reads as wide_reads
-
 use Rattle.file_bytes.proofs.read_number.Given as goal
 
 abbrev pub invariant-loop-i : goal.invariant-loop-i

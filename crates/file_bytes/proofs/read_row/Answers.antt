@@ -1,12 +1,11 @@
 -- The goals of `read_row` that the check leaves.
-use Prim.Native.Nat.{ℕ, ◌-◌, ◌≤◌}
+use Prim.Native.Nat.{ℕ}
 use mathlib.Core.Path.{◌≡◌, refl, sym, ap, ◌∙◌}
 use mathlib.Core.List.{[]}
 use native.Mathlib.Omega.{arith}
-use lib.ListN.{length, take, drop, length-set}
+use lib.ListN.{take, drop, length-set}
 use Rattle.table_file.specs.Bytes.{decode}
 use Rattle.file_bytes.proofs.Steps.{none_read, word_read}
-
 use Rattle.file_bytes.proofs.read_row.Goals as goal
 
 pub loop-k-init : goal.loop-k-init

@@ -1,12 +1,8 @@
 -- `file_bytes::read_row` meets its contract. The loop's invariant: the first k words are read.
-use Prim.Native.Nat.{ℕ, ◌-◌, ◌≤◌}
-use mathlib.Core.Path.{◌≡◌, refl, sym, ap, ◌∙◌}
-use mathlib.Core.List.{[]}
-use native.Mathlib.Omega.{arith}
-use lib.ListN.{length, take, drop, length-set}
+use Prim.Native.Nat.{◌-◌, ◌≤◌}
+use mathlib.Core.Path.{◌≡◌}
+use lib.ListN.{length, take, drop}
 use Rattle.table_file.specs.Bytes.{decode}
-use Rattle.file_bytes.proofs.Steps.{none_read, word_read}
-
 use Rattle.file_bytes.proofs.read_row.Given as goal
 
 abbrev pub invariant-loop-k : goal.invariant-loop-k

@@ -1,5 +1,5 @@
 -- The goals of `same_shape` that the check leaves.
-use Prim.Native.Nat.{ℕ, ◌≤◌, ◌-◌}
+use Prim.Native.Nat.{ℕ}
 use native.Mathlib.Omega.{arith}
 use mathlib.Core.Path.{◌≡◌, subst}
 use mathlib.Core.Bool.{true}
@@ -8,7 +8,6 @@ use Rattle.relation.specs.Tests.{every}
 use Rattle.relation.proofs.Tests.{every_none, every_more}
 use Rattle.laid_over.specs.Shape.{same_kind}
 use Rattle.laid_over.proofs.Shape.{arity_differs, kind_differs, kinds_agree}
-
 use Rattle.laid_over.proofs.same_shape.Goals as goal
 
 pub returns-then-s-m : goal.returns-then-s-m

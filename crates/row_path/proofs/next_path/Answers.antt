@@ -8,11 +8,7 @@ use Rattle.column_trie.specs.Table.{layers_in, layer_in, data_len_at, Undamaged}
 use Rattle.column_trie.proofs.Layers.{Whole}
 use Rattle.column_trie.proofs.Damage.{undamaged_told, undamaged_header}
 use Rattle.column_trie.proofs.Stored.{in_pool}
-use Rattle.row_path.proofs.Moves.{Hangs, hangs, Moved, moved_last, moved_all, moved_on, moved_not, parent_listed, begins_is}
-use Rattle.row_path.proofs.next_path.Reads as reads
-use Rattle.row_path.proofs.next_path.Lts as lts
-use Rattle.column_trie.proofs.begins.Reads as begins_reads
-
+use Rattle.row_path.proofs.Moves.{Hangs, hangs, moved_last, moved_all, moved_on, moved_not, parent_listed, begins_is}
 use borrow.Author.Rules.{rules}
 use Rattle.row_path.proofs.next_path.Goals as goal
 use Rattle.row_path.proofs.next_path.Goals.{Start}

@@ -1,0 +1,25 @@
+-- `open_from` meets its contract: the depth has no key, or it is sought from its first one on.
+use native.Mathlib.Omega.{arith}
+use Rattle.bounded_depth.proofs.Reaching.{few_variables, from_none, from_agreed, from_found}
+use Rattle.bounded_depth.proofs.open_from.Goals as goal
+
+pub returns-in_default : goal.returns-in_default
+returns-in_default c = from_none c.args.target c.open-first.ensures.begun c.in_default.is
+
+pub overflow_mul-k : goal.overflow_mul-k
+overflow_mul-k c = omega (arith, few_variables c.requires.standing, c.requires.depth_lt_n.0)
+
+pub overflow_add-k : goal.overflow_add-k
+overflow_add-k c = omega (arith, few_variables c.requires.standing, c.requires.depth_lt_n.0)
+
+pub offset_bounds-plan-depth : goal.offset_bounds-plan-depth
+offset_bounds-plan-depth c = omega (arith, few_variables c.requires.standing, c.requires.depth_lt_n.0)
+
+pub bounds-plan-depth : goal.bounds-plan-depth
+bounds-plan-depth c = omega (arith, few_variables c.requires.standing, c.requires.depth_lt_n.0)
+
+pub whole_seek-s-requires : goal.whole_seek-s-requires
+whole_seek-s-requires c = from_agreed c.args.target c.open-first.ensures.begun c.in-Key.is
+
+pub returns : goal.returns
+returns c = from_found c.args.target c.open-first.ensures.begun c.in-Key.is c.whole_seek-s.ensures

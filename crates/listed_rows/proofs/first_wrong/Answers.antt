@@ -1,0 +1,41 @@
+-- The goals of `first_wrong` that the check leaves.
+use Prim.Native.Nat.{◌+◌}
+use native.Mathlib.Omega.{arith}
+use mathlib.Core.Path.{◌≡◌, sym, ◌∙◌}
+use lib.ListN.{length}
+use Rattle.listing_verdict.specs.Checked.{complete}
+use mathlib.Core.Bool.{Bool}
+use borrow.Author.Count.{below_more}
+use Rattle.relation.specs.Rows.{cut}
+use Rattle.join_query.specs.Query.{order_of}
+use Rattle.listing_verdict.specs.Verdict.{good}
+use Rattle.listing_verdict.proofs.Fails.{fail_is}
+use Rattle.listed_rows.proofs.Reading.{good_any, row_inside}
+use Rattle.listed_rows.proofs.first_wrong.Goals as goal
+use Rattle.listed_rows.proofs.first_wrong.Goals.{In-loop-i}
+
+-- what the test says of the row, among all of them
+tested : (t : In-loop-i) → let a = t.args in (b : Bool) → b ≡ good (order_of a.query) (complete a.pool.now a.tables a.query) (cut (t.loop-i.i + 1) a.query.n a.listing.now) t.loop-i.i → good (order_of a.query) (complete a.pool.now a.tables a.query) (cut a.rows a.query.n a.listing.now) t.loop-i.i ≡ b
+tested t b e =
+    let a = t.args in
+    good_any (order_of a.query) (complete a.pool.now a.tables a.query) a.query.n a.listing.now a.rows (t.loop-i.i + 1) t.loop-i.i t.loop-i-test.true (omega arith) ∙ sym e
+
+pub loop-i-init : goal.loop-i-init
+loop-i-init c = (c.requires.2, c.requires.3)
+
+pub good-requires : goal.good-requires
+good-requires c = (c.requires.0, row_inside c.loop-i.i c.args.rows c.args.query.n (length c.args.listing.now) c.loop-i-test.true c.requires.1)
+
+pub returns-then-not-good : goal.returns-then-not-good
+returns-then-not-good c =
+    let a = c.args in
+    sym (fail_is a.rows (good (order_of a.query) (complete a.pool.now a.tables a.query) (cut a.rows a.query.n a.listing.now)) c.loop-i.i c.loop-i.invariant.0 c.loop-i.invariant.1 (λ h. tested (goal.at.returns-then-not-good c).In-loop-i c.good.result c.good.ensures ∙ c.if-not-good.true))
+
+pub loop-i-preserved : goal.loop-i-preserved
+loop-i-preserved c =
+    (omega arith, below_more _ c.loop-i.i c.loop-i.invariant.1 (tested (goal.at.loop-i-preserved c).In-loop-i c.good.result c.good.ensures ∙ c.if-not-good.false))
+
+pub returns : goal.returns
+returns c =
+    let a = c.args in
+    sym (fail_is a.rows (good (order_of a.query) (complete a.pool.now a.tables a.query) (cut a.rows a.query.n a.listing.now)) c.loop-i.i c.loop-i.invariant.0 c.loop-i.invariant.1 (λ h. absurd (omega (arith, c.loop-i-test.false))))

@@ -1,0 +1,189 @@
+-- The goals of `search` that the check leaves: with no variable left it compares one row; else the keys left lead to its end (Walking.antt), and the call for each key has one
+-- variable fewer left.
+use Prim.Native.Nat.{ℕ, suc, ◌-◌, ◌≤◌, ◌<◌}
+use native.Mathlib.Omega.{arith}
+use mathlib.Core.Path.{◌≡◌, sym, ap, ◌∙◌}
+use mathlib.Core.Bool.{true, false}
+use mathlib.Core.List.{List, []}
+use lib.ListN.{length, get_or, set, length-set}
+use lib.Seq.{set-set}
+use borrow.Author.Rules.{rules}
+use Rattle.relation.specs.Rows.{cut}
+use Rattle.relation.specs.Runs.{from}
+use Rattle.join_query.specs.Query.{max_variables, atoms_of}
+use Rattle.join_query.specs.declared.Query.{Query}
+use Rattle.join_query.specs.declared.Tables.{Tables}
+use Rattle.join_query.proofs.Accepted.{sized, names, lists}
+use Rattle.plain.specs.Plain.{tried, all_hold}
+use Rattle.plain_keys.specs.Keys.{head_of}
+use Rattle.plain_atoms.specs.Atoms.{Passed}
+use Rattle.plain_atoms.proofs.First.{first_reads, next_tried, rest_holds}
+use Rattle.plain_join.proofs.Trying.{none_left, variable_below, given_before}
+use Rattle.listing_check.specs.Walk.{meets}
+use Rattle.listing_check.specs.declared.Reached.{Reached}
+use Rattle.listing_check.proofs.Meeting.{padded_set}
+use Rattle.listing_check.proofs.Walking.{leaf, walking_start, walking_done, walking_padded, under_key, under_none, walking_lacks, walking_next, walking_less}
+use Rattle.listing_check.proofs.+search.Goals as goal
+use Rattle.listing_check.proofs.+search.Goals.{then-all_hold+else-met, else-all_hold}
+
+-- the variable whose turn it is
+module _ {pool : List ℕ} {ts : Tables} {q : Query} (p : Passed pool ts q) {left : ℕ} (s : 0 < left) (h : left ≤ q.n) where
+  below : get_or q.order (q.n - left) 0 < q.n
+  below = variable_below p.accepted left s h []
+
+  inside : get_or q.order (q.n - left) 0 < max_variables
+  inside = omega (arith, below, (sized p.accepted).few)
+
+-- ---- no variable is left
+
+pub meet-requires : goal.meet-requires
+meet-requires t c = let r = c.requires in ((sized r.0.accepted).few, r.2, r.3, r.4)
+
+pub returns-then-left-eq0 : goal.returns-then-left-eq0
+returns-then-left-eq0 t c =
+    let a = c.args in
+    c.meet.ensures ∙ leaf a.query.n (atoms_of a.pool.now a.tables a.query) a.found (cut a.rows a.query.n a.listing.now) a.from (none_left c.requires.0.accepted a.left c.if-left-eq0.true)
+
+-- ---- the next variable, and the first key
+
+pub offset_bounds-query-query : goal.offset_bounds-query-query
+offset_bounds-query-query t c = omega (arith, (sized c.requires.0.accepted).few, c.if-left-eq0.false)
+
+pub bounds-query-query : goal.bounds-query-query
+bounds-query-query t c = omega (arith, (sized c.requires.0.accepted).few, c.if-left-eq0.false, c.requires.1)
+
+pub holder-first-requires : goal.holder-first-requires
+holder-first-requires t c = record { pool = c.args.pool.now; tables = c.args.tables; passed = c.requires.0; below = below c.requires.0 (omega (arith, c.if-left-eq0.false)) c.requires.1 }
+
+pub offset_bounds-query-first : goal.offset_bounds-query-first
+offset_bounds-query-first t c = omega (arith, c.holder-first.ensures.inside, (names c.requires.0.accepted).few)
+
+pub bounds-query-first : goal.bounds-query-first
+bounds-query-first t c = omega (arith, c.holder-first.ensures.inside, (names c.requires.0.accepted).few)
+
+pub column-c-requires : goal.column-c-requires
+column-c-requires t c = (lists c.requires.0.accepted c.holder-first.result c.holder-first.ensures.inside).short
+
+pub offset_bounds-row-v : goal.offset_bounds-row-v
+offset_bounds-row-v t c = omega (arith, inside c.requires.0 (let s : 0 < c.args.left = omega (arith, c.if-left-eq0.false) in s) c.requires.1)
+
+pub bounds-row-v : goal.bounds-row-v
+bounds-row-v t c = inside c.requires.0 (omega (arith, c.if-left-eq0.false)) c.requires.1
+
+pub next_key-next-requires : goal.next_key-next-requires
+next_key-next-requires t c =
+    let a = c.args in
+    first_reads c.requires.0.accepted (get_or a.query.order (a.query.n - a.left) 0) (below c.requires.0 (omega (arith, c.if-left-eq0.false)) c.requires.1) c.holder-first.ensures c.column-c.ensures.0
+
+pub loop-next-init : goal.loop-next-init
+loop-next-init t c =
+    let a = c.args in
+    let p = c.requires.0 in
+    let s : 0 < a.left = omega (arith, c.if-left-eq0.false) in
+    let h = c.requires.1 in
+    let z = p.accepted in
+    let v = get_or a.query.order (a.query.n - a.left) 0 in
+    let l : length a.found ≡ max_variables = search rules in (
+      p,
+      s,
+      h,
+      walking_start z a.left s h (set a.found v 0) (cut a.rows a.query.n a.listing.now) a.from
+          (next_tried z v (below p s h) c.holder-first.ensures (set a.found v 0) a.found (λ x. sym (set-set a.found v 0 x)) l 0 false c.column-c.ensures.0 c.next_key-next.ensures)
+          (length-set a.found v 0 ∙ l) c.requires.4,
+    )
+
+-- ---- a key is tried
+
+pub offset_bounds-row-v-in-loop-next : goal.offset_bounds-row-v-in-loop-next
+offset_bounds-row-v-in-loop-next t c = let i = c.loop-next.invariant in omega (arith, inside i.0 i.1 i.2)
+
+pub bounds-row-v-in-loop-next : goal.bounds-row-v-in-loop-next
+bounds-row-v-in-loop-next t c = let i = c.loop-next.invariant in inside i.0 i.1 i.2
+
+pub all_hold-requires : goal.all_hold-requires
+all_hold-requires t c = let i = c.loop-next.invariant in (i.0, inside i.0 i.1 i.2)
+
+pub search-met-requires : goal.search-met-requires
+search-met-requires t c =
+    let a = c.args in
+    let i = c.loop-next.invariant in
+    let z = i.0.accepted in
+    let v = get_or a.query.order (a.query.n - a.left) 0 in
+    let l : length a.found ≡ max_variables = search rules in
+    let p = padded_set a.query.n a.found v 0 (below i.0 i.1 i.2) (omega (arith, (sized z).few, l)) c.requires.3 in
+    (omega (arith, c.decreases, i.1), (i.0, omega (arith, i.2), c.requires.2, walking_padded z a.left i.1 i.2 (set a.found v 0) (cut a.rows a.query.n a.listing.now) a.from i.3 p (length-set a.found v 0 ∙ l), i.3.agrees))
+
+pub returns-then-met : goal.returns-then-met
+returns-then-met t c =
+    let a = c.args in
+    let i = c.loop-next.invariant in
+    let z = i.0.accepted in
+    let v = get_or a.query.order (a.query.n - a.left) 0 in
+    let g = set a.found v 0 in
+    let k = c.loop-next.next.key in
+    let found = c.loop-next-test.true in
+    let lines = cut a.rows a.query.n a.listing.now in
+    -- the tests made are those of all atoms
+    let tested : c.all_hold.result ≡ all_hold v (set c.loop-next.row v k) (atoms_of a.pool.now a.tables a.query) =
+    rest_holds z v (below i.0 i.1 i.2) c.holder-first.ensures g c.loop-next.row i.3.same i.3.row_long k (i.3.among found) c.all_hold.ensures in
+    walking_lacks z a.left i.1 i.2 g lines a.from i.3 found
+    (under_key z a.left i.1 i.2 g lines a.from i.3 found (sym tested ∙ c.if-all_hold.true) c.search-met.ensures)
+    c.if-met.true
+    ∙ ap (meets lines a.from) (given_before z a.left i.1 i.2 a.found 0)
+
+pub next_key-next-requires-in-loop-next : goal.next_key-next-requires-in-loop-next
+next_key-next-requires-in-loop-next t c =
+    let a = c.args in
+    let i = c.loop-next.invariant in
+    first_reads i.0.accepted (get_or a.query.order (a.query.n - a.left) 0) (below i.0 i.1 i.2) c.holder-first.ensures c.column-c.ensures.0
+
+pub loop-next-smaller : goal.loop-next-smaller
+loop-next-smaller t c =
+    let a = c.args in
+    let i = c.loop-next.invariant in
+    let z = i.0.accepted in
+    let v = get_or a.query.order (a.query.n - a.left) 0 in
+    let g = set a.found v 0 in
+    walking_less z a.left i.1 i.2 g (cut a.rows a.query.n a.listing.now) a.from i.3 c.loop-next-test.true
+    (next_tried z v (below i.0 i.1 i.2) c.holder-first.ensures g c.loop-next.row i.3.same i.3.row_long c.loop-next.next.key true c.column-c.ensures.0 c.next_key-next-in-loop-next.ensures)
+
+pub loop-next-preserved : goal.loop-next-preserved
+loop-next-preserved t c =
+    let a = c.args in
+    let i = c.loop-next.invariant in
+    let z = i.0.accepted in
+    let v = get_or a.query.order (a.query.n - a.left) 0 in
+    let g = set a.found v 0 in
+    let k = c.loop-next.next.key in
+    let found = c.loop-next-test.true in
+    let lines = cut a.rows a.query.n a.listing.now in
+    -- the tests made are those of all atoms
+    let tested : c.all_hold.result ≡ all_hold v (set c.loop-next.row v k) (atoms_of a.pool.now a.tables a.query) =
+    rest_holds z v (below i.0 i.1 i.2) c.holder-first.ensures g c.loop-next.row i.3.same i.3.row_long k (i.3.among found) c.all_hold.ensures in
+    -- the next key of those left
+    let then : c.next_key-next-in-loop-next.result ≡ head_of (from (suc k) (tried v g (atoms_of a.pool.now a.tables a.query))) =
+    next_tried z v (below i.0 i.1 i.2) c.holder-first.ensures g c.loop-next.row i.3.same i.3.row_long k true c.column-c.ensures.0 c.next_key-next-in-loop-next.ensures in (
+      i.0,
+      i.1,
+      i.2,
+      elim c.if-all_hold.branch [
+        | then-all_hold+else-met w ↦
+            walking_next z a.left i.1 i.2 g lines a.from i.3 found
+            (w.met-is ∙ under_key z a.left i.1 i.2 g lines a.from i.3 found (sym tested ∙ w.if-all_hold.true) w.search-met.ensures)
+            (ap (λ (r : Reached). r.lacks) w.met-is ∙ w.if-met.false) then
+        | else-all_hold w ↦
+            walking_next z a.left i.1 i.2 g lines a.from i.3 found
+            (w.met-is ∙ under_none z a.left i.1 i.2 g lines a.from i.3 found (sym tested ∙ w.if-all_hold.false))
+            (ap (λ (r : Reached). r.lacks) (w.met-is ∙ i.3.agrees)) then
+      ],
+    )
+
+-- ---- no key is left
+
+pub returns : goal.returns
+returns t c =
+    let a = c.args in
+    let i = c.loop-next.invariant in
+    let lines = cut a.rows a.query.n a.listing.now in
+    walking_done i.0.accepted a.left i.1 i.2 (set a.found (get_or a.query.order (a.query.n - a.left) 0) 0) lines a.from i.3 c.loop-next-test.false
+    ∙ ap (meets lines a.from) (given_before i.0.accepted a.left i.1 i.2 a.found 0)

@@ -1,0 +1,18 @@
+-- The measures of `search`, how many variables are left and how many keys, and what its loop keeps: the keys left lead to its end (Trying.antt).
+use Prim.Native.Nat.{◌≤◌, ◌<◌}
+use lib.ListN.{length}
+use Rattle.join_query.specs.Query.{atoms_of}
+use Rattle.plain.specs.Plain.{tried}
+use Rattle.plain_atoms.specs.Atoms.{Passed}
+use Rattle.plain_join.proofs.Trying.{todo, Trying}
+use Rattle.plain_join.proofs.+search.Given as goal
+
+abbrev pub decreases-search : goal.decreases-search
+decreases-search l = l.left
+
+abbrev pub invariant-loop-next : goal.invariant-loop-next
+invariant-loop-next l = (p : Passed l.pool l.tables l.query) × (s : 0 < l.left) × (h : l.left ≤ l.query.n) × Trying p.accepted l.left s h l.initial.found l.initial.window l.rows l.window l.found l.next l.written
+
+-- how many keys are left
+abbrev pub decreases-loop-next : goal.decreases-loop-next
+decreases-loop-next l = length (todo (tried l.v l.initial.found (atoms_of l.pool l.tables l.query)) l.next)
