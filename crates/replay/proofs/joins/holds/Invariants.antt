@@ -1,7 +1,6 @@
 -- `replay::joins::holds` is safe and ends: each turn goes one word on.
 use Prim.Native.Nat.{◌-◌}
 use lib.ListN.{length}
-
 use Rattle.replay.proofs.joins.holds.Given as goal
 
 abbrev pub invariant-loop-i : goal.invariant-loop-i

@@ -2,7 +2,6 @@
 use Prim.Native.Nat.{◌-◌}
 use lib.ListN.{length}
 use mathlib.Core.Path.{◌≡◌}
-
 use Rattle.replay.proofs.joins.tables_of.Given as goal
 
 abbrev pub invariant-loop-i : goal.invariant-loop-i

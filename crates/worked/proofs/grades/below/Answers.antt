@@ -1,7 +1,6 @@
 -- `worked::grades::below` is safe: size - 1 is below 2^63, so -1 - (size - 1) is in the range.
-use Rattle.std.proofs.Common.{◌-◌, arith, rules}
+use Rattle.std.proofs.Common.{◌-◌, arith}
 use Rattle.grade.proofs.Mirror.{up_fits}
-
 use Rattle.worked.proofs.grades.below.Goals as goal
 
 pub overflow_sub-result : goal.overflow_sub-result

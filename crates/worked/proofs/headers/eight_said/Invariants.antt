@@ -1,6 +1,5 @@
 -- `worked::headers::eight_said` is safe and ends: each turn reads one number, and there are eight.
-use Rattle.std.proofs.Common.{◌-◌, rules}
-
+use Rattle.std.proofs.Common.{◌-◌}
 use Rattle.worked.proofs.headers.eight_said.Given as goal
 
 abbrev pub invariant-loop-i : goal.invariant-loop-i

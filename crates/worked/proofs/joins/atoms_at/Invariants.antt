@@ -1,6 +1,5 @@
 -- `worked::joins::atoms_at` is safe and ends: each turn lays one atom, and there are eight.
-use Rattle.std.proofs.Common.{◌-◌, rules}
-
+use Rattle.std.proofs.Common.{◌-◌}
 use Rattle.worked.proofs.joins.atoms_at.Given as goal
 
 abbrev pub invariant-loop-i : goal.invariant-loop-i

@@ -1,6 +1,5 @@
 -- `worked::joins::tables_at` is safe and ends: each turn lays one table, and there are eight.
-use Rattle.std.proofs.Common.{◌-◌, rules}
-
+use Rattle.std.proofs.Common.{◌-◌}
 use Rattle.worked.proofs.joins.tables_at.Given as goal
 
 abbrev pub invariant-loop-i : goal.invariant-loop-i

@@ -1,6 +1,5 @@
 -- `worked::listings::stays` is safe and ends: each turn goes one byte on.
-use Rattle.std.proofs.Common.{◌-◌, length, rules}
-
+use Rattle.std.proofs.Common.{◌-◌, length}
 use Rattle.worked.proofs.listings.stays.Given as goal
 
 abbrev pub invariant-loop-i : goal.invariant-loop-i

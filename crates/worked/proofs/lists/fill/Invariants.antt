@@ -1,6 +1,5 @@
 -- `worked::lists::fill` is safe and ends: each turn fills one word, and there are `len`.
-use Rattle.std.proofs.Common.{◌≡◌, ◌-◌, length, rules}
-
+use Rattle.std.proofs.Common.{◌≡◌, ◌-◌, length}
 use Rattle.worked.proofs.lists.fill.Given as goal
 
 abbrev pub invariant-loop-i : goal.invariant-loop-i

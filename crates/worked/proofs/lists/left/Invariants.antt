@@ -1,6 +1,5 @@
 -- `worked::lists::left` is safe and ends: each turn goes one word on.
-use Rattle.std.proofs.Common.{◌-◌, length, rules}
-
+use Rattle.std.proofs.Common.{◌-◌, length}
 use Rattle.worked.proofs.lists.left.Given as goal
 
 abbrev pub invariant-loop-i : goal.invariant-loop-i
