@@ -61,6 +61,10 @@ fn bare(text: String) -> String {
     }
 }
 
+fn leads_to(ty: &Ty, bits: u32, count: usize) -> bool {
+    matches!(ty, Ty::Array(of, length) if **of == Ty::Int(bits) && *length == count as u64)
+}
+
 fn is_scalar(ty: &Ty) -> bool {
     matches!(ty, Ty::Int(_) | Ty::Bool)
 }
@@ -135,6 +139,8 @@ impl<'w, 'a> Writer<'w, 'a> {
         let pointer = match ty {
             Ty::Ptr => format!("({} *){text}", self.types.c(to)?),
             Ty::Ref { to: leads, .. } if **leads == *to => text,
+            // A reference to an array is in C a pointer to its first element.
+            Ty::Ref { to: leads, .. } if matches!(&**leads, Ty::Array(of, _) if **of == *to) => text,
             _ => return self.refused("deref", (ty, to)),
         };
         Ok((if matches!(to, Ty::Array(..)) { pointer } else { format!("(*{pointer})") }, to.clone()))
@@ -220,7 +226,7 @@ impl<'w, 'a> Writer<'w, 'a> {
                 self.op1(*op, text, ty)?
             }
             Value::AddrOf(place) => return self.address(place, to),
-            Value::Aggregate(_) | Value::Repeat(..) => return self.refused("value", value),
+            Value::Aggregate(_) | Value::Repeat(..) | Value::Lent(..) => return self.refused("value", value),
         };
         self.fits(&ty, to)?;
         Ok(text)
@@ -317,6 +323,13 @@ impl<'w, 'a> Writer<'w, 'a> {
             }
             (Value::Aggregate(parts), _) if self.types.variants(&ty).is_some() => self.variant(&text, &ty, parts)?,
             (Value::Aggregate(parts), _) => self.structure(to, &text, &ty, parts)?,
+            (Value::Lent(bits, numbers), Ty::Ref { mutable: false, to }) if leads_to(to, *bits, numbers.len()) => {
+                let numbers = numbers.iter().map(|n| literal(*n)).collect::<Vec<_>>();
+                self.put("{");
+                self.put(&format!("    static const uint{bits}_t lent[{}] = {{{}}};", numbers.len(), numbers.join(", ")));
+                self.put(&format!("    {text} = lent;"));
+                self.put("}");
+            }
             (Value::Operand(_), Ty::Array(of, count)) => {
                 let (from, kind) = (self.value(value, &ty)?, self.types.c(of)?);
                 self.put(&format!("memmove({text}, {from}, sizeof({kind}[{count}]));"));

@@ -91,6 +91,8 @@ pub enum Value {
     AddrOf(Place),
     Aggregate(Vec<Operand>),
     Repeat(Operand, u64),
+    /// A reference to a constant list of integers of that width, in memory that is never written.
+    Lent(u32, Vec<u64>),
 }
 
 #[derive(Clone, Debug, PartialEq)]
@@ -375,11 +377,26 @@ pub fn value(form: &Form) -> Read<Value> {
     }
 }
 
+fn lent(kind: &Ty, constant: &Form) -> Read<Value> {
+    let (bits, numbers) = match made(constant, "constant")? {
+        ("c_ints", [bits, numbers]) => (width(bits)?, list(numbers, "numbers", number)?),
+        _ => return Err(Refused::new("constant", constant)),
+    };
+    let fits = |n: &u64| bits == 64 || n >> bits == 0;
+    match kind {
+        Ty::Array(of, count) if **of == Ty::Int(bits) && *count == numbers.len() as u64 && numbers.iter().all(fits) => {
+            Ok(Value::Lent(bits, numbers))
+        }
+        _ => Err(Refused::new("constant", constant)),
+    }
+}
+
 pub fn body(form: &Form) -> Read<Body> {
     match made(form, "statement")? {
         ("skip", []) => Ok(Body::Skip),
         ("seq", [_, _]) => sequence(form),
         ("assign", [to, from]) => Ok(Body::Assign(place(to)?, value(from)?)),
+        ("lend_static", [to, kind, constant]) => Ok(Body::Assign(place(to)?, lent(&ty(kind)?, constant)?)),
         ("block", [inner]) => Ok(Body::Block(Box::new(body(inner)?))),
         ("loop", [inner]) => Ok(Body::Loop(Box::new(body(inner)?))),
         ("if", [test, yes, no]) => Ok(Body::If(operand(test)?, Box::new(body(yes)?), Box::new(body(no)?))),

@@ -209,6 +209,7 @@ fn places<'a>(act: &Act<'a>) -> Vec<&'a Place> {
                 Value::Op2(_, one, other) => all.extend(of(one).into_iter().chain(of(other))),
                 Value::AddrOf(place) => all.push(place),
                 Value::Aggregate(parts) => all.extend(parts.iter().filter_map(of)),
+                Value::Lent(..) => {}
             }
             all
         }
@@ -231,7 +232,7 @@ fn pointers(value: &Value, into: &[BTreeSet<usize>]) -> BTreeSet<usize> {
         Value::AddrOf(place) => into.get(place.local).cloned().unwrap_or_default(),
         Value::Operand(one) | Value::Op2(Op2::Offset, one, _) | Value::Repeat(one, _) => held(one, into),
         Value::Aggregate(parts) => parts.iter().flat_map(|one| held(one, into)).collect(),
-        Value::Op2(..) | Value::Op1(..) => BTreeSet::new(),
+        Value::Op2(..) | Value::Op1(..) | Value::Lent(..) => BTreeSet::new(),
     }
 }
 

@@ -138,3 +138,28 @@ fn a_result_with_a_sign_keeps_its_bits() {
     assert!(text.contains("uint64_t n_bits = (uint64_t)n;"), "{text}");
     assert!(text.contains("return signed_of(result);"), "{text}");
 }
+
+#[test]
+fn constant_text() {
+    let lent = "(tyRef erased imm (tyArray (tyInt 8) (lenLit 2)))";
+    let first = "(tyRef erased imm (tyInt 8))";
+    let lend = format!("(lend_static {} (tyArray (tyInt 8) (lenLit 2)) (c_ints 8 (lcons 72 (lcons 105 lnil))))", at(2));
+    holds(&[lent], &lend, "{\nstatic const uint8_t lent[2] = {72, 105};\nv2 = lent;\n}");
+    let start = "(assign (place 3 lnil) (addrOf (place 2 (lcons (deref (tyInt 8)) lnil))))";
+    holds(&[lent, first], &seq(&[&lend, start]), "}\nv3 = v2;");
+}
+
+/// A clause may have a name; what stands in its brackets is no code.
+#[test]
+fn names_of_locals() {
+    let function = function("k::f", 1, &[U64, U64, U64], &seq(&[&assign(2, &format!("(rvOpd {})", copy(1))), "return"]));
+    for source in [
+        "pub fn f(n: u64) -> u64 requires { n < 2 } ensures { result ≡ n } { let mut kept = n; kept }",
+        "pub fn f(n: u64) -> u64 requires few { n < 2 } ensures same { result ≡ n } { let mut kept = n; kept }",
+    ] {
+        let mut names = portable::Names::default();
+        names.read("k", source);
+        let text = portable::translate(&program(std::slice::from_ref(&function)), "uint64_t f(uint64_t n);", &names).unwrap();
+        assert!(text.contains("kept = n;"), "{text}");
+    }
+}

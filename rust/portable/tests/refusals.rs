@@ -17,6 +17,10 @@ fn unknown_forms() {
         (&*assign(2, "(rvOpd (copy (place 1 (lcons (index 0) lnil))))"), "step: Made(\"index\""),
         ("(switch (int 64 0) noDefault)", "arm: Made(\"noDefault\""),
         ("(call (pointer 3) lnil (place 2 lnil))", "call: Made(\"pointer\""),
+        ("(lend_static (place 2 lnil) (tyInt 64) (c_parts cnil))", "constant: Made(\"c_parts\""),
+        ("(lend_static (place 2 lnil) (tyArray (tyInt 8) (lenLit 2)) (c_ints 8 (lcons 1 lnil)))", "constant: Made(\"c_ints\""),
+        ("(lend_static (place 2 lnil) (tyArray (tyInt 8) (lenLit 1)) (c_ints 8 (lcons 256 lnil)))", "constant: Made(\"c_ints\""),
+        ("(lend_static (place 2 lnil) (tyArray (tyInt 8) (lenLit 1)) (c_ints 8 (lcons 1 lnil)))", "value: Lent"),
     ] {
         refuses(&[U64], statement, name);
     }
