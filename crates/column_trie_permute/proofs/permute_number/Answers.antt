@@ -1,4 +1,5 @@
 -- `column_trie_permute::permute_number` meets its contract: the checks stand in the sequence of the definition's.
+use native.Mathlib.Omega.{arith}
 use mathlib.Core.Path.{◌≡◌}
 use mathlib.Core.Bool.{true}
 use Rattle.relation.proofs.Tests.{passed, failed, and_left}
@@ -18,7 +19,7 @@ sound : (c : Else-not-undamaged) → undamaged c.args.pool.now c.args.table ≡ 
 sound c = passed c.undamaged.ensures (ap not c.if-not-undamaged.false)
 
 pub columns_ok-requires : goal.columns_ok-requires
-columns_ok-requires c = (undamaged_told c.args.pool.now c.args.table (sound (goal.at.columns_ok-requires c).Else-not-undamaged)).arity.1
+columns_ok-requires c = omega (arith, (undamaged_told c.args.pool.now c.args.table (sound (goal.at.columns_ok-requires c).Else-not-undamaged)).arity.1)
 
 pub returns-then-not-columns_ok : goal.returns-then-not-columns_ok
 returns-then-not-columns_ok c = number_8 _ _ _ _ _ _ (sound (goal.at.returns-then-not-columns_ok c).Else-not-undamaged) (failed c.columns_ok.ensures (ap not c.if-not-columns_ok.true))
