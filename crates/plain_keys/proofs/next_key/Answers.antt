@@ -1,4 +1,4 @@
--- The goals of `next_key` that the check leaves.
+-- `next_key` meets its contract: what each table gives, and the lesser of both, is what the atom's rows give (Owners.antt).
 use Prim.Native.Nat.{ℕ, ◌≤◌, ◌<◌}
 use native.Mathlib.Omega.{arith}
 use native.Mathlib.Decide.{dec_lt}
