@@ -104,7 +104,8 @@ fn function(words: &[&str]) -> Code {
             "(" | "[" => depth += 1,
             "{" => {
                 // A clause may have a name of its own before its bracket.
-                inside |= depth == 0 && !words[at.saturating_sub(2)..at].iter().any(|word| ["requires", "ensures"].contains(word));
+                inside |=
+                    depth == 0 && !words[at.saturating_sub(2)..at].iter().any(|word| ["requires", "ensures"].contains(word));
                 depth += 1;
             }
             ")" | "]" | "}" => depth -= 1,
