@@ -4,13 +4,13 @@ use Prim.Native.Nat.{ℕ, ◌+◌, ◌<◌}
 use native.Mathlib.Omega.{arith}
 use mathlib.Core.Path.{◌≡◌}
 use mathlib.Core.List.{List}
-use lib.ListN.{length, set}
+use lib.ListN.{length, set, length-set}
 use borrow.Author.Rules.{rules}
 use Rattle.join_query.specs.Query.{max_variables}
 use Rattle.join_openings.specs.Openings.{variable_at}
 use Rattle.join_depths.specs.Depth.{Standing}
 use Rattle.descent.specs.Descent.{Completes}
-use Rattle.descent.proofs.Walking.{walk_start, walk_below, walk_agreed, walk_same, walk_fits, walk_long, walk_full, walk_next, walk_none, steps_less, few_variables, deep_enough, variable_small}
+use Rattle.descent.proofs.Walking.{walk_start, walk_below, walk_agreed, walk_same, walk_fits, walk_full, walk_next, walk_none, steps_less, few_variables, deep_enough, variable_small}
 use Rattle.descent.proofs.Counting.{counting_start, completes_leaf, completes_came, counting_none, counting_full, counting_next}
 use Rattle.descent.proofs.+descend.Goals as goal
 use Rattle.descent.proofs.+descend.Goals.{Joined-depth-n-2, then-depth-n-2, else-depth-n-2}
@@ -81,9 +81,9 @@ bounds-row-v t c = let st = c.requires.standing in variable_small st (deep st c.
 -- it was the last variable's
 pub complete-below-requires-clause-n_le_max_variables : goal.complete-below-requires-clause-n_le_max_variables
 complete-below-requires-clause-n_le_max_variables t c =
-    let st = c.requires.standing in
-    let few = few_variables st in
-    (few, omega (arith, few, walk_long c.open-first.ensures.begun st (deep st c.if-depth-n.false) c.in-Key.is c.loop-landed.invariant.0))
+    let few = few_variables c.requires.standing in
+    let long : length c.loop-landed.row ≡ max_variables = search rules in
+    (few, omega (arith, few, long, length-set {A = ℕ}))
 
 pub complete-below-requires-clause-fits : goal.complete-below-requires-clause-fits
 complete-below-requires-clause-fits t c =
