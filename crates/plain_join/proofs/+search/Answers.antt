@@ -51,7 +51,7 @@ pub bounds-query-query : goal.bounds-query-query
 bounds-query-query t c = omega (arith, (sized c.requires.0.accepted).few, c.if-left-eq0.false, c.requires.1)
 
 pub holder-first-requires : goal.holder-first-requires
-holder-first-requires t c = record { pool = c.args.pool.now; tables = c.args.tables; passed = c.requires.0; below = below c.requires.0 (omega (arith, c.if-left-eq0.false)) c.requires.1 }
+holder-first-requires t c = record { pool = c.args.pool.now; tables = c.args.tables; passed = c.requires.0; below = omega (arith, below c.requires.0 (omega (arith, c.if-left-eq0.false)) c.requires.1) }
 
 pub offset_bounds-query-first : goal.offset_bounds-query-first
 offset_bounds-query-first t c = omega (arith, c.holder-first.ensures.inside, (names c.requires.0.accepted).few)
@@ -63,15 +63,15 @@ pub column-c-requires : goal.column-c-requires
 column-c-requires t c = (lists c.requires.0.accepted c.holder-first.result c.holder-first.ensures.inside).short
 
 pub offset_bounds-found-v : goal.offset_bounds-found-v
-offset_bounds-found-v t c = omega (arith, inside c.requires.0 (let s : 0 < c.args.left = omega (arith, c.if-left-eq0.false) in s) c.requires.1)
+offset_bounds-found-v t c = omega (arith, inside c.requires.0 (let s : 0 < c.args.left = omega (arith, c.if-left-eq0.false) in s) c.requires.1, (sized c.requires.0.accepted).few, c.if-left-eq0.false)
 
 pub bounds-found-v : goal.bounds-found-v
-bounds-found-v t c = inside c.requires.0 (omega (arith, c.if-left-eq0.false)) c.requires.1
+bounds-found-v t c = omega (arith, inside c.requires.0 (let s : 0 < c.args.left = omega (arith, c.if-left-eq0.false) in s) c.requires.1, (sized c.requires.0.accepted).few, c.if-left-eq0.false)
 
 pub next_key-next-requires : goal.next_key-next-requires
 next_key-next-requires t c =
     let a = c.args in
-    first_reads c.requires.0.accepted (get_or a.query.order (a.query.n - a.left) 0) (below c.requires.0 (omega (arith, c.if-left-eq0.false)) c.requires.1) c.holder-first.ensures c.column-c.ensures.0
+    first_reads c.requires.0.accepted _ (omega (arith, below c.requires.0 (let s : 0 < a.left = omega (arith, c.if-left-eq0.false) in s) c.requires.1)) c.holder-first.ensures c.column-c.ensures.0
 
 pub loop-next-init : goal.loop-next-init
 loop-next-init t c =
