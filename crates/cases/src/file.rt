@@ -4,7 +4,7 @@ ghost use Rattle.cases.specs.Counts.{IsPrefixLen};
 
 use std::io::Read;
 use std::rt::Files;
-use std::{fs, io};
+use std::{fs, io, str};
 
 const TEXT: usize = 262144;
 
@@ -38,7 +38,11 @@ fn read_full(file: &mut impl Read, text: &mut [u8]) -> io::Result<usize>
 }
 
 // The file of this name, as far as there is room. What there is no room for is missed, and so is wrong. One that can't be opened is named, with the reason.
-pub fn load<R: Files + Eprint>(rt: &R, name: &str, text: &mut [u8]) -> io::Result<Loaded> {
+pub fn load<R: Files + Eprint>(rt: &R, name: &[u8], text: &mut [u8]) -> io::Result<Loaded> {
+    let Ok(name) = str::from_utf8(name) else {
+        // A path of today's library is text.
+        return Err(io::ErrorKind::InvalidInput.into());
+    };
     match fs::open(rt, name) {
         Ok(mut file) => Ok(Loaded {
             is_there: true,

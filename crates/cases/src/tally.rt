@@ -51,8 +51,8 @@ impl Tally {
     }
 
     // `NAME: 12 cases, 36 compared, 0 wrong`
-    pub fn print(self, rt: &impl Print, name: &str, cases: u64) -> io::Result<()> {
-        text(rt, name.as_bytes())?;
+    pub fn print(self, rt: &impl Print, name: &[u8], cases: u64) -> io::Result<()> {
+        text(rt, name)?;
         text(rt, b": ")?;
         number(rt, cases)?;
         text(rt, b" cases, ")?;
@@ -64,8 +64,8 @@ impl Tally {
 }
 
 // `NAME: case 3 is wrong`
-pub fn print_wrong(rt: &impl Print, name: &str, case: u64) -> io::Result<()> {
-    text(rt, name.as_bytes())?;
+pub fn print_wrong(rt: &impl Print, name: &[u8], case: u64) -> io::Result<()> {
+    text(rt, name)?;
     text(rt, b": case ")?;
     number(rt, case)?;
     text(rt, b" is wrong\n")

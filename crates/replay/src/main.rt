@@ -48,13 +48,13 @@ fn each_case(kind: Kind, text: &[u8], start: Tally, count: u64) -> Tally {
     tally
 }
 
-fn replayed(rt: &impl Print, kind: Kind, name: &str, text: &[u8]) -> io::Result<()> {
+fn replayed(rt: &impl Print, kind: Kind, name: &[u8], text: &[u8]) -> io::Result<()> {
     let count = number(text, 0);
     let tally = each_case(kind, text, Tally::new(count.at), count.word);
     tally.closed(text).print(rt, name, count.word)
 }
 
-fn replay<R: Files + Print + Eprint>(rt: &R, kind: Kind, name: &str) -> io::Result<()> {
+fn replay<R: Files + Print + Eprint>(rt: &R, kind: Kind, name: &[u8]) -> io::Result<()> {
     let mut text = room();
     let loaded = load(rt, name, &mut text)?;
     if loaded.is_there {
@@ -65,8 +65,8 @@ fn replay<R: Files + Print + Eprint>(rt: &R, kind: Kind, name: &str) -> io::Resu
 }
 
 fn main(rt: HostRuntime) -> io::Result<()> {
-    replay(&rt, Kind::Seeks, "seeks")?;
-    replay(&rt, Kind::Tables, "tables")?;
-    replay(&rt, Kind::Cursors, "cursors")?;
-    replay(&rt, Kind::Joins, "joins")
+    replay(&rt, Kind::Seeks, b"seeks")?;
+    replay(&rt, Kind::Tables, b"tables")?;
+    replay(&rt, Kind::Cursors, b"cursors")?;
+    replay(&rt, Kind::Joins, b"joins")
 }

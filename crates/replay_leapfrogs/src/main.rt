@@ -92,12 +92,12 @@ fn each_case(text: &[u8], start: Tally, count: u64) -> Tally {
 fn replayed(rt: &impl Print, text: &[u8]) -> io::Result<()> {
     let count = number(text, 0);
     let tally = each_case(text, Tally::new(count.at), count.word);
-    tally.closed(text).print(rt, "leapfrogs", count.word)
+    tally.closed(text).print(rt, b"leapfrogs", count.word)
 }
 
 fn main(rt: HostRuntime) -> io::Result<()> {
     let mut text = room();
-    let loaded = load(&rt, "leapfrogs", &mut text)?;
+    let loaded = load(&rt, b"leapfrogs", &mut text)?;
     if loaded.is_there {
         let n = cut_bytes(&text, loaded.len);
         replayed(&rt, &text[..n])?;

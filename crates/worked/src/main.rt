@@ -121,7 +121,7 @@ fn case(kind: Kind, text: &[u8], tally: Tally, pool: &mut [u64], words: &mut [u6
 // A case with a wrong answer is named, and so is one that isn't written as it must be.
 fn name_wrong(
     rt: &impl Print,
-    name: &str,
+    name: &[u8],
     number: u64,
     before: Tally,
     after: Tally,
@@ -136,7 +136,7 @@ fn name_wrong(
 fn each_case(
     rt: &impl Print,
     kind: Kind,
-    name: &str,
+    name: &[u8],
     text: &[u8],
     start: Tally,
     count: u64,
@@ -164,7 +164,7 @@ fn room() -> [u64; WORDS]
     [0; WORDS]
 }
 
-fn told(rt: &impl Print, kind: Kind, name: &str, text: &[u8]) -> io::Result<()> {
+fn told(rt: &impl Print, kind: Kind, name: &[u8], text: &[u8]) -> io::Result<()> {
     let mut pool = room();
     let mut words = room();
     let count = number(text, 0);
@@ -175,7 +175,7 @@ fn told(rt: &impl Print, kind: Kind, name: &str, text: &[u8]) -> io::Result<()> 
     tally.closed(text).print(rt, name, count.word)
 }
 
-fn work<R: Files + Print + Eprint>(rt: &R, kind: Kind, name: &str) -> io::Result<()> {
+fn work<R: Files + Print + Eprint>(rt: &R, kind: Kind, name: &[u8]) -> io::Result<()> {
     let mut text = cases::file::room();
     let loaded = load(rt, name, &mut text)?;
     if loaded.is_there {
@@ -186,13 +186,13 @@ fn work<R: Files + Print + Eprint>(rt: &R, kind: Kind, name: &str) -> io::Result
 }
 
 fn main(rt: HostRuntime) -> io::Result<()> {
-    work(&rt, Kind::OfOne(OfOne::Seeks), "seeks")?;
-    work(&rt, Kind::Grades, "grades")?;
-    work(&rt, Kind::Empties, "empties")?;
-    work(&rt, Kind::OfTwo(OfTwo::Builds), "builds")?;
-    work(&rt, Kind::OfTwo(OfTwo::Inserts), "inserts")?;
-    work(&rt, Kind::OfTwo(OfTwo::Removals), "removals")?;
-    work(&rt, Kind::OfOne(OfOne::Listings), "listings")?;
-    work(&rt, Kind::OfOne(OfOne::Cursors), "cursors")?;
-    work(&rt, Kind::Joins, "joins")
+    work(&rt, Kind::OfOne(OfOne::Seeks), b"seeks")?;
+    work(&rt, Kind::Grades, b"grades")?;
+    work(&rt, Kind::Empties, b"empties")?;
+    work(&rt, Kind::OfTwo(OfTwo::Builds), b"builds")?;
+    work(&rt, Kind::OfTwo(OfTwo::Inserts), b"inserts")?;
+    work(&rt, Kind::OfTwo(OfTwo::Removals), b"removals")?;
+    work(&rt, Kind::OfOne(OfOne::Listings), b"listings")?;
+    work(&rt, Kind::OfOne(OfOne::Cursors), b"cursors")?;
+    work(&rt, Kind::Joins, b"joins")
 }
