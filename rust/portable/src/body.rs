@@ -135,7 +135,7 @@ impl<'w, 'a> Writer<'w, 'a> {
     }
 
     fn deref(&mut self, text: String, ty: &Ty, to: &Ty) -> Made<(String, Ty)> {
-        self.types.point(to)?;
+        self.types.point(to, *ty == Ty::Ptr)?;
         let pointer = match ty {
             Ty::Ptr => format!("({} *){text}", self.types.c(to)?),
             Ty::Ref { to: leads, .. } if **leads == *to => text,
@@ -167,7 +167,7 @@ impl<'w, 'a> Writer<'w, 'a> {
 
     fn target(&mut self, place: &Place) -> Made<(String, Ty)> {
         let found = self.place(place)?;
-        if !place.steps.is_empty() {
+        if !place.steps.is_empty() && found.1 != Ty::Unit {
             self.note_read(place);
         }
         Ok(found)
@@ -179,7 +179,9 @@ impl<'w, 'a> Writer<'w, 'a> {
         match operand {
             Operand::Copy(place) => {
                 let found = self.place(place)?;
-                self.note_read(place);
+                if found.1 != Ty::Unit {
+                    self.note_read(place);
+                }
                 Ok(found)
             }
             Operand::Int(bits, n) => Ok((literal(*n), Ty::Int(*bits))),
@@ -197,7 +199,9 @@ impl<'w, 'a> Writer<'w, 'a> {
         for (operand, ty) in operands.iter().zip(types) {
             let (text, kind) = self.operand(operand)?;
             self.fits(&kind, ty)?;
-            texts.push(text);
+            if *ty != Ty::Unit {
+                texts.push(text);
+            }
         }
         Ok(texts.join(", "))
     }
@@ -293,6 +297,9 @@ impl<'w, 'a> Writer<'w, 'a> {
                 (if matches!(ty, Ty::Array(..)) { text } else { format!("&{text}") }, ty, lent)
             }
         };
+        if kind == Ty::Unit {
+            return Ok("NULL".to_string());
+        }
         self.note_read(place);
         let plain = match to {
             Ty::Ptr => !constant,
@@ -310,7 +317,7 @@ impl<'w, 'a> Writer<'w, 'a> {
         }
         let (text, ty) = self.target(to)?;
         match (value, &ty) {
-            (Value::Operand(Operand::Unit), Ty::Unit) => {}
+            (Value::Operand(_), Ty::Unit) => {}
             (Value::Repeat(one, count), Ty::Array(of, length)) if count == length && lies_within(to) => {
                 let one = self.operands(std::slice::from_ref(one), std::slice::from_ref(&**of))?;
                 self.put(&format!("for (int each = 0; each < {count}; each++)"));
@@ -352,9 +359,32 @@ impl<'w, 'a> Writer<'w, 'a> {
         let kinds = self.types.variants(ty).unwrap_or_default();
         let Some((Operand::Int(8, tag), rest)) = parts.split_first() else { return self.refused("tag", parts) };
         let Some(fields) = usize::try_from(*tag).ok().and_then(|k| kinds.get(k)) else { return self.refused("tag", parts) };
-        let (rest, kind) = (self.operands(rest, fields)?, self.types.c(ty)?);
+        let fields = fields.clone();
+        let kind = self.types.c(ty)?;
+        if fields.iter().any(|field| matches!(field, Ty::Array(..))) {
+            return self.variant_with_arrays(text, &kind, *tag, rest, &fields);
+        }
+        let rest = self.operands(rest, &fields)?;
         let of = if rest.is_empty() { String::new() } else { format!(", .of.k{tag} = {{{rest}}}") };
         self.put(&format!("{text} = ({kind}){{.tag = {tag}{of}}};"));
+        Ok(())
+    }
+
+    /// Made beside its place, since a part may lie in that.
+    fn variant_with_arrays(&mut self, text: &str, kind: &str, tag: u64, parts: &[Operand], fields: &[Ty]) -> Made<()> {
+        if parts.len() != fields.len() {
+            return self.refused("number of parts", parts);
+        }
+        self.put("{");
+        self.depth += 1;
+        self.put(&format!("{kind} made;"));
+        self.put(&format!("made.tag = {tag};"));
+        for (i, (part, field)) in parts.iter().zip(fields).enumerate() {
+            self.part(&format!("made.of.k{tag}.f{}", i + 1), part, field)?;
+        }
+        self.put(&format!("{text} = made;"));
+        self.depth -= 1;
+        self.put("}");
         Ok(())
     }
 
@@ -363,6 +393,7 @@ impl<'w, 'a> Writer<'w, 'a> {
         let (fields, kind) = (self.types.fields(ty)?, self.types.c(ty)?);
         if !fields.iter().any(|field| matches!(field, Ty::Array(..))) {
             let parts = self.operands(parts, &fields)?;
+            let parts = if parts.is_empty() { "0".to_string() } else { parts };
             self.put(&format!("{text} = ({kind}){{{parts}}};"));
             return Ok(());
         }
@@ -389,15 +420,18 @@ impl<'w, 'a> Writer<'w, 'a> {
             return self.refused("number of parts", parts);
         }
         for ((name, field), part) in self.types.field_names(ty)?.iter().zip(&fields).zip(parts) {
-            let (value, kind) = self.operand(part)?;
-            self.fits(&kind, field)?;
-            let is_array = matches!(field, Ty::Array(..));
-            let whole = format!("{text}.{name}");
-            self.put(&if is_array {
-                format!("memmove({whole}, {value}, sizeof {whole});")
-            } else {
-                format!("{whole} = {value};")
-            });
+            self.part(&format!("{text}.{name}"), part, field)?;
+        }
+        Ok(())
+    }
+
+    fn part(&mut self, whole: &str, part: &Operand, field: &Ty) -> Made<()> {
+        let (value, kind) = self.operand(part)?;
+        self.fits(&kind, field)?;
+        match field {
+            Ty::Unit => {}
+            Ty::Array(..) => self.put(&format!("memmove({whole}, {value}, sizeof {whole});")),
+            _ => self.put(&format!("{whole} = {value};")),
         }
         Ok(())
     }
@@ -413,6 +447,9 @@ impl<'w, 'a> Writer<'w, 'a> {
         for (i, operand) in given.iter().enumerate() {
             let (text, kind) = self.operand(operand)?;
             self.fits(&kind, &callee.function.locals[i + 1].ty)?;
+            if kind == Ty::Unit {
+                continue;
+            }
             let lent = callee.passing[i + 1] == Passing::Lent;
             let is_array = matches!(kind, Ty::Array(..));
             if !lent || (is_array && self.callee.uses.may_lend(operand, &given)) {
@@ -500,6 +537,10 @@ impl<'w, 'a> Writer<'w, 'a> {
                 Ok(())
             }
             Body::Exit(n) => self.exit(*n),
+            Body::Unreachable => {
+                self.put("for (;;) {}");
+                Ok(())
+            }
         }
     }
 

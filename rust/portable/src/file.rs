@@ -64,7 +64,6 @@ pub fn translate(mir: &str, header: &str, names: &Names) -> Made<String> {
     let sizes = "/* Offsets count bytes: these sizes must be the same on every machine. */".to_string();
     let parts = [
         vec![preamble(mir, ordered.len())],
-        types.slice_definitions(),
         defined,
         vec![sizes],
         types.size_assertions()?,
@@ -77,7 +76,7 @@ pub fn translate(mir: &str, header: &str, names: &Names) -> Made<String> {
 }
 
 /// What is exported and all that it reaches, by symbol.
-fn callees<'a>(program: &'a Program, header: &'a Header, types: &Types) -> Made<Callees<'a>> {
+fn callees<'a>(program: &'a Program, header: &'a Header, types: &Types<'a>) -> Made<Callees<'a>> {
     let exported = exported(program, header)?;
     let kept = reached(program, &exported)?;
     let mut callees = Callees::new();
@@ -119,7 +118,7 @@ fn reached(program: &Program, exported: &BTreeMap<String, String>) -> Made<BTree
         let function = program.functions.iter().find(|function| function.symbol == symbol);
         let function = function.ok_or_else(|| Refused::new("call of", &symbol))?;
         if kept.insert(symbol) {
-            todo.extend(Uses::of(function).calls);
+            todo.extend(Uses::of(function, &program.shapes).calls);
         }
     }
     Ok(kept)

@@ -18,15 +18,15 @@ pub struct Callee<'a> {
     pub function: &'a Function,
     pub name: String,
     pub exported: Option<&'a Prototype>,
-    pub uses: Uses,
+    pub uses: Uses<'a>,
     /// How each local is held: parameters as they are handed over, all others as values.
     pub passing: Vec<Passing>,
 }
 
 pub type Callees<'a> = BTreeMap<String, Callee<'a>>;
 
-pub fn callee<'a>(function: &'a Function, exported: Option<&'a Prototype>, types: &Types) -> Made<Callee<'a>> {
-    let uses = Uses::of(function);
+pub fn callee<'a>(function: &'a Function, exported: Option<&'a Prototype>, types: &Types<'a>) -> Made<Callee<'a>> {
+    let uses = Uses::of(function, types.shapes);
     let last = function.symbol.rsplit("::").next().unwrap_or_default();
     let name = if exported.is_some() { last.to_string() } else { function.symbol.replace("::", "_") };
     if function.params >= function.locals.len() || (exported.is_some() && gives_array(function)) {
@@ -126,6 +126,9 @@ pub fn head(callee: &Callee, names: &[String], types: &mut Types) -> Made<String
     }
     for (i, name) in names.iter().enumerate().take(callee.function.params + 1).skip(1) {
         let ty = &callee.function.locals[i].ty;
+        if *ty == Ty::Unit {
+            continue;
+        }
         params.push(match callee.passing[i] {
             Passing::Value => types.declare(ty, name)?,
             Passing::Lent => format!("const {} *{name}", types.c(ty)?),

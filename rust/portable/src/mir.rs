@@ -107,6 +107,8 @@ pub enum Body {
     Switch(Operand, Vec<(Vec<u64>, Body)>, Option<Box<Body>>),
     Exit(usize),
     Return,
+    /// What the proofs say is never run.
+    Unreachable,
     Call(String, Vec<Operand>, Place),
 }
 
@@ -403,6 +405,7 @@ pub fn body(form: &Form) -> Read<Body> {
         ("switch", [on, arms]) => switch(operand(on)?, arms),
         ("exit", [n]) => Ok(Body::Exit(index(n)?)),
         ("return", []) => Ok(Body::Return),
+        ("unreachable", []) => Ok(Body::Unreachable),
         ("call", [callee, given, to]) => Ok(Body::Call(called(callee)?, list(given, "arguments", operand)?, place(to)?)),
         _ => Err(Refused::new("statement", form)),
     }

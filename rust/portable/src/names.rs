@@ -19,10 +19,11 @@ pub struct Names {
     functions: BTreeMap<(String, String), Vec<Code>>,
 }
 
+/// What was put in for parameters, which `portable/mir` writes behind `__`, is left out.
 fn key(symbol: &str) -> (String, String) {
     let first = symbol.split("::").next().unwrap_or(symbol);
     let last = symbol.rsplit("::").next().unwrap_or(symbol);
-    (first.to_string(), last.to_string())
+    (first.to_string(), last.split("__").next().unwrap_or(last).to_string())
 }
 
 fn only<T>(declared: Option<&Vec<T>>) -> Option<&T> {

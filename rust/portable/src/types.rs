@@ -13,8 +13,6 @@ pub struct Types<'a> {
     pub names: &'a Names,
     /// The C names that the header gives to declared types, by symbol.
     given: BTreeMap<String, String>,
-    /// The slices that are used: the C name, and the C type of the pointer.
-    slices: BTreeMap<String, String>,
     /// The types that a pointer leads to, by C name.
     pointed: BTreeMap<String, Ty>,
 }
@@ -25,7 +23,7 @@ pub fn up(end: u64, align: u64) -> u64 {
 
 impl<'a> Types<'a> {
     pub fn new(shapes: &'a BTreeMap<String, Shape>, header: &'a Header, names: &'a Names) -> Self {
-        Types { shapes, header, names, given: BTreeMap::new(), slices: BTreeMap::new(), pointed: BTreeMap::new() }
+        Types { shapes, header, names, given: BTreeMap::new(), pointed: BTreeMap::new() }
     }
 
     fn shape(&self, ty: &Ty) -> Option<&'a Shape> {
@@ -104,10 +102,7 @@ impl<'a> Types<'a> {
                     Ty::Int(bits) => format!("u{bits}"),
                     _ => self.c(of)?,
                 };
-                let name = format!("{}slice_{inner}", if *mutable { "mut_" } else { "" });
-                let pointer = self.c(&Ty::Ref { mutable: *mutable, to: of.clone() })?;
-                self.slices.insert(name.clone(), pointer);
-                name
+                format!("{}slice_{inner}", if *mutable { "mut_" } else { "" })
             }
             Ty::Named(symbol) if self.shapes.contains_key(symbol) => {
                 self.given.get(symbol).cloned().unwrap_or_else(|| symbol.replace("::", "_"))
@@ -125,12 +120,28 @@ impl<'a> Types<'a> {
         })
     }
 
-    /// Notes that a pointer leads to this type, so that its size is asserted.
-    pub fn point(&mut self, ty: &Ty) -> Made<()> {
+    /// Notes that a pointer leads to this type, so that its size is asserted. What has no one size on every machine is no type that offsets are counted in.
+    pub fn point(&mut self, ty: &Ty, stepped: bool) -> Made<()> {
         let one = if let Ty::Array(of, _) = ty { of } else { ty };
         let name = self.c(one)?;
-        self.pointed.insert(name, one.clone());
+        match self.layout(one) {
+            _ if self.is_empty(one) => {}
+            Ok(_) => {
+                self.pointed.insert(name, one.clone());
+            }
+            Err(_) if stepped => return Err(Refused::new("offsets counted in", ty)),
+            Err(_) => {}
+        }
         Ok(())
+    }
+
+    /// Whether nothing is in it: C has no such struct, and one byte stands for it.
+    fn is_empty(&self, ty: &Ty) -> bool {
+        match (ty, self.shape(ty)) {
+            (Ty::Unit, _) => true,
+            (_, Some(Shape::Fields(fields))) => fields.iter().all(|field| self.is_empty(field)),
+            _ => false,
+        }
     }
 
     /// Size and alignment of the types that a pointer may step over, as `Prog/Memory.antt` has them.
@@ -141,8 +152,11 @@ impl<'a> Types<'a> {
             Ty::Array(of, count) => self.layout(of).map(|(size, align)| (size * count, align)),
             Ty::Named(_) => {
                 let (mut end, mut most) = (0, 1);
-                for field in self.fields(ty)? {
-                    let (size, align) = self.layout(&field)?;
+                for field in self.fields(ty)?.iter().filter(|field| **field != Ty::Unit) {
+                    if self.is_empty(field) {
+                        return Err(Refused::new("size of", ty));
+                    }
+                    let (size, align) = self.layout(field)?;
                     end = up(end, align) + size;
                     most = most.max(align);
                 }
@@ -152,18 +166,37 @@ impl<'a> Types<'a> {
         }
     }
 
-    /// The struct of a declared type, behind those that it holds.
+    /// The struct of a slice or a declared type, behind those that it holds or leads to.
     pub fn define(&mut self, ty: &Ty, done: &mut BTreeSet<String>, out: &mut Vec<String>) -> Made<()> {
-        let one = if let Ty::Array(of, _) = ty { of } else { ty };
+        let one = match ty {
+            Ty::Array(of, _) => of,
+            Ty::Ref { to, .. } => return self.define(to, done, out),
+            _ => ty,
+        };
         let name = self.c(ty)?;
-        if !matches!(one, Ty::Named(_)) || self.header.structs.contains_key(&name) || !done.insert(name.clone()) {
+        if !matches!(one, Ty::Named(_) | Ty::Slice { .. })
+            || self.header.structs.contains_key(&name)
+            || !done.insert(name.clone())
+        {
+            return Ok(());
+        }
+        if let Ty::Slice { mutable, of } = one {
+            self.define(of, done, out)?;
+            let at = self.c(&Ty::Ref { mutable: *mutable, to: of.clone() })?;
+            out.push(format!("typedef struct {{\n    {at}at;\n    uint64_t count;\n}} {name};\n"));
             return Ok(());
         }
         let body = match self.variants(one) {
-            Some(kinds) => self.union(kinds)?,
+            Some(kinds) => {
+                kinds.iter().flatten().try_for_each(|field| self.define(field, done, out))?;
+                self.union(kinds)?
+            }
+            None if self.is_empty(one) => "    unsigned char none;\n".to_string(),
             None => {
                 let mut body = String::new();
-                for (field, label) in self.fields(one)?.iter().zip(self.field_names(one)?) {
+                for (field, label) in
+                    self.fields(one)?.iter().zip(self.field_names(one)?).filter(|(field, _)| **field != Ty::Unit)
+                {
                     self.define(field, done, out)?;
                     body += &format!("    {};\n", self.declare(field, &label)?);
                 }
@@ -176,15 +209,14 @@ impl<'a> Types<'a> {
 
     fn union(&mut self, kinds: &[Vec<Ty>]) -> Made<String> {
         let mut inner = String::new();
-        for (k, fields) in kinds.iter().enumerate().filter(|(_, fields)| !fields.is_empty()) {
+        for (k, fields) in kinds.iter().enumerate() {
             let mut parts = String::new();
-            for (i, field) in fields.iter().enumerate() {
-                if !matches!(field, Ty::Int(_) | Ty::Bool) {
-                    return Err(Refused::new("field of a variant", field));
-                }
+            for (i, field) in fields.iter().enumerate().filter(|(_, field)| **field != Ty::Unit) {
                 parts += &format!(" {};", self.declare(field, &format!("f{}", i + 1))?);
             }
-            inner += &format!("        struct {{{parts} }} k{k};\n");
+            if !parts.is_empty() {
+                inner += &format!("        struct {{{parts} }} k{k};\n");
+            }
         }
         Ok(if inner.is_empty() {
             "    uint8_t tag;\n".to_string()
@@ -193,12 +225,6 @@ impl<'a> Types<'a> {
             // that were written one by one. With gcc a join took up to three times as long.
             format!("    uint64_t tag;\n    union {{\n{inner}    }} of;\n")
         })
-    }
-
-    pub fn slice_definitions(&self) -> Vec<String> {
-        let define =
-            |(name, at): (&String, &String)| format!("typedef struct {{\n    {at}at;\n    uint64_t count;\n}} {name};\n");
-        self.slices.iter().map(define).collect()
     }
 
     pub fn size_assertions(&self) -> Made<Vec<String>> {

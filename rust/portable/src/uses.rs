@@ -1,9 +1,11 @@
 //! What a function does with its locals: which it writes, which may change through a pointer, and which are but copies of a parameter.
-use crate::mir::{Body, Function, Op2, Operand, Place, Step, Ty, Value};
-use std::collections::BTreeSet;
+use crate::mir::{Body, Function, Local, Op2, Operand, Place, Shape, Step, Ty, Value};
+use std::collections::{BTreeMap, BTreeSet};
 
-#[derive(Clone, Debug, Default)]
-pub struct Uses {
+#[derive(Clone, Debug)]
+pub struct Uses<'a> {
+    locals: &'a [Local],
+    shapes: &'a BTreeMap<String, Shape>,
     /// How many statements write the local or a part of it, by its name.
     writes: Vec<usize>,
     addressed: Vec<bool>,
@@ -34,7 +36,7 @@ enum Act<'a> {
 
 fn acts<'a>(body: &'a Body, out: &mut Vec<Act<'a>>) {
     match body {
-        Body::Skip | Body::Exit(_) | Body::Return => {}
+        Body::Skip | Body::Exit(_) | Body::Return | Body::Unreachable => {}
         Body::Seq(parts) => parts.iter().for_each(|part| acts(part, out)),
         Body::Assign(to, value) => out.push(Act::Assign(to, value)),
         Body::Block(inner) | Body::Loop(inner) => acts(inner, out),
@@ -52,19 +54,22 @@ fn acts<'a>(body: &'a Body, out: &mut Vec<Act<'a>>) {
     }
 }
 
-impl Uses {
-    pub fn of(function: &Function) -> Self {
+impl<'a> Uses<'a> {
+    pub fn of(function: &'a Function, shapes: &'a BTreeMap<String, Shape>) -> Self {
         let mut found = Vec::new();
         acts(&function.body, &mut found);
         let count = function.locals.len();
         let mut uses = Uses {
+            locals: &function.locals,
+            shapes,
             writes: vec![0; count],
             addressed: vec![false; count],
             changed: vec![false; count],
             copies: vec![None; count],
             mentions: vec![0; count],
             into: vec![BTreeSet::new(); count],
-            ..Uses::default()
+            calls: Vec::new(),
+            firsts: Vec::new(),
         };
         for act in &found {
             match act {
@@ -80,7 +85,7 @@ impl Uses {
             }
             places(act).into_iter().for_each(|place| uses.mention(place));
         }
-        uses.find_changed(function, &found);
+        uses.find_changed(&found);
         uses.find_copies(function, &found);
         uses
     }
@@ -109,36 +114,85 @@ impl Uses {
     }
 
     /// For each local the others that it may hold a pointer into, whatever the sequence; then what is done with these pointers.
-    fn find_changed(&mut self, function: &Function, found: &[Act]) {
-        let mut into = vec![BTreeSet::new(); self.writes.len()];
-        let is_number = |local: usize| matches!(function.locals.get(local).map(|local| &local.ty), Some(Ty::Int(_) | Ty::Bool));
-        loop {
-            let before: usize = into.iter().map(BTreeSet::len).sum();
+    fn find_changed(&mut self, found: &[Act]) {
+        let mut before = usize::MAX;
+        while before != self.into.iter().map(BTreeSet::len).sum() {
+            before = self.into.iter().map(BTreeSet::len).sum();
             for act in found {
                 let (to, more) = match act {
-                    Act::Assign(to, value) => (to, pointers(value, &into)),
+                    Act::Assign(to, value) => (to, self.pointers(value)),
                     // A call's answer may hold a pointer into whatever its arguments lead to.
-                    Act::Call(_, given, to) => (to, given.iter().flat_map(|one| held(one, &into)).collect()),
+                    Act::Call(_, given, to) => (to, given.iter().flat_map(|one| self.held(one)).collect()),
                     Act::Test(_) => continue,
                 };
-                if let (false, Some(known)) = (is_number(to.local), into.get_mut(to.local)) {
+                if let (true, Some(known)) = (self.leads(to), self.into.get_mut(to.local)) {
                     known.extend(more);
                 }
-            }
-            if into.iter().map(BTreeSet::len).sum::<usize>() == before {
-                break;
             }
         }
         for act in found {
             let (to, loose) = match act {
-                Act::Assign(to, value) => (to, if lies_within(to) { BTreeSet::new() } else { pointers(value, &into) }),
-                Act::Call(_, given, to) => (to, given.iter().flat_map(|one| held(one, &into)).collect()),
+                Act::Assign(to, value) => (to, if lies_within(to) { BTreeSet::new() } else { self.pointers(value) }),
+                Act::Call(_, given, to) => (to, given.iter().flat_map(|one| self.held(one)).collect()),
                 Act::Test(_) => continue,
             };
-            let through = if lies_within(to) { BTreeSet::new() } else { into.get(to.local).cloned().unwrap_or_default() };
+            let through = if lies_within(to) { BTreeSet::new() } else { self.led_to(to.local) };
             loose.union(&through).for_each(|&local| self.changed[local] = true);
         }
-        self.into = into;
+    }
+
+    /// Whether what lies at the place has a pointer in it; yes where its type can't be told.
+    fn leads(&self, place: &Place) -> bool {
+        let mut ty = self.locals.get(place.local).map(|local| local.ty.clone());
+        let mut steps = place.steps.iter();
+        while let Some(step) = steps.next() {
+            ty = match (step, &ty) {
+                (Step::Deref(to), _) => Some(to.clone()),
+                (Step::Field(0), Some(Ty::Slice { .. })) => Some(Ty::Ptr),
+                (Step::Field(_), Some(Ty::Slice { .. })) => Some(Ty::Int(64)),
+                (Step::Field(n), Some(Ty::Named(symbol))) => match self.shapes.get(symbol) {
+                    Some(Shape::Fields(fields)) => fields.get(*n).cloned(),
+                    _ => None,
+                },
+                (Step::Variant(k), Some(Ty::Named(symbol))) => match (self.shapes.get(symbol), steps.next()) {
+                    (_, Some(Step::Field(0))) => Some(Ty::Int(8)),
+                    (Some(Shape::Variants(kinds)), Some(Step::Field(n))) => {
+                        kinds.get(*k).and_then(|kind| kind.get(n - 1)).cloned()
+                    }
+                    _ => None,
+                },
+                _ => None,
+            };
+        }
+        ty.is_none_or(|ty| has_pointer(&ty, self.shapes))
+    }
+
+    /// The locals that a local's pointers lead into, and those that the pointers that lie there lead into, and so on.
+    fn led_to(&self, local: usize) -> BTreeSet<usize> {
+        let (mut found, mut todo) = (BTreeSet::new(), vec![local]);
+        while let Some(next) = todo.pop() {
+            todo.extend(self.into.get(next).into_iter().flatten().filter(|&&one| found.insert(one)));
+        }
+        found
+    }
+
+    /// The locals that an operand may hold a pointer into, or what it leads to.
+    fn held(&self, operand: &Operand) -> BTreeSet<usize> {
+        match operand {
+            Operand::Copy(place) if self.leads(place) => self.led_to(place.local),
+            Operand::Copy(_) | Operand::Int(..) | Operand::Bool(_) | Operand::Unit => BTreeSet::new(),
+        }
+    }
+
+    /// The locals that a value may hold a pointer into.
+    fn pointers(&self, value: &Value) -> BTreeSet<usize> {
+        match value {
+            Value::AddrOf(place) if lies_within(place) => BTreeSet::from([place.local]),
+            Value::AddrOf(place) => self.led_to(place.local),
+            Value::Operand(one) | Value::Op2(Op2::Offset, one, _) | Value::Repeat(one, _) => self.held(one),
+            Value::Aggregate(parts) => parts.iter().flat_map(|one| self.held(one)).collect(),
+            Value::Op2(..) | Value::Op1(..) | Value::Lent(..) => BTreeSet::new(),
+        }
     }
 
     /// A local that is written with nothing but one parameter, which never changes, is that parameter.
@@ -174,14 +228,14 @@ impl Uses {
     /// Whether a call may read this operand where it stands: a call reaches nothing but what its arguments lead to, and none leads there.
     pub fn may_lend(&self, operand: &Operand, given: &[Operand]) -> bool {
         match operand {
-            Operand::Copy(place) => lies_within(place) && !given.iter().any(|one| held(one, &self.into).contains(&place.local)),
+            Operand::Copy(place) => lies_within(place) && !given.iter().any(|one| self.held(one).contains(&place.local)),
             Operand::Int(..) | Operand::Bool(_) | Operand::Unit => false,
         }
     }
 
     /// Of statements in sequence, where the first copies something to a local that a later call alone reads, with nothing between that could write the
     /// original: the local and the original.
-    pub fn passes_on<'a>(&self, parts: &'a [Body]) -> Option<(usize, &'a Operand)> {
+    pub fn passes_on<'b>(&self, parts: &'b [Body]) -> Option<(usize, &'b Operand)> {
         let (Body::Assign(to, Value::Operand(from @ Operand::Copy(place))), rest) = parts.split_first()? else { return None };
         let whole = to.steps.is_empty() && lies_within(place) && place.local != to.local;
         if !whole || self.mentions.get(to.local) != Some(&2) || self.root(to.local) != to.local {
@@ -216,23 +270,16 @@ fn places<'a>(act: &Act<'a>) -> Vec<&'a Place> {
     }
 }
 
-/// The locals that an operand may hold a pointer into. No pointer lies where a pointer leads: `Types::layout` refuses that.
-fn held(operand: &Operand, into: &[BTreeSet<usize>]) -> BTreeSet<usize> {
-    match operand {
-        Operand::Copy(place) if !lies_within(place) => BTreeSet::new(),
-        Operand::Copy(place) => into.get(place.local).cloned().unwrap_or_default(),
-        Operand::Int(..) | Operand::Bool(_) | Operand::Unit => BTreeSet::new(),
-    }
-}
-
-/// The locals that a value may hold a pointer into.
-fn pointers(value: &Value, into: &[BTreeSet<usize>]) -> BTreeSet<usize> {
-    match value {
-        Value::AddrOf(place) if lies_within(place) => BTreeSet::from([place.local]),
-        Value::AddrOf(place) => into.get(place.local).cloned().unwrap_or_default(),
-        Value::Operand(one) | Value::Op2(Op2::Offset, one, _) | Value::Repeat(one, _) => held(one, into),
-        Value::Aggregate(parts) => parts.iter().flat_map(|one| held(one, into)).collect(),
-        Value::Op2(..) | Value::Op1(..) | Value::Lent(..) => BTreeSet::new(),
+fn has_pointer(ty: &Ty, shapes: &BTreeMap<String, Shape>) -> bool {
+    match ty {
+        Ty::Int(_) | Ty::Bool | Ty::Unit => false,
+        Ty::Ptr | Ty::Ref { .. } | Ty::Slice { .. } => true,
+        Ty::Array(of, _) => has_pointer(of, shapes),
+        Ty::Named(symbol) => match shapes.get(symbol) {
+            Some(Shape::Fields(fields)) => fields.iter().any(|field| has_pointer(field, shapes)),
+            Some(Shape::Variants(kinds)) => kinds.iter().flatten().any(|field| has_pointer(field, shapes)),
+            None => true,
+        },
     }
 }
 
@@ -246,7 +293,7 @@ pub enum Passing {
     Copied,
 }
 
-pub fn passing(ty: &Ty, local: usize, uses: &Uses, is_large: bool) -> Passing {
+pub fn passing(ty: &Ty, local: usize, uses: &Uses<'_>, is_large: bool) -> Passing {
     let only_read = uses.never_changes(local) && !uses.addressed[local];
     match ty {
         Ty::Array(..) if only_read => Passing::Lent,

@@ -76,6 +76,30 @@ fn a_pointer_that_a_call_gives_leads_where_its_arguments_do() {
     assert!(with(5).contains("result = k_g(&v2, v4);"), "{}", with(5));
 }
 
+#[test]
+fn a_pointer_behind_a_pointer_leads_where_both_do() {
+    let takes = function("k::g", 2, &[U64, WIDE, &format!("(tyRef erased mut {VIEW})")], &reads());
+    let with = |pointed: usize| {
+        let word = assign(3, &format!("(addrOf (place {pointed} (lcons (field 0) lnil)))"));
+        let view = assign(4, &format!("(aggregate (lcons {} lnil))", copy(3)));
+        let lent = assign(5, &format!("(addrOf {})", at(4)));
+        let body = seq(&[&word, &view, &lent, &call("k::g", &[copy(2), copy(5)], 0), "return"]);
+        let locals = [U64, U64, WIDE, "(tyRef erased mut (tyInt 64))", VIEW, &format!("(tyRef erased mut {VIEW})"), WIDE];
+        c("uint64_t f(uint64_t n);", &[takes.clone(), function("k::f", 1, &locals, &body)]).unwrap()
+    };
+    assert!(with(2).contains("const k_Wide given1 = v2;\n        result = k_g(&given1, v5);"), "{}", with(2));
+    assert!(with(6).contains("result = k_g(&v2, v5);"), "{}", with(6));
+}
+
+#[test]
+fn what_there_is_nothing_of_is_not_handed_over() {
+    let takes = function("k::g", 2, &[U64, "tyUnit", U64], &seq(&[&assign(0, &format!("(rvOpd {})", copy(2))), "return"]));
+    let body = seq(&[&call("k::g", &["unit".to_string(), copy(1)], 0), "return"]);
+    let text = c("uint64_t f(uint64_t n);", &[takes, function("k::f", 1, &[U64, U64], &body)]).unwrap();
+    assert!(text.contains("uint64_t k_g(uint64_t a2)"), "{text}");
+    assert!(text.contains("result = k_g(n);"), "{text}");
+}
+
 /// The C of `f`, which copies its local 2, a Wide, to local 3 and hands that on, with a statement between.
 fn with_copy(between: &str) -> String {
     let copied = assign(3, &format!("(rvOpd {})", copy(2)));

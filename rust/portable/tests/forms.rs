@@ -84,6 +84,34 @@ fn variants() {
 }
 
 #[test]
+fn variants_of_structs_of_arrays_and_of_nothing() {
+    let of = |tag: usize, part: &str| assign(2, &format!("(aggregate (lcons (int 8 {tag}) (lcons {part} lnil)))"));
+    holds(&[FOUND, PAIR], &of(0, &copy(3)), "v2 = (k_Found){.tag = 0, .of.k0 = {v3}};");
+    let list = "{\nk_Found made;\nmade.tag = 1;\nmemmove(made.of.k1.f1, v3, sizeof made.of.k1.f1);\nv2 = made;\n}";
+    holds(&[FOUND, LIST], &of(1, &copy(3)), list);
+    holds(&[FOUND], &of(2, "unit"), "v2 = (k_Found){.tag = 2};");
+    let text = body(&[FOUND], &seq(&[&of(2, "unit"), "return"])).unwrap();
+    let union = "    union {\n        struct { k_Pair f1; } k0;\n        struct { uint64_t f1[8]; } k1;\n    } of;\n} k_Found;";
+    assert!(text.contains(union), "{text}");
+    assert!(text.find("} k_Pair;") < text.find("} k_Found;"), "{text}");
+}
+
+#[test]
+fn what_nothing_is_in() {
+    let text = body(&[NONE], &seq(&[&assign(2, "(aggregate (lcons unit lnil))"), "return"])).unwrap();
+    assert!(text.contains("typedef struct {\n    unsigned char none;\n} k_None;"), "{text}");
+    assert!(text.contains("v2 = (k_None){0};"), "{text}");
+    let to_unit = "(tyRef erased mut tyUnit)";
+    holds(&["tyUnit", to_unit], &assign(3, &format!("(addrOf {})", at(2))), "v3 = NULL;");
+}
+
+#[test]
+fn what_is_never_run() {
+    let text = body(&[], "unreachable").unwrap();
+    assert!(text.contains("    for (;;) {}"), "{text}");
+}
+
+#[test]
 fn pointers() {
     let reference = "(tyRef erased mut (tyInt 64))";
     let word = "(lcons (deref (tyInt 64)) lnil)";
@@ -102,6 +130,16 @@ fn what_a_pointer_leads_to_has_its_size_asserted() {
     let read = assign(3, &format!("(rvOpd (copy (place 2 (lcons (deref {WIDE}) lnil))))"));
     let text = body(&["tyPtr", WIDE], &seq(&[&read, "return"])).unwrap();
     assert!(text.contains("typedef char size_of_k_Wide[sizeof(k_Wide) == 72 ? 1 : -1];"), "{text}");
+}
+
+#[test]
+fn offsets_are_not_counted_in_what_has_pointers() {
+    let read = |from: &str| {
+        body(&[from, VIEW], &seq(&[&assign(3, &format!("(rvOpd (copy (place 2 (lcons (deref {VIEW}) lnil))))")), "return"]))
+    };
+    assert!(read("tyPtr").unwrap_err().contains("offsets counted in"));
+    let text = read(&format!("(tyRef erased imm {VIEW})")).unwrap();
+    assert!(!text.contains("size_of_k_View"), "{text}");
 }
 
 #[test]

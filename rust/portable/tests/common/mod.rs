@@ -8,13 +8,20 @@ pub const BOOL: &str = "tyBool";
 pub const PAIR: &str = "(tyNamed (pair \"k::Pair\" lnil))";
 pub const WIDE: &str = "(tyNamed (pair \"k::Wide\" lnil))";
 pub const KIND: &str = "(tyNamed (pair \"k::Kind\" lnil))";
+pub const FOUND: &str = "(tyNamed (pair \"k::Found\" lnil))";
+pub const NONE: &str = "(tyNamed (pair \"k::None\" lnil))";
+pub const VIEW: &str = "(tyNamed (pair \"k::View\" lnil))";
 pub const LIST: &str = "(tyArray (tyInt 64) (lenLit 8))";
 
-/// Pair has two words, Wide a word and eight, and Kind two variants, one with a word and a yes or no.
-const SHAPES: [&str; 3] = [
+/// Pair has two words, Wide a word and eight, Kind two variants, one with a word and a yes or no, Found a Pair, eight words or nothing, None nothing at all, and View a
+/// pointer to a word.
+const SHAPES: [&str; 6] = [
     "(pair \"k::Pair\" (fields (tcons (tyInt 64) (tcons (tyInt 64) tnil))))",
     "(pair \"k::Wide\" (fields (tcons (tyInt 64) (tcons (tyArray (tyInt 64) (lenLit 8)) tnil))))",
     "(pair \"k::Kind\" (variants (ttcons (tcons (tyInt 64) (tcons tyBool tnil)) (ttcons tnil ttnil))))",
+    "(pair \"k::Found\" (variants (ttcons (tcons (tyNamed (pair \"k::Pair\" lnil)) tnil) (ttcons (tcons (tyArray (tyInt 64) (lenLit 8)) tnil) (ttcons (tcons tyUnit tnil) ttnil)))))",
+    "(pair \"k::None\" (fields (tcons tyUnit tnil)))",
+    "(pair \"k::View\" (fields (tcons (tyRef erased mut (tyInt 64)) tnil)))",
 ];
 
 pub fn list(parts: &[impl AsRef<str>]) -> String {
