@@ -8,13 +8,6 @@ use std::{fs, io, str};
 
 const TEXT: usize = 262144;
 
-// Whether the file is there, and how many of its bytes were read.
-#[derive(Clone, Copy)]
-pub struct Loaded {
-    pub is_there: bool,
-    pub len: usize,
-}
-
 // The `ensures` gives only the length, which lending the array as a slice needs.
 pub fn room() -> [u8; TEXT]
     ensures { 262144 ≡ length result }
@@ -37,23 +30,24 @@ fn read_full(file: &mut impl Read, text: &mut [u8]) -> io::Result<usize>
     Ok(done)
 }
 
-// The file of this name, as far as there is room. What there is no room for is missed, and so is wrong. One that can't be opened is named, with the reason.
-pub fn load<R: Files + Eprint>(rt: &R, name: &[u8], text: &mut [u8]) -> io::Result<Loaded> {
+// The file of this name, as far as there is room in the text. What there is no room for is missed, and so is wrong. One that can't be opened is named, with the reason.
+pub fn load<'a, R: Files + Eprint>(
+    rt: &R,
+    name: &[u8],
+    text: &'a mut [u8],
+) -> io::Result<Option<&'a [u8]>> {
     let Ok(name) = str::from_utf8(name) else {
         // A path of today's library is text.
         return Err(io::ErrorKind::InvalidInput.into());
     };
     match fs::open(rt, name) {
-        Ok(mut file) => Ok(Loaded {
-            is_there: true,
-            len: read_full(&mut file, text)?,
-        }),
+        Ok(mut file) => {
+            let len = read_full(&mut file, text)?;
+            Ok(Some(&text[..len]))
+        }
         Err(error) => {
             eprintln!(rt; "{name}: {error}")?;
-            Ok(Loaded {
-                is_there: false,
-                len: 0,
-            })
+            Ok(None)
         }
     }
 }

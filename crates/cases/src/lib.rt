@@ -1,8 +1,6 @@
-// What the programs read their cases with: the numbers and excerpts of a text, the file that it stands in, and the tally of what was compared.
+// What the programs read their cases with: the text, what was compared on the way through it, and the file that it stands in.
 // For the programs only.
 #![tactic(auto)]
 
-pub mod excerpt;
 pub mod file;
-pub mod reader;
-pub mod tally;
+pub mod script;

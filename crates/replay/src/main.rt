@@ -9,64 +9,43 @@ mod joins;
 mod seeks;
 mod tables;
 
-use cases::excerpt::cut_bytes;
 use cases::file::{load, room};
-use cases::reader::{NOWHERE, number};
-use cases::tally::Tally;
+use cases::script::Script;
 use std::io;
 use std::rt::Files;
 
-#[derive(Clone, Copy)]
-enum Kind {
-    Seeks,
-    Tables,
-    Cursors,
-    Joins,
-}
-
-// The next case.
-fn case(kind: Kind, text: &[u8], tally: Tally) -> Tally {
-    match kind {
-        Kind::Seeks => seeks::case(text, tally),
-        Kind::Tables => tables::case(text, tally),
-        Kind::Cursors => cursors::case(text, tally),
-        Kind::Joins => joins::case(text, tally),
-    }
-}
-
 // So many cases, as far as the text goes.
-fn each_case(kind: Kind, text: &[u8], start: Tally, count: u64) -> Tally {
-    let mut tally = start;
-    let mut left = count;
-    while 0 < left {
-        if tally.at == NOWHERE {
-            return tally;
+fn each_case<F: Fn(&mut Script)>(script: &mut Script, case: F, count: u64)
+    requires { F.IsAlwaysCallable case }
+{
+    for _ in 0..count {
+        if script.is_lost() {
+            return;
         }
-        tally = case(kind, text, tally);
-        left -= 1;
+        case(script);
     }
-    tally
 }
 
-fn replayed(rt: &impl Print, kind: Kind, name: &[u8], text: &[u8]) -> io::Result<()> {
-    let count = number(text, 0);
-    let tally = each_case(kind, text, Tally::new(count.at), count.word);
-    tally.closed(text).print(rt, name, count.word)
-}
-
-fn replay<R: Files + Print + Eprint>(rt: &R, kind: Kind, name: &[u8]) -> io::Result<()> {
+fn replay<R: Files + Print + Eprint, F: Fn(&mut Script)>(
+    rt: &R,
+    name: &[u8],
+    case: F,
+) -> io::Result<()>
+    requires { F.IsAlwaysCallable case }
+{
     let mut text = room();
-    let loaded = load(rt, name, &mut text)?;
-    if loaded.is_there {
-        let n = cut_bytes(&text, loaded.len);
-        replayed(rt, kind, name, &text[..n])?;
-    }
-    Ok(())
+    let Some(text) = load(rt, name, &mut text)? else {
+        return Ok(());
+    };
+    let mut script = Script::new(text);
+    let count = script.number();
+    each_case(&mut script, case, count);
+    script.print(rt, name, count)
 }
 
 fn main(rt: HostRuntime) -> io::Result<()> {
-    replay(&rt, Kind::Seeks, b"seeks")?;
-    replay(&rt, Kind::Tables, b"tables")?;
-    replay(&rt, Kind::Cursors, b"cursors")?;
-    replay(&rt, Kind::Joins, b"joins")
+    replay(&rt, b"seeks", seeks::case)?;
+    replay(&rt, b"tables", tables::case)?;
+    replay(&rt, b"cursors", cursors::case)?;
+    replay(&rt, b"joins", joins::case)
 }

@@ -4,19 +4,16 @@ ghost use Rattle.ring_sort.specs.Sorted.{key_at};
 ghost use Rattle.leapfrog_search.specs.Leapfrog.{Ready, Agreed, Ended};
 ghost use Rattle.replay_leapfrogs.specs.Runs.{in_order};
 
-use cases::reader::{NOWHERE, number, numbers};
-use cases::tally::Tally;
+use crate::runs::Runs;
+use cases::script::Script;
 use leapfrog_join::{SearchedFor, leapfrog_init, leapfrog_next, leapfrog_seek};
 use leapfrog_search::{Landed, Searched};
 use query::MAX_ATOMS;
 use seek::SeekStrategy;
-use std::num::wrapping_add_u64;
 
-// Of a call: which it is (0 init, 1 next, 2 seek) and its target; whether a key was found, the key, the seeks, and how far each run has gone then. And the place
-// behind all that.
+// Of a call: which it is (0 init, 1 next, 2 seek) and its target; whether a key was found, the key, the seeks, and how far each run has gone then.
 #[derive(Clone, Copy)]
 struct Told {
-    at: usize,
     kind: u64,
     target: u64,
     found: u64,
@@ -26,65 +23,42 @@ struct Told {
 }
 
 // The text's next call, on k runs.
-fn told_at(text: &[u8], from: usize, k: usize) -> Told {
-    let mut words = [0u64; 5];
+fn told_at(script: &mut Script, k: usize) -> Told {
+    let kind = script.number();
+    let target = script.number();
+    let found = script.number();
+    let key = script.number();
+    let seeks = script.number();
     let mut gone = [0u64; MAX_ATOMS];
-    let behind = numbers(text, from, &mut words, 5);
-    let at = numbers(text, behind, &mut gone, k);
+    script.numbers(&mut gone, k);
     Told {
-        at,
-        kind: words[0],
-        target: words[1],
-        found: words[2],
-        key: words[3],
-        seeks: words[4],
+        kind,
+        target,
+        found,
+        key,
+        seeks,
         gone,
     }
 }
 
-// The place behind a call that is first, which is an init.
-fn behind_first(told: Told) -> usize {
-    if told.kind == 0 && told.target == 0 {
-        return told.at;
-    }
-    NOWHERE
+// Whether a call may be the first, an init.
+fn is_first(told: Told) -> bool {
+    told.kind == 0 && told.target == 0
 }
 
-// The place behind a later call, a next or a seek.
-fn behind_later(told: Told) -> usize {
-    if told.kind == 2 {
-        return told.at;
-    }
-    if told.kind == 1 && told.target == 0 {
-        return told.at;
-    }
-    NOWHERE
+// Whether a call may be a later one, a next or a seek.
+fn is_later(told: Told) -> bool {
+    told.kind == 2 || told.kind == 1 && told.target == 0
 }
 
 // ---- the comparison
 
-fn found_by(landed: Landed) -> u64 {
-    match landed {
-        Landed::Key { key: _, p: _ } => 1,
-        Landed::Nothing { p: _ } => 0,
-    }
-}
-
-fn key_of(landed: Landed) -> u64 {
-    match landed {
-        Landed::Key { key, p: _ } => key,
-        Landed::Nothing { p: _ } => 0,
-    }
-}
-
 // Whether every atom has gone so far from its start; one that takes no part, nowhere.
-fn have_gone(start: [usize; MAX_ATOMS], at: [usize; MAX_ATOMS], gone: [u64; MAX_ATOMS]) -> bool {
-    let mut j = 0;
-    while j < MAX_ATOMS {
-        if wrapping_add_u64(start[j] as u64, gone[j]) != at[j] as u64 {
+fn have_gone(start: &[usize; MAX_ATOMS], at: &[usize; MAX_ATOMS], gone: [u64; MAX_ATOMS]) -> bool {
+    for j in 0..MAX_ATOMS {
+        if (start[j] as u64).wrapping_add(gone[j]) != at[j] as u64 {
             return false;
         }
-        j += 1;
     }
     true
 }
@@ -94,21 +68,22 @@ fn is_hit(told: Told) -> bool {
     told.kind == 2 && told.found == 1 && told.key == told.target
 }
 
-fn compared(
+fn compare(
+    script: &mut Script,
     told: Told,
     answer: SearchedFor,
-    start: [usize; MAX_ATOMS],
-    at: [usize; MAX_ATOMS],
-    tally: Tally,
-) -> Tally {
-    let landed = answer.landed;
-    let gone = told.gone;
-    tally
-        .with(found_by(landed) == told.found)
-        .with(key_of(landed) == told.key)
-        .with(answer.seeks == told.seeks)
-        .with(answer.hit == is_hit(told))
-        .with(have_gone(start, at, gone))
+    start: &[usize; MAX_ATOMS],
+    at: &[usize; MAX_ATOMS],
+) {
+    let (found, key) = match answer.landed {
+        Landed::Key { key, p: _ } => (1, key),
+        Landed::Nothing { p: _ } => (0, 0),
+    };
+    script.compare(found == told.found);
+    script.compare(key == told.key);
+    script.compare(answer.seeks == told.seeks);
+    script.compare(answer.hit == is_hit(told));
+    script.compare(have_gone(start, at, told.gone));
 }
 
 // ---- the calls
@@ -148,98 +123,68 @@ fn step(
     ring: &[usize; MAX_ATOMS],
     k: usize,
     p: usize,
-    kind: u64,
-    target: u64,
+    told: Told,
     strategy: SeekStrategy,
 ) -> SearchedFor
     requires { Agreed pool.now at.old end.now ring.now k (key_at pool.now at.old (slice_index ring.now p)) p }
     ensures { Ended pool.now at.new end.now ring.now k result.landed }
 {
-    if kind == 1 {
+    if told.kind == 1 {
         return unsought(leapfrog_next(pool, at, end, ring, k, p, strategy));
     }
-    leapfrog_seek(pool, at, end, ring, k, p, target, strategy)
+    leapfrog_seek(pool, at, end, ring, k, p, told.target, strategy)
 }
 
 // So many later calls, as far as the text goes. None is recorded behind one that found no key.
 fn later(
-    text: &[u8],
-    pool: &[u64],
-    start: [usize; MAX_ATOMS],
+    script: &mut Script,
+    runs: &Runs,
     from: [usize; MAX_ATOMS],
-    end: &[usize; MAX_ATOMS],
     ring: &[usize; MAX_ATOMS],
-    k: usize,
     strategy: SeekStrategy,
     first: Landed,
     count: u64,
-    before: Tally,
-) -> Tally
-    requires { Ended pool.now from end.now ring.now k first }
+)
+    requires { Ended runs.now.pool from runs.now.end ring.now runs.now.k first }
 {
     let mut at = from;
     let mut landed = first;
-    let mut tally = before;
-    let mut left = count;
-    while 0 < left {
-        if tally.at == NOWHERE {
-            return tally;
+    for _ in 0..count {
+        if script.is_lost() {
+            return;
         }
         let Landed::Key { key: _, p } = landed else {
-            return tally.at(NOWHERE);
+            script.lose();
+            return;
         };
-        let told = told_at(text, tally.at, k);
+        let told = told_at(script, runs.k);
+        if !is_later(told) {
+            script.lose();
+        }
         let answer = step(
-            pool,
-            &mut at,
-            end,
-            ring,
-            k,
-            p,
-            told.kind,
-            told.target,
-            strategy,
+            &runs.pool, &mut at, &runs.end, ring, runs.k, p, told, strategy,
         );
-        tally = compared(told, answer, start, at, tally.at(behind_later(told)));
+        compare(script, told, answer, &runs.start, &at);
         landed = answer.landed;
-        left -= 1;
     }
-    tally
 }
 
 // All calls of a case, from where its runs start: their number, and the calls, of which an init is the first.
-pub fn walk(
-    text: &[u8],
-    pool: &[u64],
-    start: [usize; MAX_ATOMS],
-    end: &[usize; MAX_ATOMS],
-    k: usize,
-    strategy: SeekStrategy,
-    tally: Tally,
-) -> Tally
-    requires { Ready pool.now start end.now in_order k }
+pub fn walk(script: &mut Script, runs: &Runs, strategy: SeekStrategy)
+    requires { Ready runs.now.pool runs.now.start runs.now.end in_order runs.now.k }
 {
-    let count = number(text, tally.at);
-    if count.word == 0 {
-        return tally.at(NOWHERE);
+    let count = script.number();
+    if count == 0 {
+        script.lose();
+        return;
     }
-    let told = told_at(text, count.at, k);
-    let mut at = start;
+    let told = told_at(script, runs.k);
+    if !is_first(told) {
+        script.lose();
+    }
+    let mut at = runs.start;
     let mut ring = [0usize, 1, 2, 3, 4, 5, 6, 7];
-    let answer = begin(pool, &mut at, end, &mut ring, k, strategy);
-    let then = compared(told, answer, start, at, tally.at(behind_first(told)));
-    let landed = answer.landed;
-    later(
-        text,
-        pool,
-        start,
-        at,
-        end,
-        &ring,
-        k,
-        strategy,
-        landed,
-        count.word - 1,
-        then,
-    )
+    let answer = begin(&runs.pool, &mut at, &runs.end, &mut ring, runs.k, strategy);
+    compare(script, told, answer, &runs.start, &at);
+    later(script, runs, at, &ring, strategy, answer.landed, count - 1);
 }

@@ -12,12 +12,11 @@
 
 use column_trie::ColumnTrie;
 use column_trie_build::build;
-use grade::word_of;
+use grade::{grade_of, word_of};
 use join_query::{Atom, Query, Tables};
 use leapfrog_triejoin::{Joined, join};
 use seek::SeekStrategy;
-use show::{number, text};
-use std::io;
+use std::{fmt, io};
 
 // What a kind is multiplied by, 2^32: what is left of a word below it is what a cut leaves.
 const CUT: u64 = 4294967296;
@@ -36,12 +35,9 @@ const SUMMER: u64 = 17179869205;
 const ROW: usize = 4;
 
 // Says that a call was refused, and by which number; nothing where it was not. A refused build's table is all zeros, so the join is then refused too.
-fn told(rt: &impl Print, what: &[u8], refusal: u64) -> io::Result<()> {
+fn told(rt: &impl Print, what: &str, refusal: u64) -> io::Result<()> {
     if refusal != 0 {
-        text(rt, what)?;
-        text(rt, b": refused with ")?;
-        number(rt, refusal)?;
-        text(rt, b"\n")?;
+        println!(rt; "{what}: refused with {refusal}")?;
     }
     Ok(())
 }
@@ -61,7 +57,7 @@ fn key(packed: u64, cut: bool) -> u64 {
 fn surfaces(rt: &impl Print, cut: bool, pool: &mut [u64]) -> io::Result<ColumnTrie> {
     let mut rows = [key(WET_COBBLES, cut)];
     let built = build(&mut rows, pool, 0, 1, 8, plain());
-    told(rt, b"the surfaces", built.number)?;
+    told(rt, "the surfaces", built.number)?;
     Ok(built.table)
 }
 
@@ -69,7 +65,7 @@ fn surfaces(rt: &impl Print, cut: bool, pool: &mut [u64]) -> io::Result<ColumnTr
 fn tyres(rt: &impl Print, cut: bool, pool: &mut [u64]) -> io::Result<ColumnTrie> {
     let mut rows = [key(ALL_SEASON, cut)];
     let built = build(&mut rows, pool, 16, 1, 8, plain());
-    told(rt, b"the tyres", built.number)?;
+    told(rt, "the tyres", built.number)?;
     Ok(built.table)
 }
 
@@ -79,7 +75,7 @@ fn bands(rt: &impl Print, cut: bool, pool: &mut [u64]) -> io::Result<ColumnTrie>
     let icy = key(ICY_COBBLES, cut);
     let mut rows = [wet, 20, wet, 40, wet, 60, icy, 20, icy, 40, icy, 60];
     let built = build(&mut rows, pool, 32, 2, 8, plain());
-    told(rt, b"the bands", built.number)?;
+    told(rt, "the bands", built.number)?;
     Ok(built.table)
 }
 
@@ -94,7 +90,7 @@ fn frictions(rt: &impl Print, cut: bool, pool: &mut [u64]) -> io::Result<ColumnT
         430, wet, sum, 60, 360, icy, all, 20, 190, icy, all, 40, 160, icy, all, 60, 130,
     ];
     let built = build(&mut rows, pool, 64, 4, 10, plain());
-    told(rt, b"the frictions", built.number)?;
+    told(rt, "the frictions", built.number)?;
     Ok(built.table)
 }
 
@@ -145,7 +141,7 @@ fn joined(rt: &impl Print, cut: bool, window: &mut [u64]) -> io::Result<usize> {
     let mut pool = [0u64; 144];
     let given = tables(rt, cut, &mut pool)?;
     let came = join(SeekStrategy::Galloping, &pool, given, lesson(), window);
-    told(rt, b"the join", came.number)?;
+    told(rt, "the join", came.number)?;
     Ok(came.rows)
 }
 
@@ -164,7 +160,7 @@ fn school_frictions(rt: &impl Print, pool: &mut [u64]) -> io::Result<ColumnTrie>
         450,
     ];
     let built = build(&mut rows, pool, 144, 4, 8, plain());
-    told(rt, b"the school's frictions", built.number)?;
+    told(rt, "the school's frictions", built.number)?;
     Ok(built.table)
 }
 
@@ -207,7 +203,7 @@ fn school_joined(rt: &impl Print, window: &mut [u64]) -> io::Result<()> {
         any_surface(),
         window,
     );
-    told(rt, b"the school's join", came.number)
+    told(rt, "the school's join", came.number)
 }
 
 // ---- the lesson's slope
@@ -217,7 +213,7 @@ fn slope(rt: &impl Print, pool: &mut [u64]) -> io::Result<ColumnTrie> {
     let mut rows = [word_of(0), 1, word_of(-60), 2, word_of(45), 3];
     let grade = [true, false, false, false, false, false, false, false];
     let built = build(&mut rows, pool, 0, 2, 4, grade);
-    told(rt, b"the slope", built.number)?;
+    told(rt, "the slope", built.number)?;
     Ok(built.table)
 }
 
@@ -255,200 +251,116 @@ fn slope_joined(rt: &impl Print, atom_count: usize, window: &mut [u64]) -> io::R
 
 // ---- what is printed
 
+// A row of an answer, by variable number: surface, tyre, band, friction.
+#[derive(Clone, Copy)]
+struct Row([u64; ROW]);
+
+// Thousandths, as a number with three digits behind the point.
+#[derive(Clone, Copy)]
+struct Thousandths(u64);
+
+impl fmt::Display for Thousandths {
+    fn fmt<W: fmt::Write>(&self, f: &mut fmt::Formatter<W>) -> fmt::Result {
+        write!(f, "{}.{:03}", self.0 / 1000, self.0 % 1000)
+    }
+}
+
+impl fmt::Display for Row {
+    fn fmt<W: fmt::Write>(&self, f: &mut fmt::Formatter<W>) -> fmt::Result {
+        let Row([surface, tyre, band, friction]) = *self;
+        let surface = match surface {
+            WET_COBBLES => "wet cobbles",
+            _ => "icy cobbles",
+        };
+        let tyre = match tyre {
+            ALL_SEASON => "all-season",
+            _ => "summer    ",
+        };
+        let friction = Thousandths(friction);
+        write!(f, "{surface} | {tyre} |         {band} |    {friction}")
+    }
+}
+
 // The friction of the first row of the band, or 0 where there is none.
-fn first_of(window: &[u64], rows: usize, band: u64) -> u64 {
-    let mut at = 0;
-    let mut i = 0;
-    while i < rows {
-        if window.len() - at < ROW {
-            return 0;
+fn first_of(rows: &[[u64; ROW]], band: u64) -> u64 {
+    for row in rows {
+        if row[2] == band {
+            return row[3];
         }
-        if window[at + 2] == band {
-            return window[at + 3];
-        }
-        at += ROW;
-        i += 1;
     }
     0
 }
 
-fn surface_name(rt: &impl Print, surface: u64) -> io::Result<()> {
-    if surface == WET_COBBLES {
-        text(rt, b"wet cobbles")
-    } else {
-        text(rt, b"icy cobbles")
-    }
-}
-
-fn tyre_name(rt: &impl Print, tyre: u64) -> io::Result<()> {
-    if tyre == ALL_SEASON {
-        text(rt, b"all-season")
-    } else {
-        text(rt, b"summer    ")
-    }
-}
-
-// Thousandths, as a number with three digits behind the point.
-fn thousandths(rt: &impl Print, n: u64) -> io::Result<()> {
-    number(rt, n / 1000)?;
-    text(rt, b".")?;
-    let rest = n % 1000;
-    if rest < 100 {
-        text(rt, b"0")?;
-    }
-    if rest < 10 {
-        text(rt, b"0")?;
-    }
-    number(rt, rest)
-}
-
-fn row(rt: &impl Print, surface: u64, tyre: u64, band: u64, friction: u64) -> io::Result<()> {
-    surface_name(rt, surface)?;
-    text(rt, b" | ")?;
-    tyre_name(rt, tyre)?;
-    text(rt, b" |         ")?;
-    number(rt, band)?;
-    text(rt, b" |    ")?;
-    thousandths(rt, friction)
-}
-
-// A row, and the friction that cut keys would have chosen.
-fn line(
-    rt: &impl Print,
-    surface: u64,
-    tyre: u64,
-    band: u64,
-    right: u64,
-    chosen: u64,
-) -> io::Result<()> {
-    row(rt, surface, tyre, band, right)?;
-    text(rt, b" | ")?;
-    thousandths(rt, chosen)?;
-    if chosen == right {
-        text(rt, b"\n")
-    } else {
-        text(rt, b", another surface's\n")
-    }
-}
-
-// The rows, and for each the first of the same band among those joined over cut keys.
-fn table(
-    rt: &impl Print,
-    window: &[u64],
-    rows: usize,
-    over_cut: &[u64],
-    rows_cut: usize,
-) -> io::Result<()> {
-    let mut at = 0;
-    let mut i = 0;
-    while i < rows {
-        if window.len() - at < ROW {
-            return Ok(());
-        }
-        let band = window[at + 2];
-        line(
-            rt,
-            window[at],
-            window[at + 1],
-            band,
-            window[at + 3],
-            first_of(over_cut, rows_cut, band),
-        )?;
-        at += ROW;
-        i += 1;
+// The rows, each with the friction of the first of the same band among those joined over cut keys, which these would have chosen.
+fn table(rt: &impl Print, rows: &[[u64; ROW]], over_cut: &[[u64; ROW]]) -> io::Result<()> {
+    for row in rows {
+        let chosen = first_of(over_cut, row[2]);
+        let note = if chosen == row[3] {
+            ""
+        } else {
+            ", another surface's"
+        };
+        println!(rt; "{} | {}{note}", Row(*row), Thousandths(chosen))?;
     }
     Ok(())
 }
 
 // The five rows over the school's frictions and the maker's.
 fn school_rows(rt: &impl Print) -> io::Result<()> {
-    text(
-        rt,
-        b"\nA school's own frictions of wet cobbles over the maker's\n\n",
-    )?;
-    let mut window = [0u64; 20];
+    println!(rt; "\nA school's own frictions of wet cobbles over the maker's\n")?;
+    let mut window = [0u64; 5 * ROW];
     school_joined(rt, &mut window)?;
-    row(rt, window[0], window[1], window[2], window[3])?;
-    text(rt, b"\n")?;
-    row(rt, window[4], window[5], window[6], window[7])?;
-    text(rt, b"\n")?;
-    row(rt, window[8], window[9], window[10], window[11])?;
-    text(rt, b"\n")?;
-    row(rt, window[12], window[13], window[14], window[15])?;
-    text(rt, b"\n")?;
-    row(rt, window[16], window[17], window[18], window[19])?;
-    text(rt, b"\n")
-}
-
-// The grade of a word, with its sign: words ascend as grades do, so those below the word of 0 are downhill.
-fn signed(rt: &impl Print, word: u64) -> io::Result<()> {
-    let level = word_of(0);
-    if word < level {
-        text(rt, b"-")?;
-        number(rt, level - word)
-    } else {
-        number(rt, word - level)
+    for row in rows_of(&window, 5) {
+        println!(rt; "{}", Row(*row))?;
     }
+    Ok(())
 }
 
-fn stretch_line(rt: &impl Print, grade: u64, stretch: u64) -> io::Result<()> {
-    text(rt, b"stretch ")?;
-    number(rt, stretch)?;
-    text(rt, b": ")?;
-    signed(rt, grade)?;
-    text(rt, b"\n")
+// The first rows of the window, as many as there are of those that are said.
+fn rows_of(window: &[u64], rows: usize) -> &[[u64; ROW]] {
+    let (all, _) = window.as_chunks::<ROW>();
+    &all[..rows.min(all.len())]
 }
 
-// The three stretches as the join lists them, and what comes of a grade that is joined to a tyre.
+// The three stretches as the join lists them, with the grade's sign, and what comes of a grade that is joined to a tyre.
 fn stretches(rt: &impl Print) -> io::Result<()> {
-    text(rt, b"\nThe lesson's slope, by grade in thousandths\n\n")?;
+    println!(rt; "\nThe lesson's slope, by grade in thousandths\n")?;
     let mut window = [0u64; 6];
     let alone = slope_joined(rt, 1, &mut window)?;
-    told(rt, b"the slope's join", alone.number)?;
-    stretch_line(rt, window[0], window[1])?;
-    stretch_line(rt, window[2], window[3])?;
-    stretch_line(rt, window[4], window[5])?;
-    text(rt, b"\n")?;
+    told(rt, "the slope's join", alone.number)?;
+    let (listed, _) = window.as_chunks::<2>();
+    for &[grade, stretch] in listed {
+        println!(rt; "stretch {stretch}: {}", grade_of(grade))?;
+    }
+    println!(rt)?;
     let with_tyres = slope_joined(rt, 2, &mut window)?;
-    told(rt, b"A grade joined to a tyre", with_tyres.number)
+    told(rt, "A grade joined to a tyre", with_tyres.number)
 }
 
 fn keys(rt: &impl Print) -> io::Result<()> {
-    text(rt, b"A surface's key is a 64-bit word: wet cobbles ")?;
-    number(rt, WET_COBBLES)?;
-    text(rt, b", icy cobbles ")?;
-    number(rt, ICY_COBBLES)?;
-    text(rt, b".\nCut to 32 bits they are ")?;
-    number(rt, WET_COBBLES % CUT)?;
-    text(rt, b" and ")?;
-    number(rt, ICY_COBBLES % CUT)?;
-    text(rt, b".\n\n")
+    println!(rt;
+        "A surface's key is a 64-bit word: wet cobbles {WET_COBBLES}, icy cobbles {ICY_COBBLES}."
+    )?;
+    println!(rt;
+        "Cut to 32 bits they are {} and {}.\n",
+        WET_COBBLES % CUT,
+        ICY_COBBLES % CUT
+    )
 }
 
 fn main(rt: HostRuntime) -> io::Result<()> {
-    text(
-        &rt,
-        b"The friction of a lesson on wet cobbles with a tyre for all seasons, by speed band\n\n",
+    println!(&rt;
+        "The friction of a lesson on wet cobbles with a tyre for all seasons, by speed band\n"
     )?;
     keys(&rt)?;
     let mut window = [0u64; 64];
     let rows = joined(&rt, false, &mut window)?;
     let mut over_cut = [0u64; 64];
     let rows_cut = joined(&rt, true, &mut over_cut)?;
-    text(
-        &rt,
-        b"surface     | tyre       | up to km/h | friction | with keys cut to 32 bits\n",
-    )?;
-    text(
-        &rt,
-        b"------------+------------+------------+----------+-------------------------\n",
-    )?;
-    table(&rt, &window, rows, &over_cut, rows_cut)?;
-    text(&rt, b"\nRows joined: ")?;
-    number(&rt, rows as u64)?;
-    text(&rt, b"; over cut keys: ")?;
-    number(&rt, rows_cut as u64)?;
-    text(&rt, b"\n")?;
+    println!(&rt; "surface     | tyre       | up to km/h | friction | with keys cut to 32 bits")?;
+    println!(&rt; "------------+------------+------------+----------+-------------------------")?;
+    table(&rt, rows_of(&window, rows), rows_of(&over_cut, rows_cut))?;
+    println!(&rt; "\nRows joined: {rows}; over cut keys: {rows_cut}")?;
     school_rows(&rt)?;
     stretches(&rt)
 }

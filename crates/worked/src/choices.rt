@@ -1,46 +1,29 @@
-// Single numbers: those that must not be too great, what they stand for, and those that are expected.
-use cases::reader::{NOWHERE, Read, number};
-use cases::tally::Tally;
+// Single numbers: those that must not be too great, and what they stand for.
+use cases::script::Script;
 use seek::SeekStrategy;
 
 // The next number, which must be below `count`.
-pub fn choice(text: &[u8], from: usize, count: u64) -> Read {
-    let read = number(text, from);
-    if read.word < count {
-        return read;
+pub fn choice(script: &mut Script, count: u64) -> u64 {
+    let word = script.number();
+    if word < count {
+        return word;
     }
-    Read {
-        word: 0,
-        at: NOWHERE,
-    }
+    script.lose();
+    0
 }
 
-// The place, unless the number is over the most that there is room for.
-pub fn within(word: u64, most: u64, at: usize) -> usize {
+// A number of which there is no room for more than `most`.
+pub fn within(script: &mut Script, word: u64, most: u64) {
     if most < word {
-        return NOWHERE;
+        script.lose();
     }
-    at
 }
 
-// 0 linear, 1 binary, 2 galloping.
-pub fn strategy_of(word: u64) -> SeekStrategy {
-    if word == 0 {
-        return SeekStrategy::Linear;
+// The next strategy: 0 linear, 1 binary, 2 galloping.
+pub fn strategy(script: &mut Script) -> SeekStrategy {
+    match choice(script, 3) {
+        0 => SeekStrategy::Linear,
+        1 => SeekStrategy::Binary,
+        _ => SeekStrategy::Galloping,
     }
-    if word == 1 {
-        return SeekStrategy::Binary;
-    }
-    SeekStrategy::Galloping
-}
-
-// 1 for a yes, 0 for a no.
-pub fn word_of(yes: bool) -> u64 {
-    if yes { 1 } else { 0 }
-}
-
-// An answer: the text's next number is this word.
-pub fn said(text: &[u8], tally: Tally, word: u64) -> Tally {
-    let read = number(text, tally.at);
-    tally.with(read.word == word).at(read.at)
 }

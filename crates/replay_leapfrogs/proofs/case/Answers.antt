@@ -2,5 +2,5 @@
 
 use Rattle.replay_leapfrogs.proofs.case.Goals as goal
 
-pub walks-requires : goal.walks-requires
-walks-requires c = c.standing.ensures c.if-not-standing.false
+pub walk-requires : goal.walk-requires
+walk-requires c = c.stand.ensures c.if-not-stand.false

@@ -4,8 +4,8 @@ use Rattle.leapfrog_search.specs.Leapfrog.{Ended}
 use Rattle.leapfrog_join.proofs.Laws.{went_next, went_seek}
 use Rattle.replay_leapfrogs.proofs.calls.step.Goals as goal
 
-pub returns-then-kind-eq1 : goal.returns-then-kind-eq1
-returns-then-kind-eq1 c = subst (Ended _ _ _ _ _) (sym c.unsought.ensures) (went_next c.requires c.leapfrog_next.ensures).ended
+pub returns-then-told-eq1 : goal.returns-then-told-eq1
+returns-then-told-eq1 c = subst (Ended _ _ _ _ _) (sym c.unsought.ensures) (went_next c.requires c.leapfrog_next.ensures).ended
 
 pub returns : goal.returns
-returns c = (went_seek c.requires c.args.target c.leapfrog_seek.ensures.ran).ended
+returns c = (went_seek c.requires c.args.told.target c.leapfrog_seek.ensures.ran).ended

@@ -1,9 +1,0 @@
--- `worked::joins::tables_at` is safe and ends: each turn lays one table, and there are eight.
-use Rattle.std.proofs.Common.{◌-◌}
-use Rattle.worked.proofs.joins.tables_at.Given as goal
-
-abbrev pub invariant-loop-i : goal.invariant-loop-i
-invariant-loop-i l = Unit {0}
-
-abbrev pub decreases-loop-i : goal.decreases-loop-i
-decreases-loop-i l = 8 - l.i
