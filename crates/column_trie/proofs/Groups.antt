@@ -6,7 +6,7 @@ use Rattle.std.proofs.Common.{Some, None}
 use mathlib.Core.List.{List}
 use native.Mathlib.Omega.{arith}
 use native.Mathlib.Numerals.{add-one}
-use lib.ListN.{length, get_or, take, drop, get_or-eq_default}
+use lib.ListN.{length, get_or, take, drop}
 use borrow.Author.Tests.{lt-ltb, le-ltb, le-leb, lt-leb}
 use Rattle.relation.proofs.Lists.{get_or_any}
 use Rattle.relation.specs.Layers.{Layer}
@@ -15,15 +15,6 @@ use Rattle.column_trie.specs.Pool.{spot}
 use Rattle.column_trie.specs.Table.{layer_in, data_len_at, interval_len_at}
 use Rattle.column_trie.specs.declared.ColumnTrie.{ColumnTrie}
 use Rattle.column_trie.proofs.Header.{LayerFits, length_part}
-use Rattle.column_trie.proofs.Words.{part_at}
-
--- a word of a list in the pool, or what stands for one past its end
-module _ (pool : List ℕ) (at n i past : ℕ) (fits : at + n ≤ length pool) where
-  pub interval_past : n ≤ i → past ≡ get_or (take n (drop at pool)) i past
-  interval_past h = sym (get_or-eq_default (take n (drop at pool)) past {n = i} (omega (arith, length_part pool at n fits)))
-
-  pub interval_here : i < n → get_or pool (at + i) 0 ≡ get_or (take n (drop at pool)) i past
-  interval_here h = sym (part_at pool at n i h) ∙ get_or_any (take n (drop at pool)) i 0 past (omega (arith, length_part pool at n fits))
 
 -- the layer's lists are as long as the header says ..
 module _ (pool : List ℕ) {t : ColumnTrie} {d : ℕ} (f : LayerFits (length pool) t d) where
