@@ -21,7 +21,7 @@ pub enum SeekStrategy {
 }
 
 // Where the seek ended, how many keys it looked at, and whether it hit: the offset is inside the run and the key there is the target. That
-// comparison is no probe.
+// comparison is no probe. C's struct, and no Option, since the offset is an answer without a hit too.
 #[repr(C)]
 #[derive(Clone, Copy)]
 pub struct Sought {
@@ -62,11 +62,8 @@ pub fn halve(run: &[u64], target: u64, from: usize, to: usize, spent: usize) -> 
 fn linear(run: &[u64], target: u64) -> Probed
     ensures { result ≡ linear_of run.now target }
 {
-    let mut i = 0;
-    while i < run.len() {
-        if run[i] < target {
-            i += 1;
-        } else {
+    for i in 0..run.len() {
+        if target <= run[i] {
             return Probed {
                 offset: i,
                 probes: i + 1,
@@ -74,8 +71,8 @@ fn linear(run: &[u64], target: u64) -> Probed
         }
     }
     Probed {
-        offset: i,
-        probes: i,
+        offset: run.len(),
+        probes: run.len(),
     }
 }
 
