@@ -42,9 +42,8 @@ impl ColumnTrieIter {
         ensures { result ≡ past self n }
     {
         Self {
-            depth: self.depth,
-            interval_i: self.interval_i,
             slice_offset: self.slice_offset + n,
+            ..self
         }
     }
 }
