@@ -38,7 +38,7 @@ pub struct Probed {
 }
 
 // The halving rule on from..to, after `spent` probes. It is the rule that crates of this project share and no public call: the caller sees
-// to it that from..to lies in the run. With `spent` at most 2^62 the count of probes can't wrap.
+// to it that from..to lies in the run. With `spent` at most 2^62 the count of probes can't wrap. A `while`, since the part is halved and not walked.
 pub fn halve(run: &[u64], target: u64, from: usize, to: usize, spent: usize) -> Probed
     requires { (from ≤ to) × (to ≤ length run.now) × (spent ≤ 2 ^ 62) }
     ensures { result ≡ halving run.now target from to spent }
@@ -83,7 +83,7 @@ fn binary(run: &[u64], target: u64) -> Probed
     halve(run, target, 0, run.len(), 0)
 }
 
-// Probes 0, then 1, 2, 4, .., and halves what lies between the last key known below and the bound.
+// Probes 0, then 1, 2, 4, .., and halves what lies between the last key known below and the bound. A `while`, since the bound doubles.
 fn galloping(run: &[u64], target: u64) -> Probed
     ensures { result ≡ galloping_of run.now target }
 {
