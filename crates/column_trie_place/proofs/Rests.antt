@@ -20,7 +20,7 @@ use Rattle.column_trie_place.specs.declared.ColumnTrieIter.{ColumnTrieIter}
 use Rattle.column_trie_place.specs.declared.Place.{Place}
 
 -- no refusal's number is 0
-numbered : (r : Refusal) → number_of r ≡ 0 → ⊥
+pub numbered : (r : Refusal) → number_of r ≡ 0 → ⊥
 numbered BadArity z = omega arith
 numbered BadCapacity z = omega arith
 numbered OutsidePool z = omega arith
