@@ -16,6 +16,7 @@ ghost use Rattle.column_trie.specs.Table.{empty_table, data_len_at, arity_ok, ca
 
 use layer_sound::layer_sound;
 
+// A table's header. It is C's struct, so what belongs to one depth stands in three arrays side by side.
 #[repr(C)]
 #[derive(Clone, Copy)]
 pub struct ColumnTrie {
