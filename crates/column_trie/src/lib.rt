@@ -9,13 +9,14 @@
 ghost use Rattle.std.specs.Prelude.{◌≡◌, true, ◌||◌, ◌+◌, ◌*◌, ◌-◌, ◌≤◌, ◌<◌, ◌^◌, length, take, drop, get_or};
 ghost use Rattle.relation.specs.Tests.{every};
 ghost use Rattle.relation.specs.Undamaged.{chain, linked};
-ghost use Rattle.column_trie.specs.Groups.{outside, group_of};
+ghost use Rattle.column_trie.specs.Groups.{group_of};
 ghost use Rattle.column_trie.specs.Limits.{max_arity, max_capacity};
 ghost use Rattle.column_trie.specs.Pool.{spot};
 ghost use Rattle.column_trie.specs.Table.{empty_table, data_len_at, arity_ok, capacity_ok, lies_in, within_at, header_sound, past_at, layers_in, layer_in, undamaged};
 
 use layer_sound::layer_sound;
 
+// A table's header. It is C's struct, so what belongs to one depth stands in three arrays side by side.
 #[repr(C)]
 #[derive(Clone, Copy)]
 pub struct ColumnTrie {
@@ -73,12 +74,10 @@ pub fn lies_in(len: usize, start: usize, arity: usize, capacity: usize) -> bool
 fn lengths_within(t: ColumnTrie) -> bool
     ensures { result ≡ every max_arity (within_at t) }
 {
-    let mut d = 0;
-    while d < ColumnTrie::MAX_ARITY {
+    for d in 0..ColumnTrie::MAX_ARITY {
         if t.capacity < t.data_len[d] || t.capacity < t.interval_len[d] {
             return false;
         }
-        d += 1;
     }
     true
 }
@@ -87,12 +86,10 @@ fn lengths_within(t: ColumnTrie) -> bool
 fn past_arity(t: ColumnTrie) -> bool
     ensures { result ≡ every max_arity (past_at t) }
 {
-    let mut d = t.arity;
-    while d < ColumnTrie::MAX_ARITY {
+    for d in t.arity..ColumnTrie::MAX_ARITY {
         if t.data_len[d] != 0 || t.interval_len[d] != 0 || t.grade[d] {
             return false;
         }
-        d += 1;
     }
     true
 }
@@ -101,16 +98,10 @@ fn past_arity(t: ColumnTrie) -> bool
 pub fn header_sound(len: usize, t: ColumnTrie) -> bool
     ensures { result ≡ header_sound len t }
 {
-    if !arity_ok(t.arity) {
-        return false;
-    }
-    if !capacity_ok(t.capacity) {
-        return false;
-    }
-    if !lies_in(len, t.start, t.arity, t.capacity) {
-        return false;
-    }
-    lengths_within(t)
+    arity_ok(t.arity)
+        && capacity_ok(t.capacity)
+        && lies_in(len, t.start, t.arity, t.capacity)
+        && lengths_within(t)
 }
 
 // Where the data of layer d starts; its intervals start `capacity` words further.
@@ -121,14 +112,20 @@ pub fn layer_at(t: ColumnTrie, d: usize) -> usize
     t.start + 2 * t.capacity * d
 }
 
+// The n words from `from` on.
+fn part<'a>(pool: &'a [u64], from: usize, n: usize) -> &'a [u64]
+    requires { from + n ≤ length pool.now }
+    ensures { result.now ≡ take n (drop from pool.now) }
+{
+    &pool[from..from + n]
+}
+
 // The keys of layer d.
 pub fn layer_keys<'a>(pool: &'a [u64], t: ColumnTrie, d: usize) -> &'a [u64]
     requires { (header_sound (length pool.now) t ≡ true) × (d < t.arity) }
     ensures { result.now ≡ (layer_in pool.now t d).keys }
 {
-    let from = layer_at(t, d);
-    let to = from + t.data_len[d];
-    &pool[from..to]
+    part(pool, layer_at(t, d), t.data_len[d])
 }
 
 // The intervals of layer d.
@@ -136,9 +133,7 @@ pub fn layer_intervals<'a>(pool: &'a [u64], t: ColumnTrie, d: usize) -> &'a [u64
     requires { (header_sound (length pool.now) t ≡ true) × (d < t.arity) }
     ensures { result.now ≡ (layer_in pool.now t d).intervals }
 {
-    let from = layer_at(t, d) + t.capacity;
-    let to = from + t.interval_len[d];
-    &pool[from..to]
+    part(pool, layer_at(t, d) + t.capacity, t.interval_len[d])
 }
 
 // Whether layer d has `above` intervals, one for each key above it, and is sound.
@@ -146,10 +141,7 @@ fn layer_linked(pool: &[u64], t: ColumnTrie, d: usize, above: usize) -> bool
     requires { (header_sound (length pool.now) t ≡ true) × (d < t.arity) }
     ensures { result ≡ linked above (layer_in pool.now t d) }
 {
-    if t.interval_len[d] != above {
-        return false;
-    }
-    layer_sound(layer_intervals(pool, t, d), layer_keys(pool, t, d))
+    t.interval_len[d] == above && layer_sound(layer_intervals(pool, t, d), layer_keys(pool, t, d))
 }
 
 // Layer 0 has one interval, or none in a table without keys; each lower layer has one for each key above.
@@ -157,17 +149,12 @@ fn layers_linked(pool: &[u64], t: ColumnTrie) -> bool
     requires { header_sound (length pool.now) t ≡ true }
     ensures { result ≡ (chain 0 (layers_in pool.now t) || chain 1 (layers_in pool.now t)) }
 {
-    let mut above = 1;
-    if t.data_len[0] == 0 {
-        above = 0;
-    }
-    let mut d = 0;
-    while d < t.arity {
+    let mut above = if t.data_len[0] == 0 { 0 } else { 1 };
+    for d in 0..t.arity {
         if !layer_linked(pool, t, d, above) {
             return false;
         }
         above = t.data_len[d];
-        d += 1;
     }
     true
 }
@@ -176,17 +163,10 @@ fn layers_linked(pool: &[u64], t: ColumnTrie) -> bool
 pub fn undamaged(pool: &[u64], t: ColumnTrie) -> bool
     ensures { result ≡ undamaged pool.now t }
 {
-    if !header_sound(pool.len(), t) {
-        return false;
-    }
-    if !past_arity(t) {
-        return false;
-    }
-    let last = t.arity - 1;
-    if t.tuple_count != t.data_len[last] {
-        return false;
-    }
-    layers_linked(pool, t)
+    header_sound(pool.len(), t)
+        && past_arity(t)
+        && t.tuple_count == t.data_len[t.arity - 1]
+        && layers_linked(pool, t)
 }
 
 // Interval i of the list of n words at `at`, or what stands for one past its end.
@@ -194,11 +174,10 @@ pub fn interval_or(pool: &[u64], at: usize, n: usize, i: usize, past: usize) -> 
     requires { at + n ≤ length pool.now }
     ensures { result ≡ get_or (take n (drop at pool.now)) i past }
 {
-    if n <= i {
-        return past;
+    match part(pool, at, n).get(i) {
+        Some(&word) => word as usize,
+        None => past,
     }
-    let place = at + i;
-    pool[place] as usize
 }
 
 // Where the children of interval i of layer d start: past the last interval, behind all keys.
@@ -210,43 +189,25 @@ pub fn begins(pool: &[u64], t: ColumnTrie, d: usize, i: usize) -> usize
     interval_or(pool, at, t.interval_len[d], i, t.data_len[d])
 }
 
-// A group of a layer, by places in the layer's data; `inside` is false where interval or group is outside its list.
+// A group of a layer, by places in the layer's data.
 #[derive(Clone, Copy)]
 pub struct Group {
-    pub inside: bool,
     pub from: usize,
     pub to: usize,
 }
 
-fn outside() -> Group
-    ensures { result ≡ outside }
-{
-    Group {
-        inside: false,
-        from: 0,
-        to: 0,
-    }
-}
-
-// The group of interval i in layer d.
-pub fn group_of(pool: &[u64], table: ColumnTrie, d: usize, i: usize) -> Group
+// The group of interval i in layer d; none where interval or group is outside its list.
+pub fn group_of(pool: &[u64], table: ColumnTrie, d: usize, i: usize) -> Option<Group>
     requires { (header_sound (length pool.now) table ≡ true) × (d < table.arity) }
     ensures { result ≡ group_of (layer_in pool.now table d) i }
 {
     if table.interval_len[d] <= i {
-        return outside();
+        return None;
     }
     let from = begins(pool, table, d, i);
     let to = begins(pool, table, d, i + 1);
-    if to < from {
-        return outside();
+    if to < from || table.data_len[d] < to {
+        return None;
     }
-    if table.data_len[d] < to {
-        return outside();
-    }
-    Group {
-        inside: true,
-        from,
-        to,
-    }
+    Some(Group { from, to })
 }

@@ -15,12 +15,10 @@ pub fn same_shape(s: ColumnTrie, m: ColumnTrie) -> bool
     if s.arity != m.arity {
         return false;
     }
-    let mut d = 0;
-    while d < s.arity {
+    for d in 0..s.arity {
         if s.grade[d] != m.grade[d] {
             return false;
         }
-        d += 1;
     }
     true
 }

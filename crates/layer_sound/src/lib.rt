@@ -7,7 +7,7 @@ ghost use Rattle.std.specs.Prelude.{◌≡◌, ◌-◌, ◌<◌, length};
 ghost use Rattle.relation.specs.Undamaged.{sound};
 ghost use Rattle.layer_sound.specs.Falls.{falls_in};
 
-// How many keys aren't above the key before them. Two counts, each of every other key: a single one waits for itself at each key, or is compiled to
+// How many keys aren't above the key before them. No `for`, since what j ends at tells whether a key is left. Two counts, each of every other key: a single one waits for itself at each key, or is compiled to
 // vector code that is slower still.
 fn falls(keys: &[u64]) -> usize
     requires { 0 < length keys.now }
@@ -46,14 +46,14 @@ pub fn layer_sound(interval: &[u64], data: &[u64]) -> bool
     if interval.len() == 0 {
         return false;
     }
-    let mut i = interval.len() - 1;
-    let mut at = interval[i] as usize;
+    let last = interval.len() - 1;
+    let mut at = interval[last] as usize;
     if data.len() <= at {
         return false;
     }
     let mut starts = 0;
-    while 0 < i {
-        let before = interval[i - 1] as usize;
+    for i in (0..last).rev() {
+        let before = interval[i] as usize;
         if at <= before {
             return false;
         }
@@ -61,7 +61,6 @@ pub fn layer_sound(interval: &[u64], data: &[u64]) -> bool
             starts += 1;
         }
         at = before;
-        i -= 1;
     }
     if at != 0 {
         return false;

@@ -21,7 +21,7 @@ pub enum SeekStrategy {
 }
 
 // Where the seek ended, how many keys it looked at, and whether it hit: the offset is inside the run and the key there is the target. That
-// comparison is no probe.
+// comparison is no probe. C's struct, and no Option, since the offset is an answer without a hit too.
 #[repr(C)]
 #[derive(Clone, Copy)]
 pub struct Sought {
@@ -38,7 +38,7 @@ pub struct Probed {
 }
 
 // The halving rule on from..to, after `spent` probes. It is the rule that crates of this project share and no public call: the caller sees
-// to it that from..to lies in the run. With `spent` at most 2^62 the count of probes can't wrap.
+// to it that from..to lies in the run. With `spent` at most 2^62 the count of probes can't wrap. A `while`, since the part is halved and not walked.
 pub fn halve(run: &[u64], target: u64, from: usize, to: usize, spent: usize) -> Probed
     requires { (from ≤ to) × (to ≤ length run.now) × (spent ≤ 2 ^ 62) }
     ensures { result ≡ halving run.now target from to spent }
@@ -62,11 +62,8 @@ pub fn halve(run: &[u64], target: u64, from: usize, to: usize, spent: usize) -> 
 fn linear(run: &[u64], target: u64) -> Probed
     ensures { result ≡ linear_of run.now target }
 {
-    let mut i = 0;
-    while i < run.len() {
-        if run[i] < target {
-            i += 1;
-        } else {
+    for i in 0..run.len() {
+        if target <= run[i] {
             return Probed {
                 offset: i,
                 probes: i + 1,
@@ -74,8 +71,8 @@ fn linear(run: &[u64], target: u64) -> Probed
         }
     }
     Probed {
-        offset: i,
-        probes: i,
+        offset: run.len(),
+        probes: run.len(),
     }
 }
 
@@ -86,7 +83,7 @@ fn binary(run: &[u64], target: u64) -> Probed
     halve(run, target, 0, run.len(), 0)
 }
 
-// Probes 0, then 1, 2, 4, .., and halves what lies between the last key known below and the bound.
+// Probes 0, then 1, 2, 4, .., and halves what lies between the last key known below and the bound. A `while`, since the bound doubles.
 fn galloping(run: &[u64], target: u64) -> Probed
     ensures { result ≡ galloping_of run.now target }
 {

@@ -1,4 +1,4 @@
-// The strategy that a number from C stands for.
+// The strategy that a number from C stands for. A function and no `From<u64>`, which would have to stand in the crate seek: what the numbers mean is C's affair alone.
 #![tactic(auto)]
 
 ghost use Rattle.std.specs.Prelude.{◌≡◌};
@@ -9,11 +9,9 @@ use seek::SeekStrategy;
 pub fn strategy_of(word: u64) -> SeekStrategy
     ensures { result ≡ strategy_of word }
 {
-    if word == 0 {
-        return SeekStrategy::Linear;
+    match word {
+        0 => SeekStrategy::Linear,
+        1 => SeekStrategy::Binary,
+        _ => SeekStrategy::Galloping,
     }
-    if word == 1 {
-        return SeekStrategy::Binary;
-    }
-    SeekStrategy::Galloping
 }

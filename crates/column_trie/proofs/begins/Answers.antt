@@ -10,27 +10,11 @@ use Rattle.column_trie.proofs.begins.Goals.{Start}
 told : (s : Start) → LayerFits (length s.args.pool.now) s.args.t s.args.d
 told s = layer_fits (header_told (length s.args.pool.now) s.args.t s.requires.0) s.requires.1
 
-pub layer_at-requires : goal.layer_at-requires
-layer_at-requires c = let f = told (goal.at.layer_at-requires c).Start in (omega (arith, f, c.well_formed), f.small, f.depth)
-
 pub overflow_add-at : goal.overflow_add-at
 overflow_add-at c = omega (arith, told (goal.at.overflow_add-at c).Start, c.layer_at.ensures)
-
-pub offset_bounds-t-d : goal.offset_bounds-t-d
-offset_bounds-t-d c = omega (arith, told (goal.at.offset_bounds-t-d c).Start)
-
-pub bounds-t-d : goal.bounds-t-d
-bounds-t-d c = omega (arith, told (goal.at.bounds-t-d c).Start)
-
-pub offset_bounds-t-d-2 : goal.offset_bounds-t-d-2
-offset_bounds-t-d-2 c = omega (arith, told (goal.at.offset_bounds-t-d-2 c).Start)
-
-pub bounds-t-d-2 : goal.bounds-t-d-2
-bounds-t-d-2 c = omega (arith, told (goal.at.bounds-t-d-2 c).Start)
 
 pub interval_or-requires : goal.interval_or-requires
 interval_or-requires c = omega (arith, told (goal.at.interval_or-requires c).Start, c.layer_at.ensures)
 
 pub returns : goal.returns
-returns c =
-    begins_here c.args.pool.now (told (goal.at.returns c).Start) c.args.i c.layer_at.ensures c.interval_or.ensures
+returns c = begins_here c.args.pool.now (told (goal.at.returns c).Start) c.args.i c.layer_at.ensures c.interval_or.ensures

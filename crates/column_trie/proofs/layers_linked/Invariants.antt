@@ -1,10 +1,6 @@
 -- `column_trie::layers_linked` meets its contract: what is left of the chain comes to the test (Layers.antt), layer by layer.
-use Prim.Native.Nat.{◌-◌}
 use Rattle.column_trie.proofs.Layers.{Linking}
 use Rattle.column_trie.proofs.layers_linked.Given as goal
 
 abbrev pub invariant-loop-d : goal.invariant-loop-d
 invariant-loop-d l = Linking l.pool l.t l.above l.d
-
-abbrev pub decreases-loop-d : goal.decreases-loop-d
-decreases-loop-d l = l.t.arity - l.d

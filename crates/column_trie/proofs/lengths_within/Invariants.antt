@@ -1,14 +1,9 @@
 -- `column_trie::lengths_within` meets its contract: the test held at every depth passed, and fails at the depth that ends the loop early.
-use Prim.Native.Nat.{◌≤◌, ◌-◌}
 use mathlib.Core.Path.{◌≡◌}
 use mathlib.Core.Bool.{true}
 use Rattle.relation.specs.Tests.{every}
-use Rattle.column_trie.specs.Limits.{max_arity}
 use Rattle.column_trie.specs.Table.{within_at}
 use Rattle.column_trie.proofs.lengths_within.Given as goal
 
 abbrev pub invariant-loop-d : goal.invariant-loop-d
-invariant-loop-d l = (l.d ≤ max_arity) × (every l.d (within_at l.t) ≡ true)
-
-abbrev pub decreases-loop-d : goal.decreases-loop-d
-decreases-loop-d l = max_arity - l.d
+invariant-loop-d l = every l.d (within_at l.t) ≡ true

@@ -11,28 +11,19 @@ use Rattle.column_trie.proofs.past_arity.Goals as goal
 pub loop-d-init : goal.loop-d-init
 loop-d-init c =
     let t = c.args.t in
-    (omega arith, every_all (past_at t) t.arity (λ d h. past_told t d (inl h)))
+    every_all (past_at t) t.arity (λ d h. past_told t d (inl h))
 
 pub returns-then-t-d-ne0 : goal.returns-then-t-d-ne0
 returns-then-t-d-ne0 c =
     let d = c.loop-d.d in
     let t = c.args.t in
-    sym
-    (every_fails (past_at t) max_arity d (omega arith)
-    (past_not t d c.loop-d.invariant.0
-    (grind arith)))
+    sym (every_fails (past_at t) max_arity d (omega arith) (past_not t d c.loop-d.auto.d (grind arith)))
 
 pub loop-d-preserved : goal.loop-d-preserved
 loop-d-preserved c =
-    let l = c.loop-d in
-    let d = l.d in
-    let t = c.args.t in (
-      omega arith,
-      every_more (past_at t) d l.invariant.1
-          (past_told t d (inr (omega arith, omega arith, (cc)))),
-    )
+    let d = c.loop-d.d in
+    let t = c.args.t in
+    every_more (past_at t) d c.loop-d.invariant (past_told t d (inr (omega arith, omega arith, (cc))))
 
 pub returns : goal.returns
-returns c =
-    let t = c.args.t in
-    sym (every_fewer (past_at t) max_arity c.loop-d.d (omega arith) c.loop-d.invariant.1)
+returns c = sym (every_fewer (past_at c.args.t) max_arity c.loop-d.d (omega arith) c.loop-d.invariant)

@@ -1,14 +1,9 @@
 -- `column_trie::past_arity` meets its contract: it starts at the arity, below which the test holds.
-use Prim.Native.Nat.{◌≤◌, ◌-◌}
 use mathlib.Core.Path.{◌≡◌}
 use mathlib.Core.Bool.{true}
 use Rattle.relation.specs.Tests.{every}
-use Rattle.column_trie.specs.Limits.{max_arity}
 use Rattle.column_trie.specs.Table.{past_at}
 use Rattle.column_trie.proofs.past_arity.Given as goal
 
 abbrev pub invariant-loop-d : goal.invariant-loop-d
-invariant-loop-d l = (l.t.arity ≤ l.d) × (every l.d (past_at l.t) ≡ true)
-
-abbrev pub decreases-loop-d : goal.decreases-loop-d
-decreases-loop-d l = max_arity - l.d
+invariant-loop-d l = every l.d (past_at l.t) ≡ true

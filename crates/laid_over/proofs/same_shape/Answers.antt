@@ -14,7 +14,7 @@ pub returns-then-s-m : goal.returns-then-s-m
 returns-then-s-m c = let a = c.args in arity_differs a.s a.m c.if-s-m.true
 
 pub loop-d-init : goal.loop-d-init
-loop-d-init c = (omega arith, every_none _)
+loop-d-init c = every_none _
 
 pub returns-then-s-d : goal.returns-then-s-d
 returns-then-s-d c =
@@ -25,11 +25,11 @@ pub loop-d-preserved : goal.loop-d-preserved
 loop-d-preserved c =
     let a = c.args in
     let l = c.loop-d in
-    (omega arith, every_more (same_kind a.s a.m) l.d l.invariant.1 (not-false (same_kind a.s a.m l.d) c.if-s-d.false))
+    every_more (same_kind a.s a.m) l.d l.invariant (not-false (same_kind a.s a.m l.d) c.if-s-d.false)
 
 pub returns : goal.returns
 returns c =
     let a = c.args in
     let l = c.loop-d in
-    let e : l.d ≡ a.s.arity = omega arith in
-    kinds_agree a.s a.m c.if-s-m.false (subst (λ (n : ℕ). every n (same_kind a.s a.m) ≡ true) e l.invariant.1)
+    let e : l.d ≡ a.s.arity = omega (arith, l.auto.d-end) in
+    kinds_agree a.s a.m c.if-s-m.false (subst (λ (n : ℕ). every n (same_kind a.s a.m) ≡ true) e l.invariant)

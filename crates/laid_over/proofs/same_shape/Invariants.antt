@@ -1,5 +1,4 @@
 -- `same_shape` meets its contract: each column passed is of the same kind in both.
-use Prim.Native.Nat.{◌≤◌, ◌-◌}
 use mathlib.Core.Path.{◌≡◌}
 use mathlib.Core.Bool.{true}
 use Rattle.relation.specs.Tests.{every}
@@ -7,7 +6,4 @@ use Rattle.laid_over.specs.Shape.{same_kind}
 use Rattle.laid_over.proofs.same_shape.Given as goal
 
 abbrev pub invariant-loop-d : goal.invariant-loop-d
-invariant-loop-d l = (l.d ≤ l.s.arity) × (every l.d (same_kind l.s l.m) ≡ true)
-
-abbrev pub decreases-loop-d : goal.decreases-loop-d
-decreases-loop-d l = l.s.arity - l.d
+invariant-loop-d l = every l.d (same_kind l.s l.m) ≡ true

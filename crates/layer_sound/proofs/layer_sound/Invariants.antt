@@ -4,6 +4,3 @@ use Rattle.layer_sound.proofs.layer_sound.Given as goal
 
 abbrev pub invariant-loop-i : goal.invariant-loop-i
 invariant-loop-i l = Starting l.interval l.data l.i l.at l.starts
-
-abbrev pub decreases-loop-i : goal.decreases-loop-i
-decreases-loop-i l = l.i
