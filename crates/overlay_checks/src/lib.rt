@@ -3,10 +3,17 @@
 
 ghost use Rattle.std.specs.Prelude.{◌≡◌};
 ghost use Rattle.refusal.specs.Number.{given};
-ghost use Rattle.overlay_checks.specs.Tables.{tables_number};
+ghost use Rattle.overlay_checks.specs.Tables.{of_side, tables_number};
 
 use column_trie::ColumnTrie;
 use refusal::Refusal;
+
+// Which of the two.
+#[derive(Clone, Copy)]
+pub enum Side {
+    School,
+    Maker,
+}
 
 // A school's table laid over a maker's, each in a lent pool; both may lie in one.
 #[derive(Clone, Copy)]
@@ -17,7 +24,18 @@ pub struct Laid<'a> {
     pub maker: ColumnTrie,
 }
 
-impl Laid<'_> {
+impl<'a> Laid<'a> {
+    // One of the two, with its pool.
+    pub fn of(&self, side: Side) -> (&'a [u64], ColumnTrie)
+        ensures pool { result.0.now ≡ of_side side self.now.school_pool.now self.now.maker_pool.now }
+        ensures table { result.1 ≡ of_side side self.now.school self.now.maker }
+    {
+        match side {
+            Side::School => (self.school_pool, self.school),
+            Side::Maker => (self.maker_pool, self.maker),
+        }
+    }
+
     // Damage, the school's looked at first; then whether the two are of one shape.
     pub fn check(&self) -> Result<(), Refusal>
         ensures { given result ≡ tables_number self.now.school_pool.now self.now.school self.now.maker_pool.now self.now.maker }
