@@ -37,6 +37,7 @@ impl<'a> Laid<'a> {
     }
 
     // Damage, the school's looked at first; then whether the two are of one shape.
+    #[tactic(auto, unfolding(crate::specs::Tables::tables_number))]
     pub fn check(&self) -> Result<(), Refusal>
         ensures { given result ≡ tables_number self.now.school_pool.now self.now.school self.now.maker_pool.now self.now.maker }
     {
