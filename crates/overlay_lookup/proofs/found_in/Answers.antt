@@ -58,11 +58,10 @@ slice_bounds-partition_point-end c = omega (arith, told (goal.at.slice_bounds-pa
 
 pub returns-then-not-s : goal.returns-then-not-s
 returns-then-not-s c =
-    c.not_found.ensures ∙ found_missed c.args.pool.now c.args.table c.args.key (sym (ap (λ (x : Sought). x.hit) (searched (goal.at.returns-then-not-s c).After-partition_point-s)) ∙ not-true _ c.if-not-s.true)
+    found_missed c.args.pool.now c.args.table c.args.key (sym (ap (λ (x : Sought). x.hit) (searched (goal.at.returns-then-not-s c).After-partition_point-s)) ∙ not-true _ c.if-not-s.true)
 
 pub returns-then-not-g : goal.returns-then-not-g
 returns-then-not-g c =
-    c.not_found-then-not-g.ensures ∙
     found_outside c.args.pool.now c.args.table c.args.key
     (group_out (layer_in c.args.pool.now c.args.table 1) (sought c.args.pool.now c.args.table c.args.key).offset (grouped (goal.at.returns-then-not-g c).After-group_of-g) (not-true _ c.if-not-g.true))
 
