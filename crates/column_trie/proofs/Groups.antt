@@ -2,7 +2,7 @@
 -- each way out of the code is one of the definition's tests.
 use Prim.Native.Nat.{ℕ, suc, ◌+◌, ◌≤◌, ◌<◌}
 use mathlib.Core.Path.{◌≡◌, sym, ap, subst, ◌∙◌}
-use mathlib.Core.Bool.{true}
+use Rattle.std.proofs.Common.{Some, None}
 use mathlib.Core.List.{List}
 use native.Mathlib.Omega.{arith}
 use native.Mathlib.Numerals.{add-one}
@@ -10,7 +10,7 @@ use lib.ListN.{length, get_or, take, drop, get_or-eq_default}
 use borrow.Author.Tests.{lt-ltb, le-ltb, le-leb, lt-leb}
 use Rattle.relation.proofs.Lists.{get_or_any}
 use Rattle.relation.specs.Layers.{Layer}
-use Rattle.column_trie.specs.Groups.{group_from, group_to, lies, outside, group_of}
+use Rattle.column_trie.specs.Groups.{group_from, group_to, lies, group_of}
 use Rattle.column_trie.specs.Pool.{spot}
 use Rattle.column_trie.specs.Table.{layer_in, data_len_at, interval_len_at}
 use Rattle.column_trie.specs.declared.ColumnTrie.{ColumnTrie}
@@ -51,20 +51,20 @@ module _ (pool : List ℕ) {t : ColumnTrie} {d : ℕ} (f : LayerFits (length poo
 -- ---- the ways out
 
 module _ (l : Layer) (i : ℕ) where
-  pub unlisted : length l.intervals ≤ i → outside ≡ group_of l i
+  pub unlisted : length l.intervals ≤ i → None ≡ group_of l i
   unfolding group_of lies
   unlisted h = simp (le-ltb i (length l.intervals) h)
 
   module _ (h : i < length l.intervals) {from to : ℕ} (f : from ≡ group_from l i) (t : to ≡ group_to l i) where
-    pub falling : to < from → outside ≡ group_of l i
+    pub falling : to < from → None ≡ group_of l i
     unfolding group_of lies
     falling k = simp (lt-ltb i (length l.intervals) h, lt-leb (group_from l i) (group_to l i) (omega arith))
 
     module _ (k : from ≤ to) where
-      pub over : length l.keys < to → outside ≡ group_of l i
+      pub over : length l.keys < to → None ≡ group_of l i
       unfolding group_of lies
       over m = simp (lt-ltb i (length l.intervals) h, le-leb (group_from l i) (group_to l i) (omega arith), lt-leb (group_to l i) (length l.keys) (omega arith))
 
-      pub lying : to ≤ length l.keys → record { inside = true; from = from; to = to } ≡ group_of l i
+      pub lying : to ≤ length l.keys → Some (record { from = from; to = to }) ≡ group_of l i
       unfolding group_of lies
       lying m = simp (f, t, lt-ltb i (length l.intervals) h, le-leb (group_from l i) (group_to l i) (omega arith), le-leb (group_to l i) (length l.keys) (omega arith))

@@ -1,5 +1,5 @@
 -- Public: the group of an interval in its layer: "interval i is where parent i's children start, and they run to the next interval or to the end of the data".
-use Rattle.std.specs.Prelude.{ℕ, suc, Bool, true, false, ◌&&◌, List, length, get_or, ltb, leb}
+use Rattle.std.specs.Prelude.{ℕ, suc, Bool, ◌&&◌, Option, Some, None, List, length, get_or, ltb, leb}
 use Rattle.std.proofs.Math.Seq.{slice}
 use Rattle.relation.specs.Order.{pick}
 use Rattle.relation.specs.Layers.{Layer}
@@ -19,11 +19,8 @@ unfoldable pub lies : Layer → ℕ → Bool
 lies l i = ltb i (length l.intervals) && (leb (group_from l i) (group_to l i) && leb (group_to l i) (length l.keys))
 
 -- interval i's group in its layer, if it lies there
-abbrev pub outside : Group
-outside = record { inside = false; from = 0; to = 0 }
-
 abbrev pub between : ℕ → ℕ → Group
-between from to = record { inside = true; from = from; to = to }
+between from to = record { from = from; to = to }
 
-unfoldable pub group_of : Layer → ℕ → Group
-group_of l i = pick (lies l i) (between (group_from l i) (group_to l i)) outside
+unfoldable pub group_of : Layer → ℕ → Option Group
+group_of l i = pick (lies l i) (Some (between (group_from l i) (group_to l i))) None

@@ -9,7 +9,7 @@
 ghost use Rattle.std.specs.Prelude.{◌≡◌, true, ◌||◌, ◌+◌, ◌*◌, ◌-◌, ◌≤◌, ◌<◌, ◌^◌, length, take, drop, get_or};
 ghost use Rattle.relation.specs.Tests.{every};
 ghost use Rattle.relation.specs.Undamaged.{chain, linked};
-ghost use Rattle.column_trie.specs.Groups.{outside, group_of};
+ghost use Rattle.column_trie.specs.Groups.{group_of};
 ghost use Rattle.column_trie.specs.Limits.{max_arity, max_capacity};
 ghost use Rattle.column_trie.specs.Pool.{spot};
 ghost use Rattle.column_trie.specs.Table.{empty_table, data_len_at, arity_ok, capacity_ok, lies_in, within_at, header_sound, past_at, layers_in, layer_in, undamaged};
@@ -210,43 +210,25 @@ pub fn begins(pool: &[u64], t: ColumnTrie, d: usize, i: usize) -> usize
     interval_or(pool, at, t.interval_len[d], i, t.data_len[d])
 }
 
-// A group of a layer, by places in the layer's data; `inside` is false where interval or group is outside its list.
+// A group of a layer, by places in the layer's data.
 #[derive(Clone, Copy)]
 pub struct Group {
-    pub inside: bool,
     pub from: usize,
     pub to: usize,
 }
 
-fn outside() -> Group
-    ensures { result ≡ outside }
-{
-    Group {
-        inside: false,
-        from: 0,
-        to: 0,
-    }
-}
-
-// The group of interval i in layer d.
-pub fn group_of(pool: &[u64], table: ColumnTrie, d: usize, i: usize) -> Group
+// The group of interval i in layer d; none where interval or group is outside its list.
+pub fn group_of(pool: &[u64], table: ColumnTrie, d: usize, i: usize) -> Option<Group>
     requires { (header_sound (length pool.now) table ≡ true) × (d < table.arity) }
     ensures { result ≡ group_of (layer_in pool.now table d) i }
 {
     if table.interval_len[d] <= i {
-        return outside();
+        return None;
     }
     let from = begins(pool, table, d, i);
     let to = begins(pool, table, d, i + 1);
-    if to < from {
-        return outside();
+    if to < from || table.data_len[d] < to {
+        return None;
     }
-    if table.data_len[d] < to {
-        return outside();
-    }
-    Group {
-        inside: true,
-        from,
-        to,
-    }
+    Some(Group { from, to })
 }

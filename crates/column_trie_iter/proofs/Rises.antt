@@ -7,6 +7,9 @@ use native.Mathlib.Omega.{arith}
 use lib.ListN.{length}
 use lib.Dec.{eqb}
 use borrow.Author.Tests.{eq-eqb, ne_eqb}
+use Rattle.std.proofs.Common.{Option, Some, None, Result, Err}
+use Rattle.refusal.specs.Number.{number_of}
+use Rattle.refusal.specs.declared.Refusal.{Refusal}
 use Rattle.relation.specs.Order.{pick}
 use Rattle.relation.specs.Layers.{Layer}
 use Rattle.column_trie.specs.Groups.{group_to, lies}
@@ -14,19 +17,21 @@ use Rattle.column_trie.specs.Table.{layer_in, header_sound}
 use Rattle.column_trie.specs.declared.ColumnTrie.{ColumnTrie}
 use Rattle.column_trie.proofs.Header.{layer_fits, header_told}
 use Rattle.column_trie_place.specs.Checks.{cursor, at_root, refusal, count_up_to, owns}
-use Rattle.column_trie_place.specs.Inside.{unowned, owned_at, owner_of}
+use Rattle.column_trie_place.specs.Inside.{owned_at, owner_of, Placed}
 use Rattle.column_trie_place.specs.declared.ColumnTrieIter.{ColumnTrieIter}
 use Rattle.column_trie_place.specs.declared.Owner.{Owner}
+use Rattle.column_trie_place.specs.declared.Place.{Place}
 use Rattle.column_trie.proofs.Groups.{intervals_long}
-use Rattle.column_trie_place.proofs.Owners.{owner_in}
+use Rattle.column_trie_place.proofs.Owners.{owner_is}
 use Rattle.column_trie_place.proofs.Places.{unrefused, standing}
-use Rattle.column_trie_place.proofs.Rests.{refuses, answers}
+use Rattle.column_trie_place.proofs.Rests.{answers, refused}
 use Rattle.column_trie_iter.specs.Cursor.{risen_to, unrisen, rises_in, up_of}
 use Rattle.column_trie_iter.specs.declared.UpAnswer.{UpAnswer}
 
 -- what up makes of the owner that it is given
-abbrev raised : ColumnTrieIter → Owner → UpAnswer
-raised it o = pick o.owned (record { number = 0; risen = true; iter = cursor (it.depth - 1) o.interval o.offset }) (unrisen it 6)
+abbrev raised : ColumnTrieIter → Option Owner → UpAnswer
+raised it None = unrisen it 6
+raised it (Some o) = record { number = 0; risen = true; iter = cursor (it.depth - 1) o.interval o.offset }
 
 module _ (l : Layer) (it : ColumnTrieIter) where
   by_owner : raised it (owner_of l it.interval_i) ≡ rises_in l it
@@ -36,29 +41,28 @@ module _ (l : Layer) (it : ColumnTrieIter) where
       counted : ℕ
       counted = count_up_to it.interval_i l.intervals
 
-      go : (z o : Bool) → raised it (pick z unowned (pick o (owned_at l it.interval_i (counted - 1)) unowned)) ≡ pick z (unrisen it 6) (pick o (risen_to l it (counted - 1)) (unrisen it 6))
+      go : (z o : Bool) → raised it (pick z None (pick o (Some (owned_at l it.interval_i (counted - 1))) None)) ≡ pick z (unrisen it 6) (pick o (risen_to l it (counted - 1)) (unrisen it 6))
       go true o = refl
       go false true = refl
       go false false = refl
 
-  module _ {o : Owner} (e : o ≡ owner_of l it.interval_i) where
-    pub unowned_stays : o.owned ≡ false → unrisen it 6 ≡ rises_in l it
-    unowned_stays n = sym (simp n) ∙ ap (raised it) e ∙ by_owner
+  pub unowned_stays : None ≡ owner_of l it.interval_i → unrisen it 6 ≡ rises_in l it
+  unowned_stays e = ap (raised it) e ∙ by_owner
 
-    pub owned_rises : o.owned ≡ true → record { number = 0; risen = true; iter = cursor (it.depth - 1) o.interval o.offset } ≡ rises_in l it
-    owned_rises y = sym (simp y) ∙ ap (raised it) e ∙ by_owner
+  pub owned_rises : {o : Owner} → Some o ≡ owner_of l it.interval_i → record { number = 0; risen = true; iter = cursor (it.depth - 1) o.interval o.offset } ≡ rises_in l it
+  owned_rises e = ap (raised it) e ∙ by_owner
 
   pub rises_in_lem : {n : ℕ} → n ≡ count_up_to it.interval_i l.intervals → (n ≡ 0 → ⊥) → lies l (n - 1) ≡ true → it.interval_i < group_to l (n - 1) → risen_to l it (n - 1) ≡ rises_in l it
-  rises_in_lem c s e h = ap (raised it) (owner_in l it.interval_i c s e h) ∙ by_owner
+  rises_in_lem c s e h = ap (raised it) (owner_is l it.interval_i c s e h) ∙ by_owner
 
 -- the answers of up
 module _ (pool : List ℕ) (t : ColumnTrie) (it : ColumnTrieIter) where
   abbrev moved : UpAnswer
   moved = pick (eqb it.depth 0) (unrisen it 0) (pick (eqb it.depth 1) (record { number = 0; risen = true; iter = at_root }) (rises_in (layer_in pool t (it.depth - 2)) it))
 
-  pub up_refused : {n : ℕ} → n ≡ refusal pool t it → (n ≡ 0 → ⊥) → unrisen it n ≡ up_of pool t it
+  pub up_refused : {r : Refusal} {x : Result Place Refusal} → x ≡ Err r → Placed pool t it x → unrisen it (number_of r) ≡ up_of pool t it
   unfolding up_of
-  up_refused e n = refuses (unrisen it) moved e n
+  up_refused e w = refused (unrisen it) moved e w
 
   module _ (z : refusal pool t it ≡ 0) where
     up_is : moved ≡ up_of pool t it

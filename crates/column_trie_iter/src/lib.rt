@@ -8,13 +8,15 @@
 #![tactic(auto)]
 
 ghost use Rattle.std.specs.Prelude.{◌≡◌};
-ghost use Rattle.column_trie_iter.specs.Cursor.{key_of, next_of, sought_of, end_of, unopened, open_of, unrisen, up_of};
+ghost use Rattle.column_trie_iter.specs.Cursor.{no_key, key_of, unmoved, next_of, unsought, sought_of, end_of, unopened, open_of, unrisen, up_of};
 
 use column_trie::ColumnTrie;
 use column_trie_place::ColumnTrieIter;
+use refusal::Refusal;
 use seek::SeekStrategy;
 
-// Of each answer `number` is the refusal's, 0 for none. Where `found` is false the key is 0.
+// The answers are C's structs, so they have a number and a flag where Rust has Result and Option. Of each `number` is the refusal's, 0 for none.
+// Where `found` is false the key is 0.
 #[repr(C)]
 #[derive(Clone, Copy)]
 pub struct KeyAnswer {
@@ -69,19 +71,14 @@ pub struct UpAnswer {
 pub fn key(pool: &[u64], table: ColumnTrie, iter: ColumnTrieIter) -> KeyAnswer
     ensures { result ≡ key_of pool.now table iter }
 {
-    let p = column_trie_place::place_of(pool, table, iter);
-    let at = p.at;
-    if p.end <= at {
-        return KeyAnswer {
-            number: p.number,
-            found: false,
-            key: 0,
-        };
-    }
-    KeyAnswer {
-        number: 0,
-        found: true,
-        key: pool[at],
+    match column_trie_place::place_of(pool, table, iter) {
+        Err(refused) => no_key(refused.number()),
+        Ok(p) if p.end <= p.at => no_key(0),
+        Ok(p) => KeyAnswer {
+            number: 0,
+            found: true,
+            key: pool[p.at],
+        },
     }
 }
 
@@ -89,24 +86,15 @@ pub fn key(pool: &[u64], table: ColumnTrie, iter: ColumnTrieIter) -> KeyAnswer
 pub fn next(pool: &[u64], table: ColumnTrie, iter: ColumnTrieIter) -> NextAnswer
     ensures { result ≡ next_of pool.now table iter }
 {
-    let p = column_trie_place::place_of(pool, table, iter);
-    if p.end <= p.at {
-        return NextAnswer {
-            number: p.number,
-            found: false,
-            key: 0,
-            iter,
-        };
-    }
+    let p = match column_trie_place::place_of(pool, table, iter) {
+        Err(refused) => return unmoved(iter, refused.number()),
+        Ok(p) if p.end <= p.at => return unmoved(iter, 0),
+        Ok(p) => p,
+    };
     let after = iter.past(1);
     let at = p.at + 1;
     if p.end <= at {
-        return NextAnswer {
-            number: 0,
-            found: false,
-            key: 0,
-            iter: after,
-        };
+        return unmoved(after, 0);
     }
     NextAnswer {
         number: 0,
@@ -127,22 +115,16 @@ pub fn seek(
 ) -> SeekAnswer
     ensures { result ≡ sought_of pool.now table iter strategy target }
 {
-    let p = column_trie_place::place_of(pool, table, iter);
-    let at = p.at;
-    let end = p.end;
-    if end <= at {
-        return SeekAnswer {
-            number: p.number,
-            found: false,
-            hit: false,
-            probes: 0,
-            iter,
-        };
-    }
-    let s = seek::partition_point(strategy, &pool[at..end], target);
+    let p = match column_trie_place::place_of(pool, table, iter) {
+        Err(refused) => return unsought(iter, refused.number()),
+        Ok(p) if p.end <= p.at => return unsought(iter, 0),
+        Ok(p) => p,
+    };
+    let left = &pool[p.at..p.end];
+    let s = seek::partition_point(strategy, left, target);
     SeekAnswer {
         number: 0,
-        found: s.offset < end - at,
+        found: s.offset < left.len(),
         hit: s.hit,
         probes: s.probes,
         iter: iter.past(s.offset),
@@ -153,10 +135,15 @@ pub fn seek(
 pub fn at_end(pool: &[u64], table: ColumnTrie, iter: ColumnTrieIter) -> EndAnswer
     ensures { result ≡ end_of pool.now table iter }
 {
-    let p = column_trie_place::place_of(pool, table, iter);
-    EndAnswer {
-        number: p.number,
-        at_end: p.number == 0 && p.end <= p.at,
+    match column_trie_place::place_of(pool, table, iter) {
+        Err(refused) => EndAnswer {
+            number: refused.number(),
+            at_end: false,
+        },
+        Ok(p) => EndAnswer {
+            number: 0,
+            at_end: p.end <= p.at,
+        },
     }
 }
 
@@ -164,17 +151,16 @@ pub fn at_end(pool: &[u64], table: ColumnTrie, iter: ColumnTrieIter) -> EndAnswe
 pub fn open(pool: &[u64], table: ColumnTrie, iter: ColumnTrieIter) -> OpenAnswer
     ensures { result ≡ open_of pool.now table iter }
 {
-    let p = column_trie_place::place_of(pool, table, iter);
-    if p.number != 0 {
-        return unopened(iter, p.number);
-    }
+    let p = match column_trie_place::place_of(pool, table, iter) {
+        Err(refused) => return unopened(iter, refused.number()),
+        Ok(p) => p,
+    };
     if !column_trie_place::has_children(table, iter.depth, p.at, p.end) {
         return unopened(iter, 0);
     }
     let index = p.index;
-    let g = column_trie::group_of(pool, table, iter.depth, index);
-    if !g.inside {
-        return unopened(iter, 6);
+    if column_trie::group_of(pool, table, iter.depth, index).is_none() {
+        return unopened(iter, Refusal::Damaged.number());
     }
     OpenAnswer {
         number: 0,
@@ -191,9 +177,8 @@ pub fn open(pool: &[u64], table: ColumnTrie, iter: ColumnTrieIter) -> OpenAnswer
 pub fn up(pool: &[u64], table: ColumnTrie, iter: ColumnTrieIter) -> UpAnswer
     ensures { result ≡ up_of pool.now table iter }
 {
-    let p = column_trie_place::place_of(pool, table, iter);
-    if p.number != 0 {
-        return unrisen(iter, p.number);
+    if let Err(refused) = column_trie_place::place_of(pool, table, iter) {
+        return unrisen(iter, refused.number());
     }
     if iter.depth == 0 {
         return unrisen(iter, 0);
@@ -205,18 +190,51 @@ pub fn up(pool: &[u64], table: ColumnTrie, iter: ColumnTrieIter) -> UpAnswer
             iter: ColumnTrieIter::new(),
         };
     }
-    let o = column_trie_place::owner_of(pool, table, iter.depth - 2, iter.interval_i);
-    if !o.owned {
-        return unrisen(iter, 6);
-    }
-    UpAnswer {
-        number: 0,
-        risen: true,
-        iter: ColumnTrieIter {
-            depth: iter.depth - 1,
-            interval_i: o.interval,
-            slice_offset: o.offset,
+    match column_trie_place::owner_of(pool, table, iter.depth - 2, iter.interval_i) {
+        None => unrisen(iter, Refusal::Damaged.number()),
+        Some(o) => UpAnswer {
+            number: 0,
+            risen: true,
+            iter: ColumnTrieIter {
+                depth: iter.depth - 1,
+                interval_i: o.interval,
+                slice_offset: o.offset,
+            },
         },
+    }
+}
+
+// What the calls answer where they find or move nothing. Each is a struct of its own, with fields of its own, so no generic function makes them.
+fn no_key(number: u64) -> KeyAnswer
+    ensures { result ≡ no_key number }
+{
+    KeyAnswer {
+        number,
+        found: false,
+        key: 0,
+    }
+}
+
+fn unmoved(iter: ColumnTrieIter, number: u64) -> NextAnswer
+    ensures { result ≡ unmoved iter number }
+{
+    NextAnswer {
+        number,
+        found: false,
+        key: 0,
+        iter,
+    }
+}
+
+fn unsought(iter: ColumnTrieIter, number: u64) -> SeekAnswer
+    ensures { result ≡ unsought iter number }
+{
+    SeekAnswer {
+        number,
+        found: false,
+        hit: false,
+        probes: 0,
+        iter,
     }
 }
 

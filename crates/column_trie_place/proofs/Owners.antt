@@ -8,14 +8,17 @@ use native.Mathlib.Omega.{arith}
 use lib.ListN.{length, get_or}
 use lib.Dec.{ltb, leb}
 use borrow.Author.Tests.{lt-ltb, le-ltb, le-leb, eq-eqb, ne_eqb}
+use Rattle.std.proofs.Common.{Some, None}
 use Rattle.relation.specs.Order.{pick}
 use Rattle.relation.specs.Layers.{Layer}
 use Rattle.relation.proofs.Tests.{and_true}
 use Rattle.seek.specs.Seek.{mid_of}
 use Rattle.seek.proofs.HalvingLaws.{keeps}
-use Rattle.column_trie.specs.Groups.{group_from, group_to, lies}
+use Rattle.column_trie.specs.Groups.{group_from, group_to, lies, group_of}
+use Rattle.column_trie.specs.declared.Group.{Group}
 use Rattle.column_trie_place.specs.Checks.{count_up_to, owns}
-use Rattle.column_trie_place.specs.Inside.{unowned, owned_at, owner_or, owner_of}
+use Rattle.column_trie_place.specs.Inside.{owned_at, owner_or, owner_of}
+use Rattle.column_trie_place.proofs.Groups.{Lying, group_out, group_in}
 
 last_counted : (ints : List ℕ) (i : ℕ) → 0 < count_up_to i ints → get_or ints (count_up_to i ints - 1) 0 ≤ i
 last_counted ints i h =
@@ -30,12 +33,12 @@ last_counted ints i h =
 
 -- n is what the code counts
 module _ (l : Layer) (i : ℕ) {n : ℕ} (c : n ≡ count_up_to i l.intervals) where
-  pub owner_none : n ≡ 0 → unowned ≡ owner_of l i
+  pub owner_none : n ≡ 0 → None ≡ owner_of l i
   unfolding owner_of
   owner_none z = simp (eq-eqb (count_up_to i l.intervals) 0 (sym c ∙ z))
 
   module _ (s : n ≡ 0 → ⊥) where
-    pub not_above : group_from l (n - 1) ≤ i
+    not_above : group_from l (n - 1) ≤ i
     not_above =
         let e = last_counted l.intervals i (omega (arith, c, s)) in
         rw c e
@@ -44,23 +47,33 @@ module _ (l : Layer) (i : ℕ) {n : ℕ} (c : n ≡ count_up_to i l.intervals) w
     unfolding owner_of
     by_owner = ap (λ (m : ℕ). owner_or l i (m - 1)) c ∙ sym (simp (ne_eqb (count_up_to i l.intervals) 0 (λ z. s (c ∙ z))))
 
-    deny : owns l (n - 1) i ≡ false → unowned ≡ owner_of l i
-    deny e = sym (ap (λ (b : Bool). pick b (owned_at l i (n - 1)) unowned) e) ∙ by_owner
+    deny : owns l (n - 1) i ≡ false → None ≡ owner_of l i
+    deny e = sym (ap (λ (b : Bool). pick b (Some (owned_at l i (n - 1))) None) e) ∙ by_owner
 
-    pub owner_out : lies l (n - 1) ≡ false → unowned ≡ owner_of l i
+    pub owner_out : None ≡ group_of l (n - 1) → None ≡ owner_of l i
     unfolding owns
-    owner_out e = deny (simp e)
+    owner_out o = deny (simp (group_out l (n - 1) o))
 
-    pub owner_past : lies l (n - 1) ≡ true → group_to l (n - 1) ≤ i → unowned ≡ owner_of l i
+    pub owner_is : lies l (n - 1) ≡ true → i < group_to l (n - 1) → Some (owned_at l i (n - 1)) ≡ owner_of l i
     unfolding owns
-    owner_past e h = deny (simp (e, le-leb (group_from l (n - 1)) i not_above, le-ltb i (group_to l (n - 1)) h))
-
-    pub owner_in : lies l (n - 1) ≡ true → i < group_to l (n - 1) → owned_at l i (n - 1) ≡ owner_of l i
-    unfolding owns
-    owner_in e h =
+    owner_is e h =
         sym (
-        ap (λ (b : Bool). pick b (owned_at l i (n - 1)) unowned)
+        ap (λ (b : Bool). pick b (Some (owned_at l i (n - 1))) None)
         (and_true (lies l (n - 1)) (leb (group_from l (n - 1)) i && ltb i (group_to l (n - 1))) e
         (and_true (leb (group_from l (n - 1)) i) (ltb i (group_to l (n - 1))) (le-leb (group_from l (n - 1)) i not_above) (lt-ltb i (group_to l (n - 1)) h)))
         ) ∙
         by_owner
+
+    module _ {g : Group} (o : Some g ≡ group_of l (n - 1)) where
+      lying : Lying l (n - 1) g
+      lying = group_in l (n - 1) o
+
+      pub starts : g.from ≤ i
+      starts = omega (arith, lying.from, not_above)
+
+      pub owner_past : g.to ≤ i → None ≡ owner_of l i
+      unfolding owns
+      owner_past h = deny (simp (lying.lies, le-leb (group_from l (n - 1)) i not_above, le-ltb i (group_to l (n - 1)) (omega (arith, lying.to))))
+
+      pub owner_in : i < g.to → Some (record { interval = n - 1; offset = i - g.from }) ≡ owner_of l i
+      owner_in h = ap (λ (m : ℕ). Some (record { interval = n - 1; offset = i - m })) lying.from ∙ owner_is lying.lies (omega (arith, lying.to))

@@ -9,6 +9,10 @@ use lib.ListN.{length, take, drop}
 use lib.Seq.{slice, length-slice, take-nil, take-take, drop-drop}
 use lib.Dec.{leb, eqb}
 use borrow.Author.Tests.{leb-true, le-leb, lt-leb, eq-eqb, ne_eqb}
+use Rattle.std.proofs.Common.{Ok, Err}
+use Rattle.refusal.specs.Number.{number_of}
+use Rattle.refusal.specs.declared.Refusal.{Refusal}
+use Rattle.refusal.specs.declared.Refusal.TheVariants.{Damaged, BadCursor}
 use Rattle.relation.specs.Order.{pick}
 use Rattle.relation.proofs.Tests.{and_left, and_right, and_true, and_false_left, and_false_right}
 use Rattle.column_trie.specs.Groups.{group_from, group_to, keys_of, lies}
@@ -16,7 +20,7 @@ use Rattle.column_trie.specs.Pool.{spot}
 use Rattle.column_trie.specs.Table.{header_sound, data_len_at}
 use Rattle.column_trie.specs.declared.ColumnTrie.{ColumnTrie}
 use Rattle.column_trie_place.specs.Checks.{layer_of, stands_below, stands, refusal, remaining, child}
-use Rattle.column_trie_place.specs.Inside.{place_refused, place_below, Placed}
+use Rattle.column_trie_place.specs.Inside.{place_below, Placed}
 use Rattle.column_trie.proofs.Header.{layer_fits, header_told}
 use Rattle.column_trie.proofs.Groups.{keys_long}
 use Rattle.column_trie_place.proofs.Groups.{Lying, lies_told}
@@ -74,12 +78,12 @@ module _ (pool : List ℕ) (t : ColumnTrie) (it : ColumnTrieIter) where
         offset = omega (arith, k, length-slice (group_from l i) (group_to l i) l.keys q.2);
       }
 
-  pub misplaced : stands_below pool t it ≡ false → place_refused 7 ≡ place_below pool t it
+  pub misplaced : stands_below pool t it ≡ false → Err BadCursor ≡ place_below pool t it
   unfolding place_below
   misplaced e = simp e
 
   pub well_placed : stands_below pool t it ≡ true → {g : Group} → Lying (layer_of pool t it) it.interval_i g → {at : ℕ} → at ≡ spot t.start t.capacity (it.depth - 1)
-      → record { number = 0; index = g.from + it.slice_offset; at = at + (g.from + it.slice_offset); end = at + g.to } ≡ place_below pool t it
+      → Ok (record { index = g.from + it.slice_offset; at = at + (g.from + it.slice_offset); end = at + g.to }) ≡ place_below pool t it
   unfolding place_below
   well_placed e y s = simp (e, y.from, y.to, s)
 
@@ -120,13 +124,12 @@ module _ (pool : List ℕ) (t : ColumnTrie) (it : ColumnTrieIter) where
   pub standing : refusal pool t it ≡ 0 → 0 < it.depth → Standing pool t it
   standing z b = stands_told pool t it (sym (stands_below_lem b) ∙ (unrefused z).1)
 
-  refused_as : (n : ℕ) → (n ≡ 0 → ⊥) → n ≡ refusal pool t it → Placed pool t it (place_refused n)
-  refused_as n z e =
-      record { number = e; ordered = omega arith; inside = omega arith; left = λ x. absurd (omega arith); passed = λ x. absurd (z x); rest = λ x. absurd (z x); index = λ x. absurd (z x) }
+  refused_as : (r : Refusal) → number_of r ≡ refusal pool t it → Placed pool t it (Err r)
+  refused_as r e = record { number = e; place = tt }
 
-  pub header_refused : header_sound (length pool) t ≡ false → Placed pool t it (place_refused 6)
+  pub header_refused : header_sound (length pool) t ≡ false → Placed pool t it (Err Damaged)
   unfolding refusal
-  header_refused e = refused_as 6 (λ x. omega arith) (simp e)
+  header_refused e = refused_as Damaged (simp e)
 
   module _ (h : header_sound (length pool) t ≡ true) where
     refusal_is : refusal pool t it ≡ pick (stands pool t it) 0 7
@@ -138,24 +141,26 @@ module _ (pool : List ℕ) (t : ColumnTrie) (it : ColumnTrieIter) where
       unfolding stands
       stands_root = simp (eq-eqb it.depth 0 z)
 
-      pub root_refused : (it.interval_i ≡ 0 → ⊥) ⊎ (it.slice_offset ≡ 0 → ⊥) → Placed pool t it (place_refused 7)
-      root_refused n = refused_as 7 (λ x. omega arith) (sym (refusal_is ∙ ap (λ (x : Bool). pick x 0 7) (stands_root ∙ other n)))
+      pub root_refused : (it.interval_i ≡ 0 → ⊥) ⊎ (it.slice_offset ≡ 0 → ⊥) → Placed pool t it (Err BadCursor)
+      root_refused n = refused_as BadCursor (sym (refusal_is ∙ ap (λ (x : Bool). pick x 0 7) (stands_root ∙ other n)))
         where
           other : (it.interval_i ≡ 0 → ⊥) ⊎ (it.slice_offset ≡ 0 → ⊥) → (eqb it.interval_i 0 && eqb it.slice_offset 0) ≡ false
           other (inl n) = and_false_left (eqb it.interval_i 0) (eqb it.slice_offset 0) (ne_eqb it.interval_i 0 n)
           other (inr n) = and_false_right (eqb it.interval_i 0) (eqb it.slice_offset 0) (ne_eqb it.slice_offset 0 n)
 
-      pub root_placed : it.interval_i ≡ 0 → it.slice_offset ≡ 0 → Placed pool t it (place_refused 0)
+      pub root_placed : it.interval_i ≡ 0 → it.slice_offset ≡ 0 → Placed pool t it (Ok (record { index = 0; at = 0; end = 0 }))
       unfolding remaining child
       root_placed i o =
           record {
             number = sym (refusal_is ∙ ap (λ (x : Bool). pick x 0 7) (stands_root ∙ and_true (eqb it.interval_i 0) (eqb it.slice_offset 0) (eq-eqb it.interval_i 0 i) (eq-eqb it.slice_offset 0 o)));
-            ordered = omega arith;
-            inside = omega arith;
-            left = λ x. refl;
-            passed = λ x. omega arith;
-            rest = λ x. simp (eq-eqb it.depth 0 z);
-            index = λ x. simp (eq-eqb it.depth 0 z);
+            place =
+                record {
+                  ordered = omega arith;
+                  inside = omega arith;
+                  passed = omega arith;
+                  rest = simp (eq-eqb it.depth 0 z);
+                  index = simp (eq-eqb it.depth 0 z);
+                };
           }
 
     module _ (b : 0 < it.depth) where
@@ -170,12 +175,14 @@ module _ (pool : List ℕ) (t : ColumnTrie) (it : ColumnTrieIter) where
           simp e (
           record {
             number = sym (refusal_is ∙ ap (λ (x : Bool). pick x 0 7) (stands_below_lem b ∙ e));
-            ordered = omega arith;
-            inside = omega arith;
-            left = λ x. refl;
-            passed = λ x. omega arith;
-            rest = λ x. run_part pool (spot t.start t.capacity (it.depth - 1)) (data_len_at t (it.depth - 1)) (group_from l i) (group_to l i) it.slice_offset (omega arith) ∙ simp n;
-            index = λ x. simp n;
+            place =
+                record {
+                  ordered = omega arith;
+                  inside = omega arith;
+                  passed = omega arith;
+                  rest = run_part pool (spot t.start t.capacity (it.depth - 1)) (data_len_at t (it.depth - 1)) (group_from l i) (group_to l i) it.slice_offset (omega arith) ∙ simp n;
+                  index = simp n;
+                };
           }
           )
 
@@ -183,5 +190,5 @@ module _ (pool : List ℕ) (t : ColumnTrie) (it : ColumnTrieIter) where
       below_placed = go (stands_below pool t it) refl
         where
           go : (x : Bool) → stands_below pool t it ≡ x → Placed pool t it (place_below pool t it)
-          go false e = subst (Placed pool t it) (misplaced pool t it e) (refused_as 7 (λ x. omega arith) (sym (refusal_is ∙ ap (λ (x : Bool). pick x 0 7) (stands_below_lem b ∙ e))))
+          go false e = subst (Placed pool t it) (misplaced pool t it e) (refused_as BadCursor (sym (refusal_is ∙ ap (λ (x : Bool). pick x 0 7) (stands_below_lem b ∙ e))))
           go true e = there (stands_told pool t it e) e

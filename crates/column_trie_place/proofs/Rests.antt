@@ -1,19 +1,43 @@
 -- What a call answers from the siblings that are left, found in the pool: none, or the present key and those behind it.
 use Prim.Native.Nat.{ℕ, suc, ◌-◌, ◌≤◌, ◌<◌}
-use mathlib.Core.Path.{◌≡◌, refl, sym, ap, ◌∙◌}
-use mathlib.Core.Bool.{Bool, true, false}
+use mathlib.Core.Path.{◌≡◌, sym, ap, ◌∙◌}
+use mathlib.Core.Bool.{Bool}
 use mathlib.Core.List.{List, [], ◌∷◌}
 use native.Mathlib.Omega.{arith}
 use lib.ListN.{length, get_or, take, drop}
 use lib.Seq.{drop-cons}
-use lib.Dec.{eqb}
-use borrow.Author.Tests.{eqb-true, eqb-false, eq-eqb, ne_eqb}
+use borrow.Author.Tests.{eq-eqb, ne_eqb}
+use Rattle.std.proofs.Common.{Result, Ok, Err}
+use Rattle.std.proofs.lemmas.Result.{IfOk-at_ok}
+use Rattle.refusal.specs.Number.{number_of, given}
+use Rattle.refusal.specs.declared.Refusal.{Refusal}
+use Rattle.refusal.specs.declared.Refusal.TheVariants.{BadArity, BadCapacity, OutsidePool, BadLength, NoRoom, Damaged, BadCursor, BadOrder, BadAtoms, BadList, FreeVariable, Full, NotAFile, LongText, MixedKinds, PartRows, OtherShape}
 use Rattle.relation.specs.Order.{pick}
 use Rattle.column_trie.specs.declared.ColumnTrie.{ColumnTrie}
 use Rattle.column_trie_place.specs.Checks.{refusal, remaining, unless}
-use Rattle.column_trie_place.specs.Inside.{Placed}
+use Rattle.column_trie_place.specs.Inside.{Placed, PlacedAt}
 use Rattle.column_trie_place.specs.declared.ColumnTrieIter.{ColumnTrieIter}
 use Rattle.column_trie_place.specs.declared.Place.{Place}
+
+-- no refusal's number is 0
+numbered : (r : Refusal) → number_of r ≡ 0 → ⊥
+numbered BadArity z = omega arith
+numbered BadCapacity z = omega arith
+numbered OutsidePool z = omega arith
+numbered BadLength z = omega arith
+numbered NoRoom z = omega arith
+numbered Damaged z = omega arith
+numbered BadCursor z = omega arith
+numbered BadOrder z = omega arith
+numbered BadAtoms z = omega arith
+numbered BadList z = omega arith
+numbered FreeVariable z = omega arith
+numbered Full z = omega arith
+numbered NotAFile z = omega arith
+numbered LongText z = omega arith
+numbered MixedKinds z = omega arith
+numbered PartRows z = omega arith
+numbered OtherShape z = omega arith
 
 -- a number refuses, 0 does not
 pub refuses : {A : Type 0} (deny : ℕ → A) (answer : A) {n m : ℕ} → n ≡ m → (n ≡ 0 → ⊥) → deny n ≡ unless m deny answer
@@ -31,21 +55,24 @@ part_more pool at end h k =
     ap (λ (n : ℕ). take n (drop at pool)) (let e : end - at ≡ suc (end - suc at) = omega arith in e) ∙
     ap (take (suc (end - suc at))) (drop-cons pool at 0 (omega arith))
 
-module _ {pool : List ℕ} {t : ColumnTrie} {it : ColumnTrieIter} {p : Place} (w : Placed pool t it p) {A : Type 0} (deny : ℕ → A) (f : List ℕ → A) where
-  -- an answer that goes by what is left
-  pub by_rest : p.number ≡ 0 → f (take (p.end - p.at) (drop p.at pool)) ≡ unless (refusal pool t it) deny (f (remaining pool t it))
-  by_rest z = ap f (w.rest z) ∙ answers deny (f (remaining pool t it)) (sym w.number ∙ z)
+module _ {pool : List ℕ} {t : ColumnTrie} {it : ColumnTrieIter} {A : Type 0} (deny : ℕ → A) where
+  -- what the checks refuse, a call refuses
+  pub refused : (answer : A) {r : Refusal} {x : Result Place Refusal} → x ≡ Err r → Placed pool t it x → deny (number_of r) ≡ unless (refusal pool t it) deny answer
+  refused answer {r} e w = refuses deny answer (ap given (sym e) ∙ w.number) (numbered r)
 
-  -- nothing is left, or the cursor is refused
-  pub nothing : deny 0 ≡ f [] → p.end ≤ p.at → deny p.number ≡ unless (refusal pool t it) deny (f (remaining pool t it))
-  nothing e h = go (eqb p.number 0) refl
-    where
-      go : (b : Bool) → eqb p.number 0 ≡ b → deny p.number ≡ unless (refusal pool t it) deny (f (remaining pool t it))
-      go true q =
-          let z = eqb-true p.number 0 q in
-          ap deny z ∙ e ∙ ap f (sym (part_none pool p.at p.end h)) ∙ by_rest z
-      go false q = refuses deny (f (remaining pool t it)) w.number (eqb-false p.number 0 q)
+  module _ (f : List ℕ → A) {p : Place} (z : refusal pool t it ≡ 0) (w : PlacedAt pool t it p) where
+    -- an answer that goes by what is left
+    pub by_rest : f (take (p.end - p.at) (drop p.at pool)) ≡ unless (refusal pool t it) deny (f (remaining pool t it))
+    by_rest = ap f w.rest ∙ answers deny (f (remaining pool t it)) z
 
-  -- the present key and what is behind it
-  pub something : p.at < p.end → f (get_or pool p.at 0 ∷ take (p.end - suc p.at) (drop (suc p.at) pool)) ≡ unless (refusal pool t it) deny (f (remaining pool t it))
-  something h = ap f (sym (part_more pool p.at p.end h w.inside)) ∙ by_rest (w.left h)
+    -- nothing is left
+    pub nothing : p.end ≤ p.at → f [] ≡ unless (refusal pool t it) deny (f (remaining pool t it))
+    nothing h = ap f (sym (part_none pool p.at p.end h)) ∙ by_rest
+
+    -- the present key and what is behind it
+    pub something : p.at < p.end → f (get_or pool p.at 0 ∷ take (p.end - suc p.at) (drop (suc p.at) pool)) ≡ unless (refusal pool t it) deny (f (remaining pool t it))
+    something h = ap f (sym (part_more pool p.at p.end h w.inside)) ∙ by_rest
+
+-- a cursor that has a place is not refused
+pub not_refused : {pool : List ℕ} {t : ColumnTrie} {it : ColumnTrieIter} {p : Place} {x : Result Place Refusal} → x ≡ Ok p → Placed pool t it x → (refusal pool t it ≡ 0) × PlacedAt pool t it p
+not_refused e w = (sym w.number ∙ ap given e, IfOk-at_ok (PlacedAt _ _ _) e w.place)

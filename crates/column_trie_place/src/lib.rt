@@ -10,9 +10,10 @@
 ghost use Rattle.std.specs.Prelude.{◌≡◌, true, ◌+◌, ◌<◌, ◌^◌, length};
 ghost use Rattle.column_trie.specs.Table.{layer_in, header_sound};
 ghost use Rattle.column_trie_place.specs.Checks.{at_root, past};
-ghost use Rattle.column_trie_place.specs.Inside.{place_refused, place_below, Placed, has_children, unowned, owner_of};
+ghost use Rattle.column_trie_place.specs.Inside.{place_below, Placed, has_children, owner_of};
 
 use column_trie::ColumnTrie;
+use refusal::Refusal;
 
 // depth: 0 at the root, else one more than the number of the layer. interval_i: whose children are looked at. slice_offset: how many of them
 // are passed.
@@ -48,76 +49,64 @@ impl ColumnTrieIter {
     }
 }
 
-// Where a cursor stands: the checks' number, the interval of the children of its key, and the places in the pool of that key and of the end
-// of its run. Where nothing is left of a run, at the root and after a refusal the two places are equal.
+// Where a cursor stands: the interval of the children of its key, and the places in the pool of that key and of the end of its run. At the root, and
+// where nothing is left of a run, the two places are equal.
 #[derive(Clone, Copy)]
 pub struct Place {
-    pub number: u64,
     pub index: usize,
     pub at: usize,
     pub end: usize,
 }
 
-// Whose child the key at a place of a layer's data is: the interval of the group that has it, and its offset there; `owned` is false where the
-// words give no such group.
+// Whose child the key at a place of a layer's data is: the interval of the group that has it, and its offset there.
 #[derive(Clone, Copy)]
 pub struct Owner {
-    pub owned: bool,
     pub interval: usize,
     pub offset: usize,
 }
 
-fn place_refused(number: u64) -> Place
-    ensures { result ≡ place_refused number }
-{
-    Place {
-        number,
-        index: 0,
-        at: 0,
-        end: 0,
-    }
-}
-
 // The checks below the root, under a header that passed: 7, or where the cursor stands.
-fn place_below(pool: &[u64], table: ColumnTrie, iter: ColumnTrieIter) -> Place
+fn place_below(pool: &[u64], table: ColumnTrie, iter: ColumnTrieIter) -> Result<Place, Refusal>
     requires { (header_sound (length pool.now) table ≡ true) × (0 < iter.depth) }
     ensures { result ≡ place_below pool.now table iter }
 {
     if table.arity < iter.depth {
-        return place_refused(7);
+        return Err(Refusal::BadCursor);
     }
     let d = iter.depth - 1;
-    let g = column_trie::group_of(pool, table, d, iter.interval_i);
-    if !g.inside {
-        return place_refused(7);
-    }
+    let Some(g) = column_trie::group_of(pool, table, d, iter.interval_i) else {
+        return Err(Refusal::BadCursor);
+    };
     if g.to - g.from < iter.slice_offset {
-        return place_refused(7);
+        return Err(Refusal::BadCursor);
     }
     let layer = column_trie::layer_at(table, d);
     let index = g.from + iter.slice_offset;
-    Place {
-        number: 0,
+    Ok(Place {
         index,
         at: layer + index,
         end: layer + g.to,
-    }
+    })
 }
 
 // What every call asks first: 6 for the header, then 7; else where the cursor stands.
-pub fn place_of(pool: &[u64], table: ColumnTrie, iter: ColumnTrieIter) -> Place
+pub fn place_of(pool: &[u64], table: ColumnTrie, iter: ColumnTrieIter) -> Result<Place, Refusal>
     ensures { Placed pool.now table iter result }
 {
     if !column_trie::header_sound(pool.len(), table) {
-        return place_refused(6);
+        return Err(Refusal::Damaged);
     }
     if 0 < iter.depth {
         return place_below(pool, table, iter);
     }
     if iter.interval_i != 0 || iter.slice_offset != 0 {
-        return place_refused(7);
+        return Err(Refusal::BadCursor);
     }
-    place_refused(0)
+    Ok(Place {
+        index: 0,
+        at: 0,
+        end: 0,
+    })
 }
 
 // Whether there is something to open, for a cursor that is not refused and stands at `at` of a run that ends at `end`.
@@ -130,38 +119,24 @@ pub fn has_children(table: ColumnTrie, depth: usize, at: usize, end: usize) -> b
     depth < table.arity && at < end
 }
 
-fn unowned() -> Owner
-    ensures { result ≡ unowned }
-{
-    Owner {
-        owned: false,
-        interval: 0,
-        offset: 0,
-    }
-}
-
-// The owner of place i in layer d: the last interval that the halving rule counts as not above i. What it counts last is not above i, on any list, so
-// the offset can't fall below 0.
-pub fn owner_of(pool: &[u64], table: ColumnTrie, d: usize, i: usize) -> Owner
+// The owner of place i in layer d, if the words give one: the last interval that the halving rule counts as not above i. What it counts last is not
+// above i, on any list, so the offset can't fall below 0.
+pub fn owner_of(pool: &[u64], table: ColumnTrie, d: usize, i: usize) -> Option<Owner>
     requires { (header_sound (length pool.now) table ≡ true) × (d < table.arity) × (i < table.capacity) }
     ensures { result ≡ owner_of (layer_in pool.now table d) i }
 {
     let intervals = column_trie::layer_intervals(pool, table, d);
     let counted = seek::halve(intervals, i as u64 + 1, 0, intervals.len(), 0).offset;
     if counted == 0 {
-        return unowned();
+        return None;
     }
     let owner = counted - 1;
-    let g = column_trie::group_of(pool, table, d, owner);
-    if !g.inside {
-        return unowned();
-    }
+    let g = column_trie::group_of(pool, table, d, owner)?;
     if g.to <= i {
-        return unowned();
+        return None;
     }
-    Owner {
-        owned: true,
+    Some(Owner {
         interval: owner,
         offset: i - g.from,
-    }
+    })
 }

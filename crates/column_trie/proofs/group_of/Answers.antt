@@ -1,7 +1,7 @@
 -- `column_trie::group_of` meets its contract: the group's two ends are those of its interval and the next, and each way out is one of the definition's
 -- tests (Groups.antt).
 use Prim.Native.Nat.{◌<◌}
-use mathlib.Core.Path.{◌≡◌, ◌∙◌}
+use mathlib.Core.Path.{◌≡◌}
 use native.Mathlib.Omega.{arith}
 use lib.ListN.{length}
 use Rattle.column_trie.specs.Groups.{group_from, group_to}
@@ -9,7 +9,7 @@ use Rattle.column_trie.specs.Table.{layer_in}
 use Rattle.column_trie.proofs.Groups.{keys_long, intervals_long, starts_group, ends_group, unlisted, falling, over, lying}
 use Rattle.column_trie.proofs.Header.{LayerFits, layer_fits, header_told}
 use Rattle.column_trie.proofs.group_of.Goals as goal
-use Rattle.column_trie.proofs.group_of.Goals.{After-begins-to, Start}
+use Rattle.column_trie.proofs.group_of.Goals.{After-begins-to, Start, then-to-from-via-then-to-from, then-to-from-via-else-to-from+then-table-d-2}
 
 -- where the layer lies
 told : (s : Start) → LayerFits (length s.args.pool.now) s.args.table s.args.d
@@ -17,6 +17,7 @@ told s = layer_fits (header_told (length s.args.pool.now) s.args.table s.require
 
 -- what the two calls have found: the group's start and its end
 record Found (q : After-begins-to) : Type 0 where
+  lies : LayerFits (length q.args.pool.now) q.args.table q.args.d
   listed : q.args.i < length (layer_in q.args.pool.now q.args.table q.args.d).intervals
   starts : q.begins-from.result ≡ group_from (layer_in q.args.pool.now q.args.table q.args.d) q.args.i
   ends : q.begins-to.result ≡ group_to (layer_in q.args.pool.now q.args.table q.args.d) q.args.i
@@ -25,42 +26,26 @@ found : (q : After-begins-to) → Found q
 found q =
     let lies = layer_fits (header_told (length q.args.pool.now) q.args.table q.requires.0) q.requires.1 in
     record {
+      lies = lies;
       listed = omega (arith, intervals_long q.args.pool.now lies, q.if-table-d.false);
       starts = starts_group q.args.pool.now lies q.args.i q.if-table-d.false q.begins-from.ensures;
       ends = ends_group q.args.pool.now lies q.args.i q.begins-to.ensures;
     }
 
-pub offset_bounds-table-d : goal.offset_bounds-table-d
-offset_bounds-table-d c = omega (arith, told (goal.at.offset_bounds-table-d c).Start)
-
-pub bounds-table-d : goal.bounds-table-d
-bounds-table-d c = omega (arith, told (goal.at.bounds-table-d c).Start)
-
 pub returns-then-table-d : goal.returns-then-table-d
 returns-then-table-d c =
-    c.outside.ensures ∙ unlisted (layer_in c.args.pool.now c.args.table c.args.d) c.args.i (omega (arith, intervals_long c.args.pool.now (told (goal.at.returns-then-table-d c).Start), c.if-table-d.true))
-
-pub overflow_add-i : goal.overflow_add-i
-overflow_add-i c = omega (arith, told (goal.at.overflow_add-i c).Start, c.if-table-d.false)
+    unlisted (layer_in c.args.pool.now c.args.table c.args.d) c.args.i (omega (arith, intervals_long c.args.pool.now (told (goal.at.returns-then-table-d c).Start), c.if-table-d.true))
 
 pub returns-then-to-from : goal.returns-then-to-from
 returns-then-to-from c =
+    let l = layer_in c.args.pool.now c.args.table c.args.d in
     let f = found (goal.at.returns-then-to-from c).After-begins-to in
-    c.outside-then-to-from.ensures ∙ falling (layer_in c.args.pool.now c.args.table c.args.d) c.args.i f.listed f.starts f.ends c.if-to-from.true
-
-pub offset_bounds-table-d-2 : goal.offset_bounds-table-d-2
-offset_bounds-table-d-2 c = omega (arith, told (goal.at.offset_bounds-table-d-2 c).Start)
-
-pub bounds-table-d-2 : goal.bounds-table-d-2
-bounds-table-d-2 c = omega (arith, told (goal.at.bounds-table-d-2 c).Start)
-
-pub returns-then-table-d-2 : goal.returns-then-table-d-2
-returns-then-table-d-2 c =
-    let f = found (goal.at.returns-then-table-d-2 c).After-begins-to in
-    c.outside-then-table-d-2.ensures ∙
-    over (layer_in c.args.pool.now c.args.table c.args.d) c.args.i f.listed f.starts f.ends c.if-to-from.false (omega (arith, keys_long c.args.pool.now (told (goal.at.returns-then-table-d-2 c).Start), c.if-table-d-2.true))
+    elim c.then-to-from.branch [
+      | then-to-from-via-then-to-from w ↦ falling l c.args.i f.listed f.starts f.ends w.if-to-from.true
+      | then-to-from-via-else-to-from+then-table-d-2 w ↦ over l c.args.i f.listed f.starts f.ends w.if-to-from.false (omega (arith, keys_long c.args.pool.now f.lies, w.if-table-d-2.true))
+    ]
 
 pub returns : goal.returns
 returns c =
     let f = found (goal.at.returns c).After-begins-to in
-    lying (layer_in c.args.pool.now c.args.table c.args.d) c.args.i f.listed f.starts f.ends c.if-to-from.false (omega (arith, keys_long c.args.pool.now (told (goal.at.returns c).Start), c.if-table-d-2.false))
+    lying (layer_in c.args.pool.now c.args.table c.args.d) c.args.i f.listed f.starts f.ends c.if-to-from.false (omega (arith, keys_long c.args.pool.now f.lies, c.if-table-d-2.false))

@@ -18,12 +18,7 @@ sound : (q : Else-not-header_sound) → header_sound (length q.args.pool.now) q.
 sound q = passed q.header_sound.ensures (ap not q.if-not-header_sound.false)
 
 pub returns-then-not-header_sound : goal.returns-then-not-header_sound
-returns-then-not-header_sound c =
-    subst (Placed c.args.pool.now c.args.table c.args.iter) (sym c.place_refused.ensures)
-    (header_refused c.args.pool.now c.args.table c.args.iter (failed c.header_sound.ensures (ap not c.if-not-header_sound.true)))
-
-pub place_below-requires : goal.place_below-requires
-place_below-requires c = (sound (goal.at.place_below-requires c).Else-not-header_sound, c.if-iter-gt0.true)
+returns-then-not-header_sound c = header_refused c.args.pool.now c.args.table c.args.iter (failed c.header_sound.ensures (ap not c.if-not-header_sound.true))
 
 pub returns-then-iter-gt0 : goal.returns-then-iter-gt0
 returns-then-iter-gt0 c =
@@ -32,12 +27,9 @@ returns-then-iter-gt0 c =
 
 pub returns-then-iter-ne0 : goal.returns-then-iter-ne0
 returns-then-iter-ne0 c =
-    let z : c.args.iter.depth ≡ 0 = omega (arith, c.if-iter-gt0.false) in
-    subst (Placed c.args.pool.now c.args.table c.args.iter) (sym c.place_refused-then-iter-ne0.ensures)
-    (root_refused c.args.pool.now c.args.table c.args.iter (sound (goal.at.returns-then-iter-ne0 c).Else-not-header_sound) z (elim c.then-iter-ne0.branch [ then-iter-ne0-via-then-iter-ne0 w ↦ inl w.if-iter-ne0.true | then-iter-ne0-via-else-iter-ne0+then-iter-ne0-2 w ↦ inr w.if-iter-ne0-2.true ]))
+    root_refused c.args.pool.now c.args.table c.args.iter (sound (goal.at.returns-then-iter-ne0 c).Else-not-header_sound) (omega (arith, c.if-iter-gt0.false))
+    (elim c.then-iter-ne0.branch [ then-iter-ne0-via-then-iter-ne0 w ↦ inl w.if-iter-ne0.true | then-iter-ne0-via-else-iter-ne0+then-iter-ne0-2 w ↦ inr w.if-iter-ne0-2.true ])
 
 pub returns : goal.returns
 returns c =
-    let z : c.args.iter.depth ≡ 0 = omega (arith, c.if-iter-gt0.false) in
-    subst (Placed c.args.pool.now c.args.table c.args.iter) (sym c.place_refused-2.ensures)
-    (root_placed c.args.pool.now c.args.table c.args.iter (sound (goal.at.returns c).Else-not-header_sound) z c.if-iter-ne0.false c.if-iter-ne0-2.false)
+    root_placed c.args.pool.now c.args.table c.args.iter (sound (goal.at.returns c).Else-not-header_sound) (omega (arith, c.if-iter-gt0.false)) c.if-iter-ne0.false c.if-iter-ne0-2.false
