@@ -68,10 +68,7 @@ fn found_in(pool: &[u64], table: ColumnTrie, key: u64) -> Option<Run>
     if !s.hit {
         return None;
     }
-    let g = column_trie::group_of(pool, table, 1, s.offset);
-    if !g.inside {
-        return None;
-    }
+    let g = column_trie::group_of(pool, table, 1, s.offset)?;
     Some(Run {
         from: column_trie::layer_at(table, 1) + g.from,
         len: g.to - g.from,

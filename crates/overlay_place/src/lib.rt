@@ -96,8 +96,8 @@ impl LaidIter {
     fn stands(self, laid: &Laid) -> bool
         ensures { result ≡ pair_stands laid.now.school_pool.now laid.now.school laid.now.maker_pool.now laid.now.maker self }
     {
-        column_trie_place::place_of(laid.school_pool, laid.school, self.school).number == 0
-            && column_trie_place::place_of(laid.maker_pool, laid.maker, self.maker).number == 0
+        column_trie_place::place_of(laid.school_pool, laid.school, self.school).is_ok()
+            && column_trie_place::place_of(laid.maker_pool, laid.maker, self.maker).is_ok()
             && (self.at_root()
                 || started(laid.school, self.school)
                     && started(laid.maker, self.maker)
