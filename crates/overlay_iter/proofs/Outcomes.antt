@@ -11,9 +11,10 @@ use Rattle.column_trie_place.specs.Checks.{unless}
 use Rattle.column_trie_place.proofs.Rests.{answers}
 use Rattle.column_trie_iter.specs.Cursor.{key_of, open_of}
 use Rattle.column_trie_iter.specs.declared.KeyAnswer.{KeyAnswer}
+use Rattle.overlay_checks.specs.declared.Side.TheVariants.{School, Maker}
 use Rattle.overlay_place.specs.Pairs.{leads, pair_at_root, pair_refusal}
 use Rattle.overlay_place.specs.declared.LaidIter.{LaidIter}
-use Rattle.overlay_iter.specs.Calls.{by_walker, school_opened, maker_opened, both_opened, first_opened}
+use Rattle.overlay_iter.specs.Calls.{by_walker, one_opened, both_opened, first_opened}
 use Rattle.overlay_iter.specs.declared.LaidOpenAnswer.{LaidOpenAnswer}
 
 module _ {A : Type 0} (sp : List ℕ) (s : ColumnTrie) (mp : List ℕ) (m : ColumnTrie) (it : LaidIter) (deny : ℕ → A) (x y z : A) where
@@ -42,15 +43,15 @@ module _ (sp : List ℕ) (s : ColumnTrie) (mp : List ℕ) (m : ColumnTrie) (it :
   abbrev b : KeyAnswer
   b = key_of mp m it.maker
 
-  by_owner : (c d : Bool) → pair_at_root it ≡ c → leads a b ≡ d → pick c (both_opened (open_of sp s it.school) (open_of mp m it.maker)) (pick d (school_opened it (open_of sp s it.school)) (maker_opened it (open_of mp m it.maker))) ≡ first_opened sp s mp m it
+  by_owner : (c d : Bool) → pair_at_root it ≡ c → leads a b ≡ d → pick c (both_opened (open_of sp s it.school) (open_of mp m it.maker)) (pick d (one_opened School it (open_of sp s it.school)) (one_opened Maker it (open_of mp m it.maker))) ≡ first_opened sp s mp m it
   unfolding first_opened
-  by_owner c d p q = sym (ap₂ {C = LaidOpenAnswer} (λ (g h : Bool). pick g (both_opened (open_of sp s it.school) (open_of mp m it.maker)) (pick h (school_opened it (open_of sp s it.school)) (maker_opened it (open_of mp m it.maker)))) p q)
+  by_owner c d p q = sym (ap₂ {C = LaidOpenAnswer} (λ (g h : Bool). pick g (both_opened (open_of sp s it.school) (open_of mp m it.maker)) (pick h (one_opened School it (open_of sp s it.school)) (one_opened Maker it (open_of mp m it.maker)))) p q)
 
   pub opens_both : pair_at_root it ≡ true → both_opened (open_of sp s it.school) (open_of mp m it.maker) ≡ first_opened sp s mp m it
   opens_both p = by_owner true (leads a b) p refl
 
-  pub opens_school : pair_at_root it ≡ false → leads a b ≡ true → school_opened it (open_of sp s it.school) ≡ first_opened sp s mp m it
+  pub opens_school : pair_at_root it ≡ false → leads a b ≡ true → one_opened School it (open_of sp s it.school) ≡ first_opened sp s mp m it
   opens_school p q = by_owner false true p q
 
-  pub opens_maker : pair_at_root it ≡ false → leads a b ≡ false → maker_opened it (open_of mp m it.maker) ≡ first_opened sp s mp m it
+  pub opens_maker : pair_at_root it ≡ false → leads a b ≡ false → one_opened Maker it (open_of mp m it.maker) ≡ first_opened sp s mp m it
   opens_maker p q = by_owner false false p q

@@ -9,7 +9,7 @@ ghost use Rattle.std.specs.Prelude.{◌≡◌};
 ghost use Rattle.overlay_checks.specs.Tables.{of_side};
 ghost use Rattle.column_trie_iter.specs.Cursor.{key_of, sought_of, open_of};
 ghost use Rattle.overlay_place.specs.Pairs.{least};
-ghost use Rattle.overlay_iter.specs.Calls.{laid_key_of, laid_end_of, pass_if, both_next, laid_next_of, both_sought, laid_sought_of, school_opened, maker_opened, first_opened, laid_open_of, laid_up_of};
+ghost use Rattle.overlay_iter.specs.Calls.{laid_key_of, laid_end_of, pass_if, both_next, laid_next_of, both_sought, laid_sought_of, one_opened, first_opened, laid_open_of, laid_up_of};
 
 use column_trie::ColumnTrie;
 use column_trie_iter::{EndAnswer, KeyAnswer};
@@ -276,7 +276,7 @@ pub fn open(
 
 // One opens, and the other stays.
 fn open_one(laid: &Laid, iter: LaidIter, side: Side) -> LaidOpenAnswer
-    ensures { result ≡ of_side side (school_opened iter (open_of laid.now.school_pool.now laid.now.school iter.school)) (maker_opened iter (open_of laid.now.maker_pool.now laid.now.maker iter.maker)) }
+    ensures { result ≡ one_opened side iter (of_side side (open_of laid.now.school_pool.now laid.now.school iter.school) (open_of laid.now.maker_pool.now laid.now.maker iter.maker)) }
 {
     let (pool, table) = laid.of(side);
     let r = column_trie_iter::open(pool, table, iter.of(side));
