@@ -3,6 +3,8 @@
 // Pools and headers are passed along and only read; both tables may lie in one pool. Each call begins with overlay_place's `LaidIter::check`, and its answer
 // is the one that specs/Calls.antt gives, for any pools, headers and pair: nothing is asked of them. Below depth 1 a call is the plain cursor's, on the table
 // of the key's owner (`LaidIter::walker`); among the first keys it is made of both.
+//
+// C and Rust link the calls with pools and headers as arguments of their own, so each call makes one struct of them first.
 #![tactic(auto)]
 
 ghost use Rattle.std.specs.Prelude.{◌≡◌};
@@ -18,7 +20,8 @@ use overlay_checks::{Laid, Side};
 use overlay_place::LaidIter;
 use seek::SeekStrategy;
 
-// Of each answer `number` is the refusal's, 0 for none. Where `found` is false the key is 0.
+// Of each answer `number` is the refusal's, 0 for none. Where `found` is false the key is 0. C is handed these structs by value (include/ducatbriar.h), so a
+// number and a flag stand there for a Result and an Option.
 #[repr(C)]
 #[derive(Clone, Copy)]
 pub struct LaidNextAnswer {

@@ -22,7 +22,8 @@ pub struct Run {
     pub len: usize,
 }
 
-// The run is `len` words from `from` on, of the school's pool if `from_school` is true, else of the maker's. Without a run both numbers are 0.
+// The run is `len` words from `from` on, of the school's pool if `from_school` is true, else of the maker's. Without a run both numbers are 0. C is handed
+// this struct by value (include/ducatbriar.h), so `number` stands there for a Result and the run for an Option.
 #[repr(C)]
 #[derive(Clone, Copy)]
 pub struct LookedUp {
