@@ -2,6 +2,7 @@
 use Prim.Native.Nat.{ℕ, ◌+◌, ◌-◌, ◌≤◌, ◌<◌}
 use mathlib.Core.Path.{◌≡◌, refl, sym, ap, ◌∙◌, subst}
 use mathlib.Core.Bool.{Bool, true, false}
+use Rattle.std.specs.Prelude.{Option, Some, None}
 use mathlib.Core.List.{List, [], ◌∷◌}
 use native.Mathlib.Omega.{arith}
 use lib.ListN.{length, get_or, take, drop}
@@ -31,7 +32,7 @@ use Rattle.trie_iterator.proofs.Held.{GroupHolds, held_group, no_firsts, first_k
 use Rattle.overlay.specs.Laid.{owns}
 use Rattle.overlay.proofs.Laid.{owns_row, row_owns, key_first, first_key}
 use Rattle.overlay_lookup.specs.Lookup.{found_in}
-use Rattle.overlay_lookup.specs.declared.Found.{Found}
+use Rattle.overlay_lookup.specs.declared.Run.{Run}
 use Rattle.overlay_lookup.proofs.Runs.{found_missed, found_there}
 
 -- a list without members
@@ -44,10 +45,19 @@ group_words : (pool : List ℕ) (s n from to : ℕ) → to ≤ n → take (to - 
 group_words pool s n from to h =
     sym (ap (drop from) (take-take to n (drop s pool) h) ∙ drop_take from to (drop s pool) ∙ ap (take (to - from)) (drop-drop from s pool))
 
+-- whether the search found a run, and the run's words, none without one
+abbrev pub found : Option Run → Bool
+found (Some r) = true
+found None = false
+
+abbrev pub words : List ℕ → Option Run → List ℕ
+words pool (Some r) = take r.len (drop r.from pool)
+words pool None = []
+
 -- what the search tells of the rows
-pub record Tells (pool : List ℕ) (rows : List Row) (k : ℕ) (f : Found) : Type 0 where
-  pub has : f.found ≡ owns rows k
-  pub run : take f.len (drop f.from pool) ≡ keys_under (k ∷ []) rows
+pub record Tells (pool : List ℕ) (rows : List Row) (k : ℕ) (f : Option Run) : Type 0 where
+  pub has : found f ≡ owns rows k
+  pub run : words pool f ≡ keys_under (k ∷ []) rows
 
 module _ {pool : List ℕ} {t : ColumnTrie} {rows : List Row} (H : Layered pool t rows) (h : 1 < t.arity) (k : ℕ) where
   abbrev sought : Sought

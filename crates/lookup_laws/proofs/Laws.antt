@@ -2,6 +2,7 @@
 use Prim.Native.Nat.{ℕ}
 use mathlib.Core.Path.{◌≡◌, refl, sym, ap, ◌∙◌, subst}
 use mathlib.Core.Bool.{Bool, true, false}
+use Rattle.std.specs.Prelude.{Option, Some, None}
 use mathlib.Core.List.{List, [], ◌∷◌}
 use native.Mathlib.Omega.{arith}
 use lib.ListN.{take, drop}
@@ -17,10 +18,11 @@ use Rattle.trie_iterator.specs.Cursor.{Layered}
 use Rattle.trie_iterator.proofs.Held.{undamaged_layered}
 use Rattle.overlay.specs.Laid.{owns, laid}
 use Rattle.overlay.proofs.Laid.{laid_keys}
-use Rattle.overlay_lookup.specs.Lookup.{lookup_number, found_in, no_run, run_at, looked_up, run_in}
+use Rattle.overlay_lookup.specs.Lookup.{lookup_number, found_in, no_run, owners_run, looked_up, run_in}
 use Rattle.overlay_lookup.specs.declared.LookedUp.{LookedUp}
-use Rattle.overlay_lookup.proofs.Runs.{Deep, number_deep, look_refused, look_school, look_maker}
-use Rattle.lookup_laws.proofs.Found.{Tells, found_tells}
+use Rattle.overlay_lookup.specs.declared.Run.{Run}
+use Rattle.overlay_lookup.proofs.Runs.{Deep, number_deep, look_refused, look_found}
+use Rattle.lookup_laws.proofs.Found.{Tells, found, words, found_tells}
 
 module _ (sp : List ℕ) (s : ColumnTrie) (mp : List ℕ) (m : ColumnTrie) (k : ℕ) where
   -- what a lookup gives: whose the run is, and its words
@@ -51,15 +53,18 @@ module _ (sp : List ℕ) (s : ColumnTrie) (mp : List ℕ) (m : ColumnTrie) (k : 
 
     pub a_lookup_gives_the_keys_under_it_of_the_rows_that_count : Gives (looked_up sp s mp m k)
     unfolding run_in
-    a_lookup_gives_the_keys_under_it_of_the_rows_that_count = go (found_in sp s k).found refl
+    a_lookup_gives_the_keys_under_it_of_the_rows_that_count = subst Gives (look_found sp s mp m k e) (go (found_in sp s k) (found_in mp m k) refl refl)
       where
-        go : (b : Bool) → (found_in sp s k).found ≡ b → Gives (looked_up sp s mp m k)
-        go true f =
-            let o : owns (rows_in sp s) k ≡ true = sym in_school.has ∙ f in
-            subst Gives (look_school sp s mp m k e f) (record { owner = sym o; run = in_school.run ∙ by_owner true o })
-        go false f =
-            let o : owns (rows_in sp s) k ≡ false = sym in_school.has ∙ f in
-            subst Gives (look_maker sp s mp m k e f) (record { owner = sym o; run = in_maker.run ∙ by_owner false o })
+        go : (f g : Option Run) → found_in sp s k ≡ f → found_in mp m k ≡ g → Gives (owners_run f g)
+        go (Some r) g p q =
+            let o : owns (rows_in sp s) k ≡ true = sym in_school.has ∙ ap found p in
+            record { owner = sym o; run = sym (ap (words sp) p) ∙ in_school.run ∙ by_owner true o }
+        go None (Some r) p q =
+            let o : owns (rows_in sp s) k ≡ false = sym in_school.has ∙ ap found p in
+            record { owner = sym o; run = sym (ap (words mp) q) ∙ in_maker.run ∙ by_owner false o }
+        go None None p q =
+            let o : owns (rows_in sp s) k ≡ false = sym in_school.has ∙ ap found p in
+            record { owner = sym o; run = sym (ap (words mp) q) ∙ in_maker.run ∙ by_owner false o }
 
   pub a_refused_lookup_gives_no_run : (lookup_number sp s mp m ≡ 0 → ⊥) → (looked_up sp s mp m k ≡ no_run (lookup_number sp s mp m)) × (run_in sp mp (looked_up sp s mp m k) ≡ [])
   unfolding run_in
@@ -67,9 +72,10 @@ module _ (sp : List ℕ) (s : ColumnTrie) (mp : List ℕ) (m : ColumnTrie) (k : 
 
   pub the_number_is_the_answers : (looked_up sp s mp m k).number ≡ lookup_number sp s mp m
   unfolding looked_up
-  the_number_is_the_answers = go (eqb (lookup_number sp s mp m) 0) (found_in sp s k).found refl
+  the_number_is_the_answers = go (eqb (lookup_number sp s mp m) 0) (found_in sp s k) (found_in mp m k) refl
     where
-      go : (b c : Bool) → eqb (lookup_number sp s mp m) 0 ≡ b → (pick b (pick c (run_at true (found_in sp s k)) (run_at false (found_in mp m k))) (no_run (lookup_number sp s mp m))).number ≡ lookup_number sp s mp m
-      go true true e = sym (eqb-true (lookup_number sp s mp m) 0 e)
-      go true false e = sym (eqb-true (lookup_number sp s mp m) 0 e)
-      go false c e = refl
+      go : (b : Bool) (f g : Option Run) → eqb (lookup_number sp s mp m) 0 ≡ b → (pick b (owners_run f g) (no_run (lookup_number sp s mp m))).number ≡ lookup_number sp s mp m
+      go true (Some r) g e = sym (eqb-true (lookup_number sp s mp m) 0 e)
+      go true None (Some r) e = sym (eqb-true (lookup_number sp s mp m) 0 e)
+      go true None None e = sym (eqb-true (lookup_number sp s mp m) 0 e)
+      go false f g e = refl

@@ -2,27 +2,54 @@
 #![tactic(auto)]
 
 ghost use Rattle.std.specs.Prelude.{◌≡◌};
-ghost use Rattle.overlay_checks.specs.Tables.{tables_number};
+ghost use Rattle.refusal.specs.Number.{given};
+ghost use Rattle.overlay_checks.specs.Tables.{of_side, tables_number};
 
 use column_trie::ColumnTrie;
+use refusal::Refusal;
 
-// 6 for damage, the school's looked at first; 17 where the two are not of one shape; else 0.
-pub fn tables_number(
-    school_pool: &[u64],
-    school: ColumnTrie,
-    maker_pool: &[u64],
-    maker: ColumnTrie,
-) -> u64
-    ensures { result ≡ tables_number school_pool.now school maker_pool.now maker }
-{
-    if !column_trie::undamaged(school_pool, school) {
-        return 6;
+// Which of the two.
+#[derive(Clone, Copy)]
+pub enum Side {
+    School,
+    Maker,
+}
+
+// A school's table laid over a maker's, each in a lent pool; both may lie in one.
+#[derive(Clone, Copy)]
+pub struct Laid<'a> {
+    pub school_pool: &'a [u64],
+    pub school: ColumnTrie,
+    pub maker_pool: &'a [u64],
+    pub maker: ColumnTrie,
+}
+
+impl<'a> Laid<'a> {
+    // One of the two, with its pool.
+    pub fn of(&self, side: Side) -> (&'a [u64], ColumnTrie)
+        ensures pool { result.0.now ≡ of_side side self.now.school_pool.now self.now.maker_pool.now }
+        ensures table { result.1 ≡ of_side side self.now.school self.now.maker }
+    {
+        match side {
+            Side::School => (self.school_pool, self.school),
+            Side::Maker => (self.maker_pool, self.maker),
+        }
     }
-    if !column_trie::undamaged(maker_pool, maker) {
-        return 6;
+
+    // Damage, the school's looked at first; then whether the two are of one shape.
+    #[tactic(auto, unfolding(crate::specs::Tables::tables_number))]
+    pub fn check(&self) -> Result<(), Refusal>
+        ensures { given result ≡ tables_number self.now.school_pool.now self.now.school self.now.maker_pool.now self.now.maker }
+    {
+        if !column_trie::undamaged(self.school_pool, self.school) {
+            return Err(Refusal::Damaged);
+        }
+        if !column_trie::undamaged(self.maker_pool, self.maker) {
+            return Err(Refusal::Damaged);
+        }
+        if !laid_over::same_shape(self.school, self.maker) {
+            return Err(Refusal::OtherShape);
+        }
+        Ok(())
     }
-    if !laid_over::same_shape(school, maker) {
-        return 17;
-    }
-    0
 }

@@ -1,6 +1,6 @@
--- The four ways out of a call: refused, the school's walks, the maker's walks, or both stand among the first keys.
+-- The ways out of a call that is not refused: the school's walks, the maker's walks, or both stand among the first keys.
 use Prim.Native.Nat.{ℕ, ◌≤◌, ◌<◌}
-use mathlib.Core.Path.{◌≡◌, refl, sym, ap, ap₂, ◌∙◌}
+use mathlib.Core.Path.{◌≡◌, refl, sym, ap₂, ◌∙◌}
 use mathlib.Core.Bool.{Bool, true, false}
 use mathlib.Core.List.{List}
 use lib.Dec.{ltb}
@@ -8,22 +8,18 @@ use borrow.Author.Tests.{lt-ltb, le-ltb}
 use Rattle.relation.specs.Order.{pick}
 use Rattle.column_trie.specs.declared.ColumnTrie.{ColumnTrie}
 use Rattle.column_trie_place.specs.Checks.{unless}
-use Rattle.column_trie_place.specs.declared.ColumnTrieIter.{ColumnTrieIter}
-use Rattle.column_trie_place.proofs.Rests.{refuses, answers}
+use Rattle.column_trie_place.proofs.Rests.{answers}
 use Rattle.column_trie_iter.specs.Cursor.{key_of, open_of}
 use Rattle.column_trie_iter.specs.declared.KeyAnswer.{KeyAnswer}
-use Rattle.overlay_place.specs.Pairs.{pair, leads, least, pair_at_root, pair_refusal}
+use Rattle.overlay_checks.specs.declared.Side.TheVariants.{School, Maker}
+use Rattle.overlay_place.specs.Pairs.{leads, pair_at_root, pair_refusal}
 use Rattle.overlay_place.specs.declared.LaidIter.{LaidIter}
-use Rattle.overlay_iter.specs.Calls.{by_walker, pass_if, next_at, both_next, school_opened, maker_opened, both_opened, first_opened}
-use Rattle.overlay_iter.specs.declared.LaidNextAnswer.{LaidNextAnswer}
+use Rattle.overlay_iter.specs.Calls.{by_walker, one_opened, both_opened, first_opened}
 use Rattle.overlay_iter.specs.declared.LaidOpenAnswer.{LaidOpenAnswer}
 
 module _ {A : Type 0} (sp : List ℕ) (s : ColumnTrie) (mp : List ℕ) (m : ColumnTrie) (it : LaidIter) (deny : ℕ → A) (x y z : A) where
   abbrev outcome : A
   outcome = unless (pair_refusal sp s mp m it) deny (by_walker it x y z)
-
-  pub when_refused : {n : ℕ} → n ≡ pair_refusal sp s mp m it → (n ≡ 0 → ⊥) → deny n ≡ outcome
-  when_refused e f = refuses deny (by_walker it x y z) e f
 
   module _ {n : ℕ} (e : n ≡ pair_refusal sp s mp m it) (f : n ≡ 0) where
     by_depths : (b c : Bool) → ltb 1 it.school.depth ≡ b → ltb 1 it.maker.depth ≡ c → pick b x (pick c y z) ≡ outcome
@@ -47,29 +43,15 @@ module _ (sp : List ℕ) (s : ColumnTrie) (mp : List ℕ) (m : ColumnTrie) (it :
   abbrev b : KeyAnswer
   b = key_of mp m it.maker
 
-  -- a step, as the code makes it
-  pub steps :
-      {x y : KeyAnswer} → x ≡ a → y ≡ b → {c d : Bool} → c ≡ leads x y → d ≡ leads y x →
-      {i j : ColumnTrieIter} → i ≡ pass_if c sp s it.school → j ≡ pass_if d mp m it.maker →
-      {v w : KeyAnswer} → v ≡ key_of sp s i → w ≡ key_of mp m j → {k : KeyAnswer} → k ≡ least v w → next_at (pair i j) k ≡ both_next sp s mp m it
-  unfolding both_next
-  steps {x} {y} p q {c} {d} lc ld {i} {j} pi pj {v} {w} kv kw {k} e =
-      let c' : c ≡ leads a b = lc ∙ ap₂ {C = Bool} leads p q in
-      let d' : d ≡ leads b a = ld ∙ ap₂ {C = Bool} leads q p in
-      let i' : i ≡ pass_if (leads a b) sp s it.school = pi ∙ ap (λ (h : Bool). pass_if h sp s it.school) c' in
-      let j' : j ≡ pass_if (leads b a) mp m it.maker = pj ∙ ap (λ (h : Bool). pass_if h mp m it.maker) d' in
-      ap (next_at (pair i j)) (e ∙ ap₂ {C = KeyAnswer} least kv kw) ∙
-      ap₂ {C = LaidNextAnswer} (λ (g h : ColumnTrieIter). next_at (pair g h) (least (key_of sp s g) (key_of mp m h))) i' j'
-
-  by_owner : (c d : Bool) → pair_at_root it ≡ c → leads a b ≡ d → pick c (both_opened (open_of sp s it.school) (open_of mp m it.maker)) (pick d (school_opened it (open_of sp s it.school)) (maker_opened it (open_of mp m it.maker))) ≡ first_opened sp s mp m it
+  by_owner : (c d : Bool) → pair_at_root it ≡ c → leads a b ≡ d → pick c (both_opened (open_of sp s it.school) (open_of mp m it.maker)) (pick d (one_opened School it (open_of sp s it.school)) (one_opened Maker it (open_of mp m it.maker))) ≡ first_opened sp s mp m it
   unfolding first_opened
-  by_owner c d p q = sym (ap₂ {C = LaidOpenAnswer} (λ (g h : Bool). pick g (both_opened (open_of sp s it.school) (open_of mp m it.maker)) (pick h (school_opened it (open_of sp s it.school)) (maker_opened it (open_of mp m it.maker)))) p q)
+  by_owner c d p q = sym (ap₂ {C = LaidOpenAnswer} (λ (g h : Bool). pick g (both_opened (open_of sp s it.school) (open_of mp m it.maker)) (pick h (one_opened School it (open_of sp s it.school)) (one_opened Maker it (open_of mp m it.maker)))) p q)
 
   pub opens_both : pair_at_root it ≡ true → both_opened (open_of sp s it.school) (open_of mp m it.maker) ≡ first_opened sp s mp m it
   opens_both p = by_owner true (leads a b) p refl
 
-  pub opens_school : pair_at_root it ≡ false → leads a b ≡ true → school_opened it (open_of sp s it.school) ≡ first_opened sp s mp m it
+  pub opens_school : pair_at_root it ≡ false → leads a b ≡ true → one_opened School it (open_of sp s it.school) ≡ first_opened sp s mp m it
   opens_school p q = by_owner false true p q
 
-  pub opens_maker : pair_at_root it ≡ false → leads a b ≡ false → maker_opened it (open_of mp m it.maker) ≡ first_opened sp s mp m it
+  pub opens_maker : pair_at_root it ≡ false → leads a b ≡ false → one_opened Maker it (open_of mp m it.maker) ≡ first_opened sp s mp m it
   opens_maker p q = by_owner false false p q

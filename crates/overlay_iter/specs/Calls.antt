@@ -13,7 +13,9 @@ use Rattle.column_trie_iter.specs.declared.SeekAnswer.{SeekAnswer}
 use Rattle.column_trie_iter.specs.declared.EndAnswer.{EndAnswer}
 use Rattle.column_trie_iter.specs.declared.OpenAnswer.{OpenAnswer}
 use Rattle.column_trie_iter.specs.declared.UpAnswer.{UpAnswer}
-use Rattle.overlay_place.specs.Pairs.{pair, leads, least, pair_at_root, pair_refusal}
+use Rattle.overlay_checks.specs.declared.Side.{Side}
+use Rattle.overlay_checks.specs.declared.Side.TheVariants.{School, Maker}
+use Rattle.overlay_place.specs.Pairs.{pair, moved, leads, least, pair_at_root, pair_refusal}
 use Rattle.overlay_place.specs.declared.LaidIter.{LaidIter}
 use Rattle.overlay_iter.specs.declared.LaidNextAnswer.{LaidNextAnswer}
 use Rattle.overlay_iter.specs.declared.LaidSeekAnswer.{LaidSeekAnswer}
@@ -43,11 +45,8 @@ laid_end_of sp s mp m it = end_by (laid_key_of sp s mp m it)
 abbrev pub laid_unmoved : LaidIter → ℕ → LaidNextAnswer
 laid_unmoved it n = record { number = n; found = false; key = 0; iter = it }
 
-abbrev pub school_next : LaidIter → NextAnswer → LaidNextAnswer
-school_next it r = record { number = r.number; found = r.found; key = r.key; iter = pair r.iter it.maker }
-
-abbrev pub maker_next : LaidIter → NextAnswer → LaidNextAnswer
-maker_next it r = record { number = r.number; found = r.found; key = r.key; iter = pair it.school r.iter }
+abbrev pub one_next : Side → LaidIter → NextAnswer → LaidNextAnswer
+one_next side it r = record { number = r.number; found = r.found; key = r.key; iter = moved side it r.iter }
 
 -- past the present key, where it is this cursor's
 abbrev pub pass_if : Bool → List ℕ → ColumnTrie → ColumnTrieIter → ColumnTrieIter
@@ -68,18 +67,15 @@ both_next sp s mp m it = let n = next_pair sp s mp m it in next_at n (least (key
 
 unfoldable pub laid_next_of : List ℕ → ColumnTrie → List ℕ → ColumnTrie → LaidIter → LaidNextAnswer
 laid_next_of sp s mp m it =
-    unless (pair_refusal sp s mp m it) (laid_unmoved it) (by_walker it (school_next it (next_of sp s it.school)) (maker_next it (next_of mp m it.maker)) (both_next sp s mp m it))
+    unless (pair_refusal sp s mp m it) (laid_unmoved it) (by_walker it (one_next School it (next_of sp s it.school)) (one_next Maker it (next_of mp m it.maker)) (both_next sp s mp m it))
 
 -- ---- seek: "probes added up"
 
 abbrev pub laid_unsought : LaidIter → ℕ → LaidSeekAnswer
 laid_unsought it n = record { number = n; found = false; hit = false; probes = 0; iter = it }
 
-abbrev pub school_sought : LaidIter → SeekAnswer → LaidSeekAnswer
-school_sought it r = record { number = r.number; found = r.found; hit = r.hit; probes = r.probes; iter = pair r.iter it.maker }
-
-abbrev pub maker_sought : LaidIter → SeekAnswer → LaidSeekAnswer
-maker_sought it r = record { number = r.number; found = r.found; hit = r.hit; probes = r.probes; iter = pair it.school r.iter }
+abbrev pub one_sought : Side → LaidIter → SeekAnswer → LaidSeekAnswer
+one_sought side it r = record { number = r.number; found = r.found; hit = r.hit; probes = r.probes; iter = moved side it r.iter }
 
 abbrev pub both_sought : SeekAnswer → SeekAnswer → LaidSeekAnswer
 both_sought a b = record { number = 0; found = a.found || b.found; hit = a.hit || b.hit; probes = a.probes + b.probes; iter = pair a.iter b.iter }
@@ -87,7 +83,7 @@ both_sought a b = record { number = 0; found = a.found || b.found; hit = a.hit |
 unfoldable pub laid_sought_of : List ℕ → ColumnTrie → List ℕ → ColumnTrie → LaidIter → SeekStrategy → ℕ → LaidSeekAnswer
 laid_sought_of sp s mp m it x target =
     unless (pair_refusal sp s mp m it) (laid_unsought it)
-    (by_walker it (school_sought it (sought_of sp s it.school x target)) (maker_sought it (sought_of mp m it.maker x target))
+    (by_walker it (one_sought School it (sought_of sp s it.school x target)) (one_sought Maker it (sought_of mp m it.maker x target))
     (both_sought (sought_of sp s it.school x target) (sought_of mp m it.maker x target)))
 
 -- ---- open: from the root both, where there are rows; from a first key the one that has it, the school's if both do
@@ -95,11 +91,8 @@ laid_sought_of sp s mp m it x target =
 abbrev pub laid_unopened : LaidIter → ℕ → LaidOpenAnswer
 laid_unopened it n = record { number = n; opened = false; iter = it }
 
-abbrev pub school_opened : LaidIter → OpenAnswer → LaidOpenAnswer
-school_opened it r = record { number = r.number; opened = r.opened; iter = pair r.iter it.maker }
-
-abbrev pub maker_opened : LaidIter → OpenAnswer → LaidOpenAnswer
-maker_opened it r = record { number = r.number; opened = r.opened; iter = pair it.school r.iter }
+abbrev pub one_opened : Side → LaidIter → OpenAnswer → LaidOpenAnswer
+one_opened side it r = record { number = r.number; opened = r.opened; iter = moved side it r.iter }
 
 abbrev pub both_opened : OpenAnswer → OpenAnswer → LaidOpenAnswer
 both_opened a b = record { number = 0; opened = a.opened || b.opened; iter = pair a.iter b.iter }
@@ -107,23 +100,20 @@ both_opened a b = record { number = 0; opened = a.opened || b.opened; iter = pai
 unfoldable pub first_opened : List ℕ → ColumnTrie → List ℕ → ColumnTrie → LaidIter → LaidOpenAnswer
 first_opened sp s mp m it =
     pick (pair_at_root it) (both_opened (open_of sp s it.school) (open_of mp m it.maker))
-    (pick (leads (key_of sp s it.school) (key_of mp m it.maker)) (school_opened it (open_of sp s it.school)) (maker_opened it (open_of mp m it.maker)))
+    (pick (leads (key_of sp s it.school) (key_of mp m it.maker)) (one_opened School it (open_of sp s it.school)) (one_opened Maker it (open_of mp m it.maker)))
 
 unfoldable pub laid_open_of : List ℕ → ColumnTrie → List ℕ → ColumnTrie → LaidIter → LaidOpenAnswer
 laid_open_of sp s mp m it =
     unless (pair_refusal sp s mp m it) (laid_unopened it)
-    (by_walker it (school_opened it (open_of sp s it.school)) (maker_opened it (open_of mp m it.maker)) (first_opened sp s mp m it))
+    (by_walker it (one_opened School it (open_of sp s it.school)) (one_opened Maker it (open_of mp m it.maker)) (first_opened sp s mp m it))
 
 -- ---- up: from depth 1 both, from below it the one that walks
 
 abbrev pub laid_unrisen : LaidIter → ℕ → LaidUpAnswer
 laid_unrisen it n = record { number = n; risen = false; iter = it }
 
-abbrev pub school_risen : LaidIter → UpAnswer → LaidUpAnswer
-school_risen it r = record { number = r.number; risen = r.risen; iter = pair r.iter it.maker }
-
-abbrev pub maker_risen : LaidIter → UpAnswer → LaidUpAnswer
-maker_risen it r = record { number = r.number; risen = r.risen; iter = pair it.school r.iter }
+abbrev pub one_risen : Side → LaidIter → UpAnswer → LaidUpAnswer
+one_risen side it r = record { number = r.number; risen = r.risen; iter = moved side it r.iter }
 
 abbrev pub both_risen : UpAnswer → UpAnswer → LaidUpAnswer
 both_risen a b = record { number = 0; risen = a.risen || b.risen; iter = pair a.iter b.iter }
@@ -131,4 +121,4 @@ both_risen a b = record { number = 0; risen = a.risen || b.risen; iter = pair a.
 unfoldable pub laid_up_of : List ℕ → ColumnTrie → List ℕ → ColumnTrie → LaidIter → LaidUpAnswer
 laid_up_of sp s mp m it =
     unless (pair_refusal sp s mp m it) (laid_unrisen it)
-    (by_walker it (school_risen it (up_of sp s it.school)) (maker_risen it (up_of mp m it.maker)) (both_risen (up_of sp s it.school) (up_of mp m it.maker)))
+    (by_walker it (one_risen School it (up_of sp s it.school)) (one_risen Maker it (up_of mp m it.maker)) (both_risen (up_of sp s it.school) (up_of mp m it.maker)))

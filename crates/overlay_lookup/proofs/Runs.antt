@@ -3,10 +3,11 @@ use Prim.Native.Nat.{ℕ, ◌+◌, ◌-◌, ◌≤◌, ◌<◌}
 use mathlib.Core.Path.{◌≡◌, refl, sym, ap, ap₂, ◌∙◌, subst}
 use mathlib.Core.Bool.{Bool, true, false, ◌&&◌}
 use mathlib.Core.List.{List}
+use Rattle.std.specs.Prelude.{Option, Some, None}
 use native.Mathlib.Omega.{arith}
 use lib.ListN.{length, take, drop}
 use lib.Dec.{eqb, ltb}
-use borrow.Author.Tests.{eqb-true, eqb-false, eq-eqb, ne_eqb, lt-ltb, le-ltb, ltb-false}
+use borrow.Author.Tests.{eqb-true, eqb-false, eq-eqb, ne_eqb, ltb-false}
 use Rattle.relation.specs.Order.{pick}
 use Rattle.relation.proofs.Tests.{and_true, and_right, and_false_left, and_false_right}
 use Rattle.seek.specs.Seek.{seek_of}
@@ -22,16 +23,20 @@ use Rattle.column_trie.proofs.Groups.{keys_long}
 use Rattle.column_trie_place.proofs.Groups.{lies_told}
 use Rattle.laid_over.proofs.Shape.{shape_decides}
 use Rattle.overlay_checks.specs.Tables.{tables_number}
-use Rattle.overlay_checks.proofs.Tables.{Clear, number_clear, clear_number}
-use Rattle.overlay_lookup.specs.Lookup.{lookup_number, not_found, children_at, found_in, no_run, run_at, looked_up, run_in}
-use Rattle.overlay_lookup.specs.declared.Found.{Found}
+use Rattle.overlay_checks.proofs.Tables.{Clear, number_clear}
+use Rattle.overlay_lookup.specs.Lookup.{lookup_number, children_at, found_in, no_run, owners_run, looked_up, run_in}
 use Rattle.overlay_lookup.specs.declared.LookedUp.{LookedUp}
+use Rattle.overlay_lookup.specs.declared.Run.{Run}
 
 -- ---- one table
 
 -- the words that are searched are the first keys
 pub part_keys : (pool : List ℕ) (t : ColumnTrie) {at : ℕ} → at ≡ spot t.start t.capacity 0 → take (at + data_len_at t 0 - at) (drop at pool) ≡ (layer_in pool t 0).keys
 part_keys pool t {at} e = let n : at + data_len_at t 0 - at ≡ data_len_at t 0 = omega arith in cc
+
+abbrev pub Inside : List ℕ → Option Run → Type 0
+Inside pool (Some r) = r.from + r.len ≤ length pool
+Inside pool None = Unit
 
 module _ (pool : List ℕ) (t : ColumnTrie) (k : ℕ) where
   abbrev sought : Sought
@@ -40,29 +45,29 @@ module _ (pool : List ℕ) (t : ColumnTrie) (k : ℕ) where
   abbrev there : Bool
   there = sought.hit && lies (layer_in pool t 1) sought.offset
 
-  by_test : (b : Bool) → there ≡ b → pick b (children_at pool t sought.offset) not_found ≡ found_in pool t k
+  by_test : (b : Bool) → there ≡ b → pick b (Some (children_at pool t sought.offset)) None ≡ found_in pool t k
   unfolding found_in
-  by_test b e = sym (ap (λ (c : Bool). pick c (children_at pool t sought.offset) not_found) e)
+  by_test b e = sym (ap (λ (c : Bool). pick c (Some (children_at pool t sought.offset)) None) e)
 
-  pub found_missed : sought.hit ≡ false → not_found ≡ found_in pool t k
+  pub found_missed : sought.hit ≡ false → None ≡ found_in pool t k
   found_missed e = by_test false (and_false_left sought.hit (lies (layer_in pool t 1) sought.offset) e)
 
-  pub found_outside : lies (layer_in pool t 1) sought.offset ≡ false → not_found ≡ found_in pool t k
+  pub found_outside : lies (layer_in pool t 1) sought.offset ≡ false → None ≡ found_in pool t k
   found_outside e = by_test false (and_false_right sought.hit (lies (layer_in pool t 1) sought.offset) e)
 
-  pub found_there : sought.hit ≡ true → lies (layer_in pool t 1) sought.offset ≡ true → children_at pool t sought.offset ≡ found_in pool t k
+  pub found_there : sought.hit ≡ true → lies (layer_in pool t 1) sought.offset ≡ true → Some (children_at pool t sought.offset) ≡ found_in pool t k
   found_there h e = by_test true (and_true sought.hit (lies (layer_in pool t 1) sought.offset) h e)
 
   -- the run lies in the pool
-  pub found_inside : header_sound (length pool) t ≡ true → 1 < t.arity → (found_in pool t k).from + (found_in pool t k).len ≤ length pool
-  found_inside h d = subst (λ (f : Found). f.from + f.len ≤ length pool) (by_test there refl) (go there refl)
+  pub found_inside : header_sound (length pool) t ≡ true → 1 < t.arity → Inside pool (found_in pool t k)
+  found_inside h d = subst (Inside pool) (by_test there refl) (go there refl)
     where
-      go : (b : Bool) → there ≡ b → (pick b (children_at pool t sought.offset) not_found).from + (pick b (children_at pool t sought.offset) not_found).len ≤ length pool
+      go : (b : Bool) → there ≡ b → Inside pool (pick b (Some (children_at pool t sought.offset)) None)
       go true e =
           let f = layer_fits (header_told (length pool) t h) d in
           let l = lies_told (layer_in pool t 1) sought.offset (and_right sought.hit (lies (layer_in pool t 1) sought.offset) e) in
           omega (arith, f, l.1, l.2, keys_long pool f)
-      go false e = omega arith
+      go false e = tt
 
 -- ---- both
 
@@ -74,12 +79,6 @@ module _ (sp : List ℕ) (s : ColumnTrie) (mp : List ℕ) (m : ColumnTrie) where
   by_arity : (b : Bool) → tables_number sp s mp m ≡ 0 → ltb s.arity 2 ≡ b → pick b 1 0 ≡ lookup_number sp s mp m
   unfolding lookup_number
   by_arity b z e = sym (ap₂ {C = ℕ} (λ (c d : Bool). pick c (pick d 1 0) (tables_number sp s mp m)) (eq-eqb (tables_number sp s mp m) 0 z) e)
-
-  pub number_flat : tables_number sp s mp m ≡ 0 → s.arity < 2 → 1 ≡ lookup_number sp s mp m
-  number_flat z h = by_arity true z (lt-ltb s.arity 2 h)
-
-  pub number_passed : tables_number sp s mp m ≡ 0 → 2 ≤ s.arity → 0 ≡ lookup_number sp s mp m
-  number_passed z h = by_arity false z (le-ltb s.arity 2 h)
 
   -- what no number tells
   pub record Deep : Type 0 where
@@ -97,9 +96,6 @@ module _ (sp : List ℕ) (s : ColumnTrie) (mp : List ℕ) (m : ColumnTrie) where
       go true true p q = absurd (omega (arith, e, by_arity true (eqb-true (tables_number sp s mp m) 0 p) q))
       go false b p q = let z = eqb-false (tables_number sp s mp m) 0 p in absurd (z (number_refused z ∙ e))
 
-  pub deep_number : Deep → lookup_number sp s mp m ≡ 0
-  deep_number d = sym (number_passed (clear_number sp s mp m d.tables) d.arity)
-
   pub school_searched : Deep → (header_sound (length sp) s ≡ true) × (1 < s.arity)
   school_searched d = (undamaged_header sp s d.tables.school, d.arity)
 
@@ -109,18 +105,11 @@ module _ (sp : List ℕ) (s : ColumnTrie) (mp : List ℕ) (m : ColumnTrie) where
   module _ (k : ℕ) where
     pub look_refused : (lookup_number sp s mp m ≡ 0 → ⊥) → no_run (lookup_number sp s mp m) ≡ looked_up sp s mp m k
     unfolding looked_up
-    look_refused z = sym (ap (λ (b : Bool). pick b (pick (found_in sp s k).found (run_at true (found_in sp s k)) (run_at false (found_in mp m k))) (no_run (lookup_number sp s mp m))) (ne_eqb (lookup_number sp s mp m) 0 z))
+    look_refused z = sym (ap (λ (b : Bool). pick b (owners_run (found_in sp s k) (found_in mp m k)) (no_run (lookup_number sp s mp m))) (ne_eqb (lookup_number sp s mp m) 0 z))
 
-    by_school : (b : Bool) → lookup_number sp s mp m ≡ 0 → (found_in sp s k).found ≡ b → pick b (run_at true (found_in sp s k)) (run_at false (found_in mp m k)) ≡ looked_up sp s mp m k
+    pub look_found : lookup_number sp s mp m ≡ 0 → owners_run (found_in sp s k) (found_in mp m k) ≡ looked_up sp s mp m k
     unfolding looked_up
-    by_school b z e =
-        sym (ap₂ {C = LookedUp} (λ (c d : Bool). pick c (pick d (run_at true (found_in sp s k)) (run_at false (found_in mp m k))) (no_run (lookup_number sp s mp m))) (eq-eqb (lookup_number sp s mp m) 0 z) e)
-
-    pub look_school : lookup_number sp s mp m ≡ 0 → (found_in sp s k).found ≡ true → run_at true (found_in sp s k) ≡ looked_up sp s mp m k
-    look_school z e = by_school true z e
-
-    pub look_maker : lookup_number sp s mp m ≡ 0 → (found_in sp s k).found ≡ false → run_at false (found_in mp m k) ≡ looked_up sp s mp m k
-    look_maker z e = by_school false z e
+    look_found z = sym (ap (λ (b : Bool). pick b (owners_run (found_in sp s k) (found_in mp m k)) (no_run (lookup_number sp s mp m))) (eq-eqb (lookup_number sp s mp m) 0 z))
 
     -- the run lies in the pool that it names
     abbrev Lies : LookedUp → Type 0
@@ -129,20 +118,25 @@ module _ (sp : List ℕ) (s : ColumnTrie) (mp : List ℕ) (m : ColumnTrie) where
     pub look_inside : Lies (looked_up sp s mp m k)
     look_inside = go (eqb (lookup_number sp s mp m) 0) refl
       where
-        found : (b : Bool) → lookup_number sp s mp m ≡ 0 → (found_in sp s k).found ≡ b → Lies (looked_up sp s mp m k)
-        found true z e = let d = school_searched (number_deep z) in subst Lies (look_school z e) (found_inside sp s k d.0 d.1)
-        found false z e = let d = maker_searched (number_deep z) in subst Lies (look_maker z e) (found_inside mp m k d.0 d.1)
+        found : (f g : Option Run) → Inside sp f → Inside mp g → Lies (owners_run f g)
+        found (Some r) g i j = i
+        found None (Some r) i j = j
+        found None None i j = omega arith
 
         go : (b : Bool) → eqb (lookup_number sp s mp m) 0 ≡ b → Lies (looked_up sp s mp m k)
-        go true e = found (found_in sp s k).found (eqb-true (lookup_number sp s mp m) 0 e) refl
+        go true e =
+            let z = eqb-true (lookup_number sp s mp m) 0 e in
+            let d = school_searched (number_deep z) in
+            let h = maker_searched (number_deep z) in
+            subst Lies (look_found z) (found (found_in sp s k) (found_in mp m k) (found_inside sp s k d.0 d.1) (found_inside mp m k h.0 h.1))
         go false e = subst Lies (look_refused (eqb-false (lookup_number sp s mp m) 0 e)) (omega arith)
 
   -- the words from `from` on are the run's
-  pub run_is : {r : LookedUp} (k : ℕ) → r ≡ looked_up sp s mp m k → {b : Bool} → r.from_school ≡ b → take (r.from + r.len - r.from) (drop r.from (pick b sp mp)) ≡ run_in sp mp (looked_up sp s mp m k)
+  pub run_is : {r : LookedUp} (k : ℕ) → r ≡ looked_up sp s mp m k → {pool : List ℕ} → pool ≡ pick r.from_school sp mp → take (r.from + r.len - r.from) (drop r.from pool) ≡ run_in sp mp (looked_up sp s mp m k)
   unfolding run_in
-  run_is {r} k e {b} f =
+  run_is {r} k e {pool} f =
       let n : r.from + r.len - r.from ≡ r.len = omega arith in
-      ap₂ {C = List ℕ} (λ (x : ℕ) (c : Bool). take x (drop r.from (pick c sp mp))) n (sym f) ∙ ap (λ (x : LookedUp). take x.len (drop x.from (pick x.from_school sp mp))) e
+      ap₂ {C = List ℕ} (λ (x : ℕ) (p : List ℕ). take x (drop r.from p)) n f ∙ ap (λ (x : LookedUp). take x.len (drop x.from (pick x.from_school sp mp))) e
 
-  pub run_inside : {r : LookedUp} (k : ℕ) → r ≡ looked_up sp s mp m k → {b : Bool} → r.from_school ≡ b → r.from + r.len ≤ length (pick b sp mp)
-  run_inside {r} k e {b} f = subst (λ (c : Bool). r.from + r.len ≤ length (pick c sp mp)) f (subst (Lies k) (sym e) (look_inside k))
+  pub run_inside : {r : LookedUp} (k : ℕ) → r ≡ looked_up sp s mp m k → {pool : List ℕ} → pool ≡ pick r.from_school sp mp → r.from + r.len ≤ length pool
+  run_inside {r} k e f = omega (arith, subst (Lies k) (sym e) (look_inside k), ap length f)

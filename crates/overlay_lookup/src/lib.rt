@@ -1,26 +1,29 @@
 // A lookup by first key in a table laid over another, each in a lent pool: the keys under it, as a part of the school's pool if the school has the key, else
 // of the maker's.
 //
-// `lookup` says where the run lies, and `run_of` lends the run itself: a struct that holds a slice is not covered by the prover. Nothing is asked of pools,
-// headers or key; where the tables are refused, or neither has the key, the run is empty.
+// `lookup` says where the run lies, as C is answered, and `run_of` lends the run itself. Nothing is asked of pools, headers or key; where the tables are
+// refused, or neither has the key, the run is empty.
 #![tactic(auto)]
 
 ghost use Rattle.std.specs.Prelude.{◌≡◌, true, ◌<◌, length};
+ghost use Rattle.refusal.specs.Number.{given};
 ghost use Rattle.column_trie.specs.Table.{header_sound};
-ghost use Rattle.overlay_lookup.specs.Lookup.{lookup_number, not_found, found_in, looked_up, run_in};
+ghost use Rattle.overlay_lookup.specs.Lookup.{lookup_number, found_in, no_run, looked_up, run_in};
 
 use column_trie::ColumnTrie;
+use overlay_checks::Laid;
+use refusal::Refusal;
 use seek::SeekStrategy;
 
-// Where the keys under a first key lie in a table's pool; `found` is false where the table lacks the key.
+// Where the keys under a first key lie in a table's pool: `len` words from `from` on.
 #[derive(Clone, Copy)]
-pub struct Found {
-    pub found: bool,
+pub struct Run {
     pub from: usize,
     pub len: usize,
 }
 
-// The run is `len` words from `from` on, of the school's pool if `from_school` is true, else of the maker's. Without a run both numbers are 0.
+// The run is `len` words from `from` on, of the school's pool if `from_school` is true, else of the maker's. Without a run both numbers are 0. C is handed
+// this struct by value (include/ducatbriar.h), so `number` stands there for a Result and the run for an Option.
 #[repr(C)]
 #[derive(Clone, Copy)]
 pub struct LookedUp {
@@ -30,37 +33,33 @@ pub struct LookedUp {
     pub len: usize,
 }
 
-// 6 on either and 17, then 1: a table of one column has no keys below its first.
-fn lookup_number(
-    school_pool: &[u64],
-    school: ColumnTrie,
-    maker_pool: &[u64],
-    maker: ColumnTrie,
-) -> u64
-    ensures { result ≡ lookup_number school_pool.now school maker_pool.now maker }
-{
-    let number = overlay_checks::tables_number(school_pool, school, maker_pool, maker);
-    if number != 0 {
-        return number;
+impl LookedUp {
+    fn none(number: u64) -> Self
+        ensures { result ≡ no_run number }
+    {
+        Self {
+            number,
+            from_school: false,
+            from: 0,
+            len: 0,
+        }
     }
-    if school.arity < 2 {
-        return 1;
-    }
-    0
 }
 
-fn not_found() -> Found
-    ensures { result ≡ not_found }
+// 6 on either and 17, then 1: a table of one column has no keys below its first.
+#[tactic(auto, unfolding(crate::specs::Lookup::lookup_number))]
+fn check(laid: &Laid) -> Result<(), Refusal>
+    ensures { given result ≡ lookup_number laid.now.school_pool.now laid.now.school laid.now.maker_pool.now laid.now.maker }
 {
-    Found {
-        found: false,
-        from: 0,
-        len: 0,
+    laid.check()?;
+    if laid.school.arity < 2 {
+        return Err(Refusal::BadArity);
     }
+    Ok(())
 }
 
 // The key is searched by halving among the first keys; the place where it is found is the interval of its children.
-fn found_in(pool: &[u64], table: ColumnTrie, key: u64) -> Found
+fn found_in(pool: &[u64], table: ColumnTrie, key: u64) -> Option<Run>
     requires { (header_sound (length pool.now) table ≡ true) × (1 < table.arity) }
     ensures { result ≡ found_in pool.now table key }
 {
@@ -68,19 +67,16 @@ fn found_in(pool: &[u64], table: ColumnTrie, key: u64) -> Found
     let end = at + table.data_len[0];
     let s = seek::partition_point(SeekStrategy::Binary, &pool[at..end], key);
     if !s.hit {
-        return not_found();
+        return None;
     }
-    let g = column_trie::group_of(pool, table, 1, s.offset);
-    if !g.inside {
-        return not_found();
-    }
-    Found {
-        found: true,
+    let g = column_trie::group_of(pool, table, 1, s.offset)?;
+    Some(Run {
         from: column_trie::layer_at(table, 1) + g.from,
         len: g.to - g.from,
-    }
+    })
 }
 
+#[tactic(auto, unfolding(crate::specs::Lookup::looked_up))]
 pub fn lookup(
     school_pool: &[u64],
     school: ColumnTrie,
@@ -90,30 +86,31 @@ pub fn lookup(
 ) -> LookedUp
     ensures { result ≡ looked_up school_pool.now school maker_pool.now maker key }
 {
-    let number = lookup_number(school_pool, school, maker_pool, maker);
-    if number != 0 {
-        return LookedUp {
-            number,
-            from_school: false,
-            from: 0,
-            len: 0,
-        };
+    let laid = Laid {
+        school_pool,
+        school,
+        maker_pool,
+        maker,
+    };
+    if let Err(refused) = check(&laid) {
+        return LookedUp::none(refused.number());
     }
-    let s = found_in(school_pool, school, key);
-    if s.found {
+    if let Some(run) = found_in(school_pool, school, key) {
         return LookedUp {
             number: 0,
             from_school: true,
-            from: s.from,
-            len: s.len,
+            from: run.from,
+            len: run.len,
         };
     }
-    let m = found_in(maker_pool, maker, key);
+    let Some(run) = found_in(maker_pool, maker, key) else {
+        return LookedUp::none(0);
+    };
     LookedUp {
         number: 0,
         from_school: false,
-        from: m.from,
-        len: m.len,
+        from: run.from,
+        len: run.len,
     }
 }
 
@@ -128,12 +125,11 @@ pub fn run_of<'a>(
     ensures { result.now ≡ run_in school_pool.now maker_pool.now (looked_up school_pool.now school maker_pool.now maker key) }
 {
     let r = lookup(school_pool, school, maker_pool, maker, key);
-    let from = r.from;
-    let len = r.len;
-    if r.from_school {
-        let end = from + len;
-        return &school_pool[from..end];
-    }
-    let to = from + len;
-    &maker_pool[from..to]
+    let pool = if r.from_school {
+        school_pool
+    } else {
+        maker_pool
+    };
+    let end = r.from + r.len;
+    &pool[r.from..end]
 }

@@ -1,6 +1,6 @@
 -- Public: a cursor over a table laid over another, first part: which pairs of cursors are states, and what every call asks first, for any pools, headers and
 -- pair. It is a computed test; that it decides exactly the states is a law (the crate overlay_walk).
-use Rattle.std.specs.Prelude.{ℕ, zero, suc, ◌-◌, Bool, not, ◌&&◌, ◌||◌, List, eqb, ltb, leb}
+use Rattle.std.specs.Prelude.{ℕ, zero, suc, ◌-◌, Option, Some, None, Bool, not, ◌&&◌, ◌||◌, List, eqb, ltb, leb}
 use Rattle.relation.specs.Order.{pick}
 use Rattle.column_trie.specs.Table.{data_len_at}
 use Rattle.column_trie.specs.declared.ColumnTrie.{ColumnTrie}
@@ -9,6 +9,8 @@ use Rattle.column_trie_place.specs.declared.ColumnTrieIter.{ColumnTrieIter}
 use Rattle.column_trie_iter.specs.Cursor.{key_of, up_of}
 use Rattle.column_trie_iter.specs.declared.KeyAnswer.{KeyAnswer}
 use Rattle.overlay_checks.specs.Tables.{tables_number}
+use Rattle.overlay_checks.specs.declared.Side.{Side}
+use Rattle.overlay_checks.specs.declared.Side.TheVariants.{School, Maker}
 use Rattle.overlay_place.specs.declared.LaidIter.{LaidIter}
 
 abbrev pub pair : ColumnTrieIter → ColumnTrieIter → LaidIter
@@ -16,6 +18,15 @@ pair i j = record { school = i; maker = j }
 
 abbrev pub root_pair : LaidIter
 root_pair = pair at_root at_root
+
+-- one of the two walks, and the other stays
+abbrev pub moved : Side → LaidIter → ColumnTrieIter → LaidIter
+moved School it i = pair i it.maker
+moved Maker it i = pair it.school i
+
+-- the one below depth 1
+abbrev pub walker : LaidIter → Option Side
+walker it = pick (ltb 1 it.school.depth) (Some School) (pick (ltb 1 it.maker.depth) (Some Maker) None)
 
 -- ---- one of the two
 

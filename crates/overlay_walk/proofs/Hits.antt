@@ -21,9 +21,10 @@ use Rattle.overlay.specs.Laid.{laid}
 use Rattle.overlay.specs.Merge.{merge}
 use Rattle.overlay.proofs.Merge.{in_merge, merge_left, merge_right}
 use Rattle.overlay_checks.specs.Tables.{tables_number}
+use Rattle.overlay_checks.specs.declared.Side.TheVariants.{School, Maker}
 use Rattle.overlay_place.specs.Pairs.{pair_refusal}
 use Rattle.overlay_place.specs.declared.LaidIter.{LaidIter}
-use Rattle.overlay_iter.specs.Calls.{laid_unsought, school_sought, maker_sought, both_sought, laid_sought_of}
+use Rattle.overlay_iter.specs.Calls.{laid_unsought, one_sought, both_sought, laid_sought_of}
 use Rattle.overlay_iter.specs.declared.LaidSeekAnswer.{LaidSeekAnswer}
 use Rattle.overlay_iter.proofs.Outcomes.{when_school, when_maker, when_both}
 use Rattle.overlay_walk.specs.Pair as spec
@@ -71,19 +72,19 @@ module _ {sp : List ℕ} {s : ColumnTrie} {mp : List ℕ} {m : ColumnTrie} {scho
       go : {u p q : State} → StandsFor s.arity school maker u (spec.pair p q) → Stands s.arity school p i → Stands m.arity maker q j → Hits u (laid_sought_of sp s mp m it x t)
       go at_top w v =
           subst (Hits root)
-          (when_both sp s mp m it (laid_unsought it) (school_sought it (sought_of sp s i x t)) (maker_sought it (sought_of mp m j x t)) (both_sought (sought_of sp s i x t) (sought_of mp m j x t)) ok refl (omega (arith, depth_at H w)) (omega (arith, depth_at G v)))
+          (when_both sp s mp m it (laid_unsought it) (one_sought School it (sought_of sp s i x t)) (one_sought Maker it (sought_of mp m j x t)) (both_sought (sought_of sp s i x t) (sought_of mp m j x t)) ok refl (omega (arith, depth_at H w)) (omega (arith, depth_at G v)))
           (both root w v nil)
       go (at_first n e) w v =
           subst (Hits (level (from n (keys_under [] (laid school maker))) root))
-          (when_both sp s mp m it (laid_unsought it) (school_sought it (sought_of sp s i x t)) (maker_sought it (sought_of mp m j x t)) (both_sought (sought_of sp s i x t) (sought_of mp m j x t)) ok refl (first_depth H n i w) (first_depth G n j v))
+          (when_both sp s mp m it (laid_unsought it) (one_sought School it (sought_of sp s i x t)) (one_sought Maker it (sought_of mp m j x t)) (both_sought (sought_of sp s i x t) (sought_of mp m j x t)) ok refl (first_depth H n i w) (first_depth G n j v))
           (both (level (from n (keys_under [] (laid school maker))) root) w v (pairs.lefts_at H.width (maker_width H G same) (positive H G same) n))
       go {u} (in_school n k e o r) w v =
           let c = pairs.c_school H.width (maker_width H G same) (positive H G same) n k e o r in
           subst (Hits u)
-          (when_school sp s mp m it (laid_unsought it) (school_sought it (sought_of sp s i x t)) (maker_sought it (sought_of mp m j x t)) (both_sought (sought_of sp s i x t) (sought_of mp m j x t)) ok refl (deep_depth H n i c r w))
+          (when_school sp s mp m it (laid_unsought it) (one_sought School it (sought_of sp s i x t)) (one_sought Maker it (sought_of mp m j x t)) (both_sought (sought_of sp s i x t) (sought_of mp m j x t)) ok refl (deep_depth H n i c r w))
           (exactly_left (sym (pairs.above_left r)) (a_seek_hits_exactly_the_keys_not_yet_passed H w x t))
       go {u} (in_maker n k e o r) w v =
           let c = pairs.c_maker H.width (maker_width H G same) (positive H G same) n k e o r in
           subst (Hits u)
-          (when_maker sp s mp m it (laid_unsought it) (school_sought it (sought_of sp s i x t)) (maker_sought it (sought_of mp m j x t)) (both_sought (sought_of sp s i x t) (sought_of mp m j x t)) ok refl (first_depth H n i w) (deep_depth G n j c r v))
+          (when_maker sp s mp m it (laid_unsought it) (one_sought School it (sought_of sp s i x t)) (one_sought Maker it (sought_of mp m j x t)) (both_sought (sought_of sp s i x t) (sought_of mp m j x t)) ok refl (first_depth H n i w) (deep_depth G n j c r v))
           (exactly_left (sym (pairs.above_left r)) (a_seek_hits_exactly_the_keys_not_yet_passed G v x t))

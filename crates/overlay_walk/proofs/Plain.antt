@@ -29,7 +29,7 @@ use Rattle.trie_iterator.specs.Cursor.{Layered, Below, Stands, at_the_root, at_l
 use Rattle.trie_iterator.proofs.Standing.{key_is}
 use Rattle.trie_iterator.proofs.Moving.{seek_answers, open_answers, up_returns, up_answers}
 use Rattle.overlay_place.specs.Pairs.{ups, climbed, passed_below}
-use Rattle.overlay_place.proofs.Tests.{ups_step, ups_done, climbed_is, passed_none, passed_some}
+use Rattle.overlay_place.proofs.Tests.{ups_turn, ups_none, climbed_is, passed_none, passed_some}
 
 -- an answer that is a yes or a no was not refused
 pub said : (n : ℕ) (b c : Bool) → unless n refused (says b) ≡ says c → (n ≡ 0) × (b ≡ c)
@@ -67,11 +67,11 @@ module _ {pool : List ℕ} {t : ColumnTrie} {rows : List Row} (H : Layered pool 
   -- ---- up to depth 1
 
   stays : (it : ColumnTrieIter) → it.depth ≤ 1 → climbed pool t it ≡ it
-  stays it h = climbed_is pool t it ∙ ups_done pool t it it.depth h
+  stays it h = climbed_is pool t it ∙ sym (ups_none pool t it (it.depth - 1) (omega arith))
 
   steps : {parent : ColumnTrieIter} (it : ColumnTrieIter) → up_of pool t it ≡ record { number = 0; risen = true; iter = parent } → it.depth ≡ suc parent.depth → 0 < parent.depth → climbed pool t it ≡ climbed pool t parent
   steps {parent} it u d h =
-      climbed_is pool t it ∙ ups_step pool t it it.depth (omega arith) ∙
+      climbed_is pool t it ∙ sym (ups_turn pool t it (it.depth - 1) (it.depth - 1 - 1) (omega arith)) ∙
       ap₂ {C = ColumnTrieIter} (λ (n : ℕ) (x : UpAnswer). ups n pool t x.iter) (let e : it.depth - 1 - 1 ≡ parent.depth - 1 = omega arith in e) u ∙ sym (climbed_is pool t parent)
 
   pub climb_stands : {p : State} {it : ColumnTrieIter} → Stands t.arity rows p it → Stands t.arity rows (base p) (climbed pool t it)

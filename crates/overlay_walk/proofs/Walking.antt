@@ -26,10 +26,11 @@ use Rattle.trie_iterator.proofs.Moving.{next_answers, next_stands, seek_stands, 
 use Rattle.overlay.specs.Laid.{owns, laid}
 use Rattle.overlay.proofs.Merge.{merge_from}
 use Rattle.overlay_checks.specs.Tables.{tables_number}
+use Rattle.overlay_checks.specs.declared.Side.TheVariants.{School, Maker}
 use Rattle.overlay_place.specs.Pairs.{pair, leads, least, pair_at_root, pair_refusal}
 use Rattle.overlay_place.specs.declared.LaidIter.{LaidIter}
 use Rattle.overlay_place.proofs.Tests.{unrefused}
-use Rattle.overlay_iter.specs.Calls.{pass_if, next_at, next_pair, end_by, laid_key_of, laid_end_of, laid_unmoved, school_next, maker_next, both_next, laid_next_of, laid_unsought, school_sought, maker_sought, both_sought, laid_sought_of, laid_unopened, school_opened, maker_opened, first_opened, laid_open_of, laid_unrisen, school_risen, maker_risen, both_risen, laid_up_of}
+use Rattle.overlay_iter.specs.Calls.{pass_if, next_at, next_pair, end_by, laid_key_of, laid_end_of, laid_unmoved, one_next, both_next, laid_next_of, laid_unsought, one_sought, both_sought, laid_sought_of, laid_unopened, one_opened, first_opened, laid_open_of, laid_unrisen, one_risen, both_risen, laid_up_of}
 use Rattle.overlay_iter.proofs.Outcomes.{when_school, when_maker, when_both, opens_both, opens_school, opens_maker}
 use Rattle.overlay_walk.specs.Pair as spec
 use Rattle.overlay_walk.specs.Pair.{Walker, on, go_pass, next_by, seek_by, up_by, open_by, opener, stands_at, Above, one, more, StandsFor, at_top, at_first, in_school, in_maker}
@@ -158,14 +159,14 @@ module _ {sp : List ℕ} {s : ColumnTrie} {mp : List ℕ} {m : ColumnTrie} {scho
         go [] (r ∷ y) f = refl
         go (q ∷ x) y f = refl
 
-    rise_school : (n k : ℕ) {ks : List ℕ} {u p : State} (e : from n (keys_under [] L) ≡ k ∷ ks) (o : owns school k ≡ true) → Above (level (from n (keys_under [] L)) root) (stands_at school n) u p → OfSchool p i → OfMaker (stands_at maker n) j → Goes s m school maker u Up (of_laid_up (school_risen it (up_of sp s i))) (school_risen it (up_of sp s i)).iter
+    rise_school : (n k : ℕ) {ks : List ℕ} {u p : State} (e : from n (keys_under [] L) ≡ k ∷ ks) (o : owns school k ≡ true) → Above (level (from n (keys_under [] L)) root) (stands_at school n) u p → OfSchool p i → OfMaker (stands_at maker n) j → Goes s m school maker u Up (of_laid_up (one_risen School it (up_of sp s i))) (one_risen School it (up_of sp s i)).iter
     rise_school n k {ks} {u} {p} e o r w v =
         record {
           answers = ap₂ {C = Answer} (λ (c : ℕ) (b : Bool). unless c refused (says b)) (up_at H w).0 (up_at H w).1 ∙ ap says (risen r);
           stands = both_of (up_stands H w) v (subst (λ (h : Walker). StandsFor s.arity school maker (after s.arity L u Up) (up_by h (spec.pair p (stands_at maker n)))) (pairs.walks_school H.width (maker_width H G same) (positive H G same) n k e o r) (pairs.same_place H.width (maker_width H G same) (positive H G same) (in_school n k e o r) Up));
         }
 
-    rise_maker : (n k : ℕ) {ks : List ℕ} {u p : State} (e : from n (keys_under [] L) ≡ k ∷ ks) (o : owns school k ≡ false) → Above (level (from n (keys_under [] L)) root) (stands_at maker n) u p → OfSchool (stands_at school n) i → OfMaker p j → Goes s m school maker u Up (of_laid_up (maker_risen it (up_of mp m j))) (maker_risen it (up_of mp m j)).iter
+    rise_maker : (n k : ℕ) {ks : List ℕ} {u p : State} (e : from n (keys_under [] L) ≡ k ∷ ks) (o : owns school k ≡ false) → Above (level (from n (keys_under [] L)) root) (stands_at maker n) u p → OfSchool (stands_at school n) i → OfMaker p j → Goes s m school maker u Up (of_laid_up (one_risen Maker it (up_of mp m j))) (one_risen Maker it (up_of mp m j)).iter
     rise_maker n k {ks} {u} {p} e o r w v =
         record {
           answers = ap₂ {C = Answer} (λ (c : ℕ) (b : Bool). unless c refused (says b)) (up_at G v).0 (up_at G v).1 ∙ ap says (risen r);
@@ -182,33 +183,33 @@ module _ {sp : List ℕ} {s : ColumnTrie} {mp : List ℕ} {m : ColumnTrie} {scho
         go : (u : State) {p q : State} → StandsFor s.arity school maker u (spec.pair p q) → OfSchool p i → OfMaker q j → Goes s m school maker u Up (of_laid_up (laid_up_of sp s mp m it)) (laid_up_of sp s mp m it).iter
         go u at_top w v =
             subst (λ z. Goes s m school maker u Up (of_laid_up z) z.iter)
-            (when_both sp s mp m it (laid_unrisen it) (school_risen it (up_of sp s i)) (maker_risen it (up_of mp m j)) (both_risen (up_of sp s i) (up_of mp m j)) ok refl (omega (arith, depth_at H w)) (omega (arith, depth_at G v)))
+            (when_both sp s mp m it (laid_unrisen it) (one_risen School it (up_of sp s i)) (one_risen Maker it (up_of mp m j)) (both_risen (up_of sp s i) (up_of mp m j)) ok refl (omega (arith, depth_at H w)) (omega (arith, depth_at G v)))
             (record { answers = ap₂ {C = Answer} (λ (b c : Bool). says (b || c)) (up_at H w).1 (up_at G v).1; stands = both_of (up_stands H w) (up_stands G v) at_top })
         go u (at_first n e) w v =
             subst (λ z. Goes s m school maker u Up (of_laid_up z) z.iter)
-            (when_both sp s mp m it (laid_unrisen it) (school_risen it (up_of sp s i)) (maker_risen it (up_of mp m j)) (both_risen (up_of sp s i) (up_of mp m j)) ok refl (first_depth H n i w) (first_depth G n j v))
+            (when_both sp s mp m it (laid_unrisen it) (one_risen School it (up_of sp s i)) (one_risen Maker it (up_of mp m j)) (both_risen (up_of sp s i) (up_of mp m j)) ok refl (first_depth H n i w) (first_depth G n j v))
             (record { answers = ap₂ {C = Answer} (λ (b c : Bool). says (b || c)) (up_at H w).1 (up_at G v).1 ∙ ap says (some_rises n e); stands = both_of (subst (λ (p : State). OfSchool p (up_of sp s i).iter) (pairs.up_at school n) (up_stands H w)) (subst (λ (p : State). OfMaker p (up_of mp m j).iter) (pairs.up_at maker n) (up_stands G v)) at_top })
         go u (in_school n k e o r) w v =
             let c = pairs.c_school H.width (maker_width H G same) (positive H G same) n k e o r in
             subst (λ z. Goes s m school maker u Up (of_laid_up z) z.iter)
-            (when_school sp s mp m it (laid_unrisen it) (school_risen it (up_of sp s i)) (maker_risen it (up_of mp m j)) (both_risen (up_of sp s i) (up_of mp m j)) ok refl (deep_depth H n i c r w))
+            (when_school sp s mp m it (laid_unrisen it) (one_risen School it (up_of sp s i)) (one_risen Maker it (up_of mp m j)) (both_risen (up_of sp s i) (up_of mp m j)) ok refl (deep_depth H n i c r w))
             (rise_school n k e o r w v)
         go u (in_maker n k e o r) w v =
             let c = pairs.c_maker H.width (maker_width H G same) (positive H G same) n k e o r in
             subst (λ z. Goes s m school maker u Up (of_laid_up z) z.iter)
-            (when_maker sp s mp m it (laid_unrisen it) (school_risen it (up_of sp s i)) (maker_risen it (up_of mp m j)) (both_risen (up_of sp s i) (up_of mp m j)) ok refl (first_depth H n i w) (deep_depth G n j c r v))
+            (when_maker sp s mp m it (laid_unrisen it) (one_risen School it (up_of sp s i)) (one_risen Maker it (up_of mp m j)) (both_risen (up_of sp s i) (up_of mp m j)) ok refl (first_depth H n i w) (deep_depth G n j c r v))
             (rise_maker n k e o r w v)
 
     -- ---- seek
 
-    seek_school : (x : SeekStrategy) (t : ℕ) → (n k : ℕ) {ks : List ℕ} {u p : State} (e : from n (keys_under [] L) ≡ k ∷ ks) (o : owns school k ≡ true) → Above (level (from n (keys_under [] L)) root) (stands_at school n) u p → OfSchool p i → OfMaker (stands_at maker n) j → Goes s m school maker u (Seek x t) (of_laid_seek (school_sought it (sought_of sp s i x t))) (school_sought it (sought_of sp s i x t)).iter
+    seek_school : (x : SeekStrategy) (t : ℕ) → (n k : ℕ) {ks : List ℕ} {u p : State} (e : from n (keys_under [] L) ≡ k ∷ ks) (o : owns school k ≡ true) → Above (level (from n (keys_under [] L)) root) (stands_at school n) u p → OfSchool p i → OfMaker (stands_at maker n) j → Goes s m school maker u (Seek x t) (of_laid_seek (one_sought School it (sought_of sp s i x t))) (one_sought School it (sought_of sp s i x t)).iter
     seek_school x t n k {ks} {u} {p} e o r w v =
         record {
           answers = ap₂ {C = Answer} (λ (c : ℕ) (b : Bool). unless c refused (says b)) (seek_at H w x t).0 (seek_at H w x t).1 ∙ ap (λ (zs : List ℕ). says (nonempty zs)) (sym (pairs.above_left (pairs.above_seek H.width (maker_width H G same) (positive H G same) t r)));
           stands = both_of (seek_stands H w x t) v (subst (λ (h : Walker). StandsFor s.arity school maker (after s.arity L u (Seek x t)) (seek_by t h (spec.pair p (stands_at maker n)))) (pairs.walks_school H.width (maker_width H G same) (positive H G same) n k e o r) (pairs.same_place H.width (maker_width H G same) (positive H G same) (in_school n k e o r) (Seek x t)));
         }
 
-    seek_maker : (x : SeekStrategy) (t : ℕ) → (n k : ℕ) {ks : List ℕ} {u p : State} (e : from n (keys_under [] L) ≡ k ∷ ks) (o : owns school k ≡ false) → Above (level (from n (keys_under [] L)) root) (stands_at maker n) u p → OfSchool (stands_at school n) i → OfMaker p j → Goes s m school maker u (Seek x t) (of_laid_seek (maker_sought it (sought_of mp m j x t))) (maker_sought it (sought_of mp m j x t)).iter
+    seek_maker : (x : SeekStrategy) (t : ℕ) → (n k : ℕ) {ks : List ℕ} {u p : State} (e : from n (keys_under [] L) ≡ k ∷ ks) (o : owns school k ≡ false) → Above (level (from n (keys_under [] L)) root) (stands_at maker n) u p → OfSchool (stands_at school n) i → OfMaker p j → Goes s m school maker u (Seek x t) (of_laid_seek (one_sought Maker it (sought_of mp m j x t))) (one_sought Maker it (sought_of mp m j x t)).iter
     seek_maker x t n k {ks} {u} {p} e o r w v =
         record {
           answers = ap₂ {C = Answer} (λ (c : ℕ) (b : Bool). unless c refused (says b)) (seek_at G v x t).0 (seek_at G v x t).1 ∙ ap (λ (zs : List ℕ). says (nonempty zs)) (sym (pairs.above_left (pairs.above_seek H.width (maker_width H G same) (positive H G same) t r)));
@@ -235,33 +236,33 @@ module _ {sp : List ℕ} {s : ColumnTrie} {mp : List ℕ} {m : ColumnTrie} {scho
         go : (u : State) {p q : State} → StandsFor s.arity school maker u (spec.pair p q) → OfSchool p i → OfMaker q j → Goes s m school maker u (Seek x t) (of_laid_seek (laid_sought_of sp s mp m it x t)) (laid_sought_of sp s mp m it x t).iter
         go u at_top w v =
             subst (λ z. Goes s m school maker u (Seek x t) (of_laid_seek z) z.iter)
-            (when_both sp s mp m it (laid_unsought it) (school_sought it (sought_of sp s i x t)) (maker_sought it (sought_of mp m j x t)) (both_sought (sought_of sp s i x t) (sought_of mp m j x t)) ok refl (omega (arith, depth_at H w)) (omega (arith, depth_at G v)))
+            (when_both sp s mp m it (laid_unsought it) (one_sought School it (sought_of sp s i x t)) (one_sought Maker it (sought_of mp m j x t)) (both_sought (sought_of sp s i x t) (sought_of mp m j x t)) ok refl (omega (arith, depth_at H w)) (omega (arith, depth_at G v)))
             (record { answers = ap₂ {C = Answer} (λ (b c : Bool). says (b || c)) (seek_at H w x t).1 (seek_at G v x t).1; stands = both_of (seek_stands H w x t) (seek_stands G v x t) at_top })
         go u (at_first n e) w v =
             subst (λ z. Goes s m school maker u (Seek x t) (of_laid_seek z) z.iter)
-            (when_both sp s mp m it (laid_unsought it) (school_sought it (sought_of sp s i x t)) (maker_sought it (sought_of mp m j x t)) (both_sought (sought_of sp s i x t) (sought_of mp m j x t)) ok refl (first_depth H n i w) (first_depth G n j v))
+            (when_both sp s mp m it (laid_unsought it) (one_sought School it (sought_of sp s i x t)) (one_sought Maker it (sought_of mp m j x t)) (both_sought (sought_of sp s i x t) (sought_of mp m j x t)) ok refl (first_depth H n i w) (first_depth G n j v))
             (record { answers = ap₂ {C = Answer} (λ (b c : Bool). says (b || c)) (seek_at H w x t).1 (seek_at G v x t).1 ∙ ap says (some_sought n t); stands = both_of (seek_stands H w x t) (seek_stands G v x t) (subst (λ (h : Walker). StandsFor s.arity school maker (go_seek t (level (from n (keys_under [] L)) root)) (seek_by t h (spec.pair (stands_at school n) (stands_at maker n)))) (pairs.walks_first school maker n e) (pairs.seek_first H.width (maker_width H G same) (positive H G same) t n e)) })
         go u (in_school n k e o r) w v =
             let c = pairs.c_school H.width (maker_width H G same) (positive H G same) n k e o r in
             subst (λ z. Goes s m school maker u (Seek x t) (of_laid_seek z) z.iter)
-            (when_school sp s mp m it (laid_unsought it) (school_sought it (sought_of sp s i x t)) (maker_sought it (sought_of mp m j x t)) (both_sought (sought_of sp s i x t) (sought_of mp m j x t)) ok refl (deep_depth H n i c r w))
+            (when_school sp s mp m it (laid_unsought it) (one_sought School it (sought_of sp s i x t)) (one_sought Maker it (sought_of mp m j x t)) (both_sought (sought_of sp s i x t) (sought_of mp m j x t)) ok refl (deep_depth H n i c r w))
             (seek_school x t n k e o r w v)
         go u (in_maker n k e o r) w v =
             let c = pairs.c_maker H.width (maker_width H G same) (positive H G same) n k e o r in
             subst (λ z. Goes s m school maker u (Seek x t) (of_laid_seek z) z.iter)
-            (when_maker sp s mp m it (laid_unsought it) (school_sought it (sought_of sp s i x t)) (maker_sought it (sought_of mp m j x t)) (both_sought (sought_of sp s i x t) (sought_of mp m j x t)) ok refl (first_depth H n i w) (deep_depth G n j c r v))
+            (when_maker sp s mp m it (laid_unsought it) (one_sought School it (sought_of sp s i x t)) (one_sought Maker it (sought_of mp m j x t)) (both_sought (sought_of sp s i x t) (sought_of mp m j x t)) ok refl (first_depth H n i w) (deep_depth G n j c r v))
             (seek_maker x t n k e o r w v)
 
     -- ---- next
 
-    next_school : (n k : ℕ) {ks : List ℕ} {u p : State} (e : from n (keys_under [] L) ≡ k ∷ ks) (o : owns school k ≡ true) → Above (level (from n (keys_under [] L)) root) (stands_at school n) u p → OfSchool p i → OfMaker (stands_at maker n) j → Goes s m school maker u Next (of_laid_next (school_next it (next_of sp s i))) (school_next it (next_of sp s i)).iter
+    next_school : (n k : ℕ) {ks : List ℕ} {u p : State} (e : from n (keys_under [] L) ≡ k ∷ ks) (o : owns school k ≡ true) → Above (level (from n (keys_under [] L)) root) (stands_at school n) u p → OfSchool p i → OfMaker (stands_at maker n) j → Goes s m school maker u Next (of_laid_next (one_next School it (next_of sp s i))) (one_next School it (next_of sp s i)).iter
     next_school n k {ks} {u} {p} e o r w v =
         record {
           answers = next_answers H w ∙ ap shown (sym (pairs.above_left (pairs.above_next H.width (maker_width H G same) (positive H G same) r)));
           stands = both_of (next_stands H w) v (subst (λ (h : Walker). StandsFor s.arity school maker (after s.arity L u Next) (next_by h (spec.pair p (stands_at maker n)))) (pairs.walks_school H.width (maker_width H G same) (positive H G same) n k e o r) (pairs.same_place H.width (maker_width H G same) (positive H G same) (in_school n k e o r) Next));
         }
 
-    next_maker : (n k : ℕ) {ks : List ℕ} {u p : State} (e : from n (keys_under [] L) ≡ k ∷ ks) (o : owns school k ≡ false) → Above (level (from n (keys_under [] L)) root) (stands_at maker n) u p → OfSchool (stands_at school n) i → OfMaker p j → Goes s m school maker u Next (of_laid_next (maker_next it (next_of mp m j))) (maker_next it (next_of mp m j)).iter
+    next_maker : (n k : ℕ) {ks : List ℕ} {u p : State} (e : from n (keys_under [] L) ≡ k ∷ ks) (o : owns school k ≡ false) → Above (level (from n (keys_under [] L)) root) (stands_at maker n) u p → OfSchool (stands_at school n) i → OfMaker p j → Goes s m school maker u Next (of_laid_next (one_next Maker it (next_of mp m j))) (one_next Maker it (next_of mp m j)).iter
     next_maker n k {ks} {u} {p} e o r w v =
         record {
           answers = next_answers G v ∙ ap shown (sym (pairs.above_left (pairs.above_next H.width (maker_width H G same) (positive H G same) r)));
@@ -328,21 +329,21 @@ module _ {sp : List ℕ} {s : ColumnTrie} {mp : List ℕ} {m : ColumnTrie} {scho
         go : (u : State) {p q : State} → StandsFor s.arity school maker u (spec.pair p q) → OfSchool p i → OfMaker q j → Goes s m school maker u Next (of_laid_next (laid_next_of sp s mp m it)) (laid_next_of sp s mp m it).iter
         go u at_top w v =
             subst (λ z. Goes s m school maker u Next (of_laid_next z) z.iter)
-            (when_both sp s mp m it (laid_unmoved it) (school_next it (next_of sp s i)) (maker_next it (next_of mp m j)) (both_next sp s mp m it) ok refl (omega (arith, depth_at H w)) (omega (arith, depth_at G v)))
+            (when_both sp s mp m it (laid_unmoved it) (one_next School it (next_of sp s i)) (one_next Maker it (next_of mp m j)) (both_next sp s mp m it) ok refl (omega (arith, depth_at H w)) (omega (arith, depth_at G v)))
             (next_top w v)
         go u (at_first n e) w v =
             subst (λ z. Goes s m school maker u Next (of_laid_next z) z.iter)
-            (when_both sp s mp m it (laid_unmoved it) (school_next it (next_of sp s i)) (maker_next it (next_of mp m j)) (both_next sp s mp m it) ok refl (first_depth H n i w) (first_depth G n j v))
+            (when_both sp s mp m it (laid_unmoved it) (one_next School it (next_of sp s i)) (one_next Maker it (next_of mp m j)) (both_next sp s mp m it) ok refl (first_depth H n i w) (first_depth G n j v))
             (next_first n e w v)
         go u (in_school n k e o r) w v =
             let c = pairs.c_school H.width (maker_width H G same) (positive H G same) n k e o r in
             subst (λ z. Goes s m school maker u Next (of_laid_next z) z.iter)
-            (when_school sp s mp m it (laid_unmoved it) (school_next it (next_of sp s i)) (maker_next it (next_of mp m j)) (both_next sp s mp m it) ok refl (deep_depth H n i c r w))
+            (when_school sp s mp m it (laid_unmoved it) (one_next School it (next_of sp s i)) (one_next Maker it (next_of mp m j)) (both_next sp s mp m it) ok refl (deep_depth H n i c r w))
             (next_school n k e o r w v)
         go u (in_maker n k e o r) w v =
             let c = pairs.c_maker H.width (maker_width H G same) (positive H G same) n k e o r in
             subst (λ z. Goes s m school maker u Next (of_laid_next z) z.iter)
-            (when_maker sp s mp m it (laid_unmoved it) (school_next it (next_of sp s i)) (maker_next it (next_of mp m j)) (both_next sp s mp m it) ok refl (first_depth H n i w) (deep_depth G n j c r v))
+            (when_maker sp s mp m it (laid_unmoved it) (one_next School it (next_of sp s i)) (one_next Maker it (next_of mp m j)) (both_next sp s mp m it) ok refl (first_depth H n i w) (deep_depth G n j c r v))
             (next_maker n k e o r w v)
 
     -- ---- open
@@ -354,14 +355,14 @@ module _ {sp : List ℕ} {s : ColumnTrie} {mp : List ℕ} {m : ColumnTrie} {scho
     maker_down : {p : State} → OfMaker p j → OfMaker (go_down s.arity maker p) (open_of mp m j).iter
     maker_down {p} v = subst (λ (a : ℕ). OfMaker (go_down a maker p) (open_of mp m j).iter) (sym same) (open_stands G v)
 
-    open_school : (n k : ℕ) {ks : List ℕ} {u p : State} (e : from n (keys_under [] L) ≡ k ∷ ks) (o : owns school k ≡ true) → Above (level (from n (keys_under [] L)) root) (stands_at school n) u p → OfSchool p i → OfMaker (stands_at maker n) j → Goes s m school maker u Open (of_laid_open (school_opened it (open_of sp s i))) (school_opened it (open_of sp s i)).iter
+    open_school : (n k : ℕ) {ks : List ℕ} {u p : State} (e : from n (keys_under [] L) ≡ k ∷ ks) (o : owns school k ≡ true) → Above (level (from n (keys_under [] L)) root) (stands_at school n) u p → OfSchool p i → OfMaker (stands_at maker n) j → Goes s m school maker u Open (of_laid_open (one_opened School it (open_of sp s i))) (one_opened School it (open_of sp s i)).iter
     open_school n k {ks} {u} {p} e o r w v =
         record {
           answers = ap₂ {C = Answer} (λ (c : ℕ) (b : Bool). unless c refused (says b)) (open_at H w).0 (open_at H w).1 ∙ ap says (pairs.opens_school H.width (maker_width H G same) (positive H G same) n k e o r);
           stands = both_of (open_stands H w) v (subst (λ (h : Walker). StandsFor s.arity school maker (after s.arity L u Open) (open_by s.arity school maker (opener h (spec.pair p (stands_at maker n))) (spec.pair p (stands_at maker n)))) (pairs.walks_school H.width (maker_width H G same) (positive H G same) n k e o r) (pairs.same_place H.width (maker_width H G same) (positive H G same) (in_school n k e o r) Open));
         }
 
-    open_maker : (n k : ℕ) {ks : List ℕ} {u p : State} (e : from n (keys_under [] L) ≡ k ∷ ks) (o : owns school k ≡ false) → Above (level (from n (keys_under [] L)) root) (stands_at maker n) u p → OfSchool (stands_at school n) i → OfMaker p j → Goes s m school maker u Open (of_laid_open (maker_opened it (open_of mp m j))) (maker_opened it (open_of mp m j)).iter
+    open_maker : (n k : ℕ) {ks : List ℕ} {u p : State} (e : from n (keys_under [] L) ≡ k ∷ ks) (o : owns school k ≡ false) → Above (level (from n (keys_under [] L)) root) (stands_at maker n) u p → OfSchool (stands_at school n) i → OfMaker p j → Goes s m school maker u Open (of_laid_open (one_opened Maker it (open_of mp m j))) (one_opened Maker it (open_of mp m j)).iter
     open_maker n k {ks} {u} {p} e o r w v =
         record {
           answers = ap₂ {C = Answer} (λ (c : ℕ) (b : Bool). unless c refused (says b)) (open_at G v).0 (maker_opens v) ∙ ap says (pairs.opens_maker H.width (maker_width H G same) (positive H G same) n k e o r);
@@ -440,19 +441,19 @@ module _ {sp : List ℕ} {s : ColumnTrie} {mp : List ℕ} {m : ColumnTrie} {scho
         go : (u : State) {p q : State} → StandsFor s.arity school maker u (spec.pair p q) → OfSchool p i → OfMaker q j → Goes s m school maker u Open (of_laid_open (laid_open_of sp s mp m it)) (laid_open_of sp s mp m it).iter
         go u at_top w v =
             subst (λ z. Goes s m school maker u Open (of_laid_open z) z.iter)
-            (when_both sp s mp m it (laid_unopened it) (school_opened it (open_of sp s i)) (maker_opened it (open_of mp m j)) (first_opened sp s mp m it) ok refl (omega (arith, depth_at H w)) (omega (arith, depth_at G v)))
+            (when_both sp s mp m it (laid_unopened it) (one_opened School it (open_of sp s i)) (one_opened Maker it (open_of mp m j)) (first_opened sp s mp m it) ok refl (omega (arith, depth_at H w)) (omega (arith, depth_at G v)))
             (open_top w v)
         go u (at_first n e) w v =
             subst (λ z. Goes s m school maker u Open (of_laid_open z) z.iter)
-            (when_both sp s mp m it (laid_unopened it) (school_opened it (open_of sp s i)) (maker_opened it (open_of mp m j)) (first_opened sp s mp m it) ok refl (first_depth H n i w) (first_depth G n j v))
+            (when_both sp s mp m it (laid_unopened it) (one_opened School it (open_of sp s i)) (one_opened Maker it (open_of mp m j)) (first_opened sp s mp m it) ok refl (first_depth H n i w) (first_depth G n j v))
             (open_first n e w v)
         go u (in_school n k e o r) w v =
             let c = pairs.c_school H.width (maker_width H G same) (positive H G same) n k e o r in
             subst (λ z. Goes s m school maker u Open (of_laid_open z) z.iter)
-            (when_school sp s mp m it (laid_unopened it) (school_opened it (open_of sp s i)) (maker_opened it (open_of mp m j)) (first_opened sp s mp m it) ok refl (deep_depth H n i c r w))
+            (when_school sp s mp m it (laid_unopened it) (one_opened School it (open_of sp s i)) (one_opened Maker it (open_of mp m j)) (first_opened sp s mp m it) ok refl (deep_depth H n i c r w))
             (open_school n k e o r w v)
         go u (in_maker n k e o r) w v =
             let c = pairs.c_maker H.width (maker_width H G same) (positive H G same) n k e o r in
             subst (λ z. Goes s m school maker u Open (of_laid_open z) z.iter)
-            (when_maker sp s mp m it (laid_unopened it) (school_opened it (open_of sp s i)) (maker_opened it (open_of mp m j)) (first_opened sp s mp m it) ok refl (first_depth H n i w) (deep_depth G n j c r v))
+            (when_maker sp s mp m it (laid_unopened it) (one_opened School it (open_of sp s i)) (one_opened Maker it (open_of mp m j)) (first_opened sp s mp m it) ok refl (first_depth H n i w) (deep_depth G n j c r v))
             (open_maker n k e o r w v)
