@@ -22,8 +22,9 @@ use Rattle.column_trie.proofs.Tables.{holds}
 use Rattle.from_sorted.specs.Answer.{kept_kinds}
 use Rattle.from_sorted.specs.Push.{Filling, Fills}
 use Rattle.from_sorted.proofs.Answer.{regraded}
-use Rattle.permuted_rows.specs.Permuted.{rows_permuted}
 use Rattle.permuted_rows.specs.Legible.{Legible}
+use Rattle.permuted_rows.specs.Seen.{rows_seen}
+use Rattle.permuted_rows.specs.declared.Permuted.{Permuted}
 use Rattle.permuted_rows.proofs.Rows.{row_long}
 use Rattle.permuted_fill.specs.Ranks.{RankAt, RankedIn, Laying}
 use Rattle.permuted_fill.proofs.Ranks.{rows_count}
@@ -48,69 +49,73 @@ module _ {pool : List ℕ} {t : ColumnTrie} {columns : List ℕ} {len start capa
   pub base_inside : spot start capacity (t.arity - 1) + t.tuple_count ≤ len
   base_inside = omega (arith, a.room, a.fits, sound.arity.0, layer_inside start t.arity capacity (t.arity - 1) (omega (arith, sound.arity.0)))
 
+module _ (rows : Permuted) {len start capacity : ℕ} (long : length rows.columns ≡ max_arity) (a : Accepted rows.pool.now rows.table rows.columns len start capacity) where
+  intact : Undamaged rows.pool.now rows.table
+  intact = sound rows.whole long a
+
   -- the permuted rows, and as they are sorted
-  width : Width t.arity (rows_permuted pool t columns)
-  width q m = let p = in_get_or [] m in sym (ap length p.2) ∙ row_long o legible long p.0 (omega (arith, p.1, rows_count o legible))
+  width : Width rows.table.arity (rows_seen rows)
+  width q m = let p = in_get_or [] m in sym (ap length p.2) ∙ row_long rows.whole rows.legible long p.0 (omega (arith, p.1, rows_count rows))
 
-  width_sort : Width t.arity (sort (rows_permuted pool t columns))
-  width_sort q m = width q ((sort_members (rows_permuted pool t columns) q).0 m)
+  width_sort : Width rows.table.arity (sort (rows_seen rows))
+  width_sort q m = width q ((sort_members (rows_seen rows) q).0 m)
 
-  sort_set : sort (rows_permuted pool t columns) ≡ rows_left pool t columns
-  sort_set = sort_is_set (permuted_different a.permutation (holds o sound).width (holds o sound).asc)
+  sort_set : sort (rows_seen rows) ≡ rows_left rows.pool.now rows.table rows.columns
+  sort_set = sort_is_set (permuted_different a.permutation (holds rows.whole intact).width (holds rows.whole intact).asc)
 
-  asc_sort : Asc (sort (rows_permuted pool t columns))
-  asc_sort = subst Asc (sym sort_set) (as_set_asc (rows_permuted pool t columns))
+  asc_sort : Asc (sort (rows_seen rows))
+  asc_sort = subst Asc (sym sort_set) (as_set_asc (rows_seen rows))
 
   -- the ranks are laid
-  module _ {into into' : List ℕ} (l : length into ≡ len) (r : RankedIn pool t columns into (spot start capacity (t.arity - 1)) into') where
+  module _ {into into' : List ℕ} (l : length into ≡ len) (r : RankedIn rows into (spot start capacity (rows.table.arity - 1)) into') where
     kept : length into' ≡ len
-    kept = ap length r.words ∙ lay_length into (spot start capacity (t.arity - 1)) r.numbers ∙ l
+    kept = ap length r.words ∙ lay_length into (spot start capacity (rows.table.arity - 1)) r.numbers ∙ l
 
-    filling : Filling (length into') (vacant t columns start capacity) (sort (rows_permuted pool t columns))
+    filling : Filling (length into') (vacant rows.table rows.columns start capacity) (sort (rows_seen rows))
     filling = record {
-      positive = sound.arity.0;
-      few = sound.arity.1;
+      positive = intact.arity.0;
+      few = intact.arity.1;
       small = a.small;
       fits = omega (arith, a.fits, kept);
       room = omega (arith, r.ranked.many, a.room);
-      sorted = sort_sorted (rows_permuted pool t columns);
+      sorted = sort_sorted (rows_seen rows);
       empty = refl;
     }
 
-    lies : (j : ℕ) → j < t.tuple_count → RankAt pool t columns j (get_or into' (spot start capacity (t.arity - 1) + j) 0)
+    lies : (j : ℕ) → j < rows.table.tuple_count → RankAt rows j (get_or into' (spot start capacity (rows.table.arity - 1) + j) 0)
     lies j h =
-        let at = spot start capacity (t.arity - 1) in
-        let e : get_or into' (at + j) 0 ≡ get_or r.numbers j 0 = ap (λ (p : List ℕ). get_or p (at + j) 0) r.words ∙ lay_in into at r.numbers j 0 (omega (arith, r.ranked.long)) (omega (arith, r.ranked.long, base_inside)) in
-        subst (RankAt pool t columns j) (sym e) (r.ranked.ranks j h)
+        let at = spot start capacity (rows.table.arity - 1) in
+        let e : get_or into' (at + j) 0 ≡ get_or r.numbers j 0 = ap (λ (p : List ℕ). get_or p (at + j) 0) r.words ∙ lay_in into at r.numbers j 0 (omega (arith, r.ranked.long)) (omega (arith, r.ranked.long, (base_inside rows.whole long a))) in
+        subst (RankAt rows j) (sym e) (r.ranked.ranks j h)
 
-    laying_vacant : Laying pool t columns into' (vacant t columns start capacity)
-    laying_vacant = record { legible = legible; arity = refl; many = r.ranked.many; fill = filling; width = width_sort; asc = asc_sort; lies = lies }
+    laying_vacant : Laying rows into' (vacant rows.table rows.columns start capacity)
+    laying_vacant = record { arity = refl; many = r.ranked.many; fill = filling; width = width_sort; asc = asc_sort; lies = lies }
 
-    pub laying : {empty : ColumnTrie} → empty ≡ vacant t columns start capacity → Laying pool t columns into' empty
-    laying e = subst (Laying pool t columns into') (sym e) laying_vacant
+    pub laying : {empty : ColumnTrie} → empty ≡ vacant rows.table rows.columns start capacity → Laying rows into' empty
+    laying e = subst (Laying rows into') (sym e) laying_vacant
 
     -- and gone once the table is filled
-    own_set : as_set (sort (rows_permuted pool t columns)) ≡ rows_left pool t columns
-    own_set = as_set_cong (sort (rows_permuted pool t columns)) (rows_permuted pool t columns) (sort_members (rows_permuted pool t columns))
+    own_set : as_set (sort (rows_seen rows)) ≡ rows_left rows.pool.now rows.table rows.columns
+    own_set = as_set_cong (sort (rows_seen rows)) (rows_seen rows) (sort_members (rows_seen rows))
 
-    left_many : length (rows_left pool t columns) ≡ t.tuple_count
+    left_many : length (rows_left rows.pool.now rows.table rows.columns) ≡ rows.table.tuple_count
     left_many = ap length (sym sort_set) ∙ sym r.ranked.many
 
-    ranks_gone : store start capacity (layers_of t.arity (rows_left pool t columns)) into' ≡ store start capacity (layers_of t.arity (rows_left pool t columns)) into
+    ranks_gone : store start capacity (layers_of rows.table.arity (rows_left rows.pool.now rows.table rows.columns)) into' ≡ store start capacity (layers_of rows.table.arity (rows_left rows.pool.now rows.table rows.columns)) into
     ranks_gone =
-        let n = t.arity in
-        let ls = layers_of n (rows_left pool t columns) in
-        let c = layers_count n 0 (rows_left pool t columns) in
-        let u = layers_undamaged capacity sound.arity.0 (as_set_asc (rows_permuted pool t columns)) (subst (Width n) sort_set width_sort) (omega (arith, left_many, a.room)) in
+        let n = rows.table.arity in
+        let ls = layers_of n (rows_left rows.pool.now rows.table rows.columns) in
+        let c = layers_count n 0 (rows_left rows.pool.now rows.table rows.columns) in
+        let u = layers_undamaged capacity intact.arity.0 (as_set_asc (rows_seen rows)) (subst (Width n) sort_set width_sort) (omega (arith, left_many, a.room)) in
         ap (store start capacity ls) r.words
-        ∙ store_under start capacity ls into (n - 1) r.numbers (omega (arith, c, sound.arity.0)) (λ e m. u.room e (omega (arith, c))) (omega (arith, u.counted, left_many, r.ranked.long)) (omega (arith, r.ranked.long, base_inside))
+        ∙ store_under start capacity ls into (n - 1) r.numbers (omega (arith, c, intact.arity.0)) (λ e m. u.room e (omega (arith, c))) (omega (arith, u.counted, left_many, r.ranked.long)) (omega (arith, r.ranked.long, (base_inside rows.whole long a)))
 
-    module _ {empty : ColumnTrie} {into'' : List ℕ} {filled : ColumnTrie} (e : empty ≡ vacant t columns start capacity) (f : Fills into' empty (sort (rows_permuted pool t columns)) into'' filled) where
-      fills : Fills into' (vacant t columns start capacity) (sort (rows_permuted pool t columns)) into'' filled
-      fills = subst (λ (u : ColumnTrie). Fills into' u (sort (rows_permuted pool t columns)) into'' filled) e f
+    module _ {empty : ColumnTrie} {into'' : List ℕ} {filled : ColumnTrie} (e : empty ≡ vacant rows.table rows.columns start capacity) (f : Fills into' empty (sort (rows_seen rows)) into'' filled) where
+      fills : Fills into' (vacant rows.table rows.columns start capacity) (sort (rows_seen rows)) into'' filled
+      fills = subst (λ (u : ColumnTrie). Fills into' u (sort (rows_seen rows)) into'' filled) e f
 
-      pub rebuilt_table : filled ≡ refilled (vacant t columns start capacity) (rows_left pool t columns)
-      rebuilt_table = fills.header ∙ ap (refilled (vacant t columns start capacity)) own_set
+      pub rebuilt_table : filled ≡ refilled (vacant rows.table rows.columns start capacity) (rows_left rows.pool.now rows.table rows.columns)
+      rebuilt_table = fills.header ∙ ap (refilled (vacant rows.table rows.columns start capacity)) own_set
 
-      pub rebuilt_words : into'' ≡ store start capacity (layers_of t.arity (rows_left pool t columns)) into
-      rebuilt_words = fills.words ∙ ap (λ (rs : List Row). store start capacity (layers_of t.arity rs) into') own_set ∙ ranks_gone
+      pub rebuilt_words : into'' ≡ store start capacity (layers_of rows.table.arity (rows_left rows.pool.now rows.table rows.columns)) into
+      rebuilt_words = fills.words ∙ ap (λ (rs : List Row). store start capacity (layers_of rows.table.arity rs) into') own_set ∙ ranks_gone

@@ -8,11 +8,14 @@ ghost use Rattle.std.specs.Prelude.{◌≡◌, true, ℕ, ◌≤◌, ◌<◌, le
 ghost use Rattle.query.specs.Checks.{permutes};
 ghost use Rattle.column_trie.specs.Limits.{max_arity};
 ghost use Rattle.from_sorted.specs.Answer.{kept_kinds};
+ghost use Rattle.refusal.specs.Number.{given};
 ghost use Rattle.column_trie_permute.specs.Permute.{kinds_permuted, permute_number, Permutes};
 
 use column_trie::{ColumnTrie, capacity_ok, layer_at, lies_in, undamaged};
 use from_sorted::Built;
 use permuted_fill::{lay_rows, rank_into};
+use permuted_rows::Permuted;
+use refusal::Refusal;
 
 // Whether the first numbers, as many as there are columns, are a permutation of the columns: each a column, and none marked before.
 fn columns_ok(columns: [usize; ColumnTrie::MAX_ARITY], arity: usize) -> bool
@@ -20,8 +23,7 @@ fn columns_ok(columns: [usize; ColumnTrie::MAX_ARITY], arity: usize) -> bool
     ensures { result ≡ permutes arity (take arity columns) }
 {
     let mut marks: [bool; ColumnTrie::MAX_ARITY] = [false; ColumnTrie::MAX_ARITY];
-    let mut i = 0;
-    while i < arity {
+    for i in 0..arity {
         let d = columns[i];
         if arity <= d {
             return false;
@@ -30,38 +32,37 @@ fn columns_ok(columns: [usize; ColumnTrie::MAX_ARITY], arity: usize) -> bool
             return false;
         }
         marks[d] = true;
-        i += 1;
     }
     true
 }
 
-// The number of the first check that refuses, or 0.
-fn permute_number(
+// The first check that refuses.
+fn check(
     pool: &[u64],
     table: ColumnTrie,
     columns: [usize; ColumnTrie::MAX_ARITY],
     len: usize,
     start: usize,
     capacity: usize,
-) -> u64
-    ensures { result ≡ permute_number pool.now table columns len start capacity }
+) -> Result<(), Refusal>
+    ensures { given result ≡ permute_number pool.now table columns len start capacity }
 {
     if !undamaged(pool, table) {
-        return 6;
+        return Err(Refusal::Damaged);
     }
     if !columns_ok(columns, table.arity) {
-        return 8;
+        return Err(Refusal::BadOrder);
     }
     if !capacity_ok(capacity) {
-        return 2;
+        return Err(Refusal::BadCapacity);
     }
     if !lies_in(len, start, table.arity, capacity) {
-        return 3;
+        return Err(Refusal::OutsidePool);
     }
     if capacity < table.tuple_count {
-        return 5;
+        return Err(Refusal::NoRoom);
     }
-    0
+    Ok(())
 }
 
 // The kinds of the columns, each where its column goes; past the arity they are plain.
@@ -75,11 +76,9 @@ fn permuted_kinds(
     let arity = table.arity;
     let grade = table.grade;
     let mut kinds: [bool; ColumnTrie::MAX_ARITY] = [false; ColumnTrie::MAX_ARITY];
-    let mut d = 0;
-    while d < arity {
+    for d in 0..arity {
         let from = columns[d];
         kinds[d] = grade[from];
-        d += 1;
     }
     kinds
 }
@@ -95,10 +94,9 @@ pub fn permute(
 ) -> Built
     ensures { Permutes pool.now table columns into.old start capacity into.new result }
 {
-    let number = permute_number(pool, table, columns, into.len(), start, capacity);
-    if number != 0 {
+    if let Err(refused) = check(pool, table, columns, into.len(), start, capacity) {
         return Built {
-            number,
+            number: refused.number(),
             table: ColumnTrie::empty(0, 0, 0),
         };
     }
@@ -107,7 +105,12 @@ pub fn permute(
     let kinds = permuted_kinds(table, columns);
     empty.grade = kinds;
     let at = layer_at(empty, arity - 1);
-    rank_into(pool, table, columns, into, at);
-    let table = lay_rows(pool, table, columns, into, empty);
-    Built { number, table }
+    let rows = Permuted {
+        pool,
+        table,
+        columns,
+    };
+    rank_into(&rows, into, at);
+    let table = lay_rows(&rows, into, empty);
+    Built { number: 0, table }
 }

@@ -7,57 +7,39 @@
 ghost use Rattle.std.specs.Prelude.{◌≡◌, ◌+◌, ◌≤◌, length};
 ghost use Rattle.relation.specs.Rows.{sort};
 ghost use Rattle.from_sorted.specs.Push.{Fills};
-ghost use Rattle.permuted_rows.specs.Permuted.{rows_permuted};
-ghost use Rattle.permuted_rows.specs.Legible.{Legible};
+ghost use Rattle.permuted_rows.specs.Seen.{rows_seen};
 ghost use Rattle.permuted_fill.specs.Ranks.{Ranked, RankedIn, Laying};
 
 use column_trie::{ColumnTrie, layer_at};
 use from_sorted::{append_row, common_prefix_len, filled};
 use number_sort::sort_numbers;
-use permuted_rows::permuted_row;
+use permuted_rows::Permuted;
 use row_words::pack_rows;
 
 // The words of all rows, sorted by the permuted rows.
-fn rank_rows(
-    pool: &[u64],
-    t: ColumnTrie,
-    columns: [usize; ColumnTrie::MAX_ARITY],
-    numbers: &mut [u64],
-)
-    requires { Legible pool.now t columns × (length numbers.old ≡ t.tuple_count) }
-    ensures { Ranked pool.now t columns numbers.new }
+fn rank_rows(rows: &Permuted, numbers: &mut [u64])
+    requires { length numbers.old ≡ rows.now.table.tuple_count }
+    ensures { Ranked rows.now numbers.new }
 {
-    pack_rows(pool, t, columns, numbers);
-    sort_numbers(pool, t, columns, numbers);
+    pack_rows(rows, numbers);
+    sort_numbers(rows, numbers);
 }
 
 // The same, at `at` of the second pool.
-pub fn rank_into(
-    pool: &[u64],
-    t: ColumnTrie,
-    columns: [usize; ColumnTrie::MAX_ARITY],
-    into: &mut [u64],
-    at: usize,
-)
-    requires { Legible pool.now t columns × (at + t.tuple_count ≤ length into.old) }
-    ensures { RankedIn pool.now t columns into.old at into.new }
+pub fn rank_into(rows: &Permuted, into: &mut [u64], at: usize)
+    requires { at + rows.now.table.tuple_count ≤ length into.old }
+    ensures { RankedIn rows.now into.old at into.new }
 {
-    let end = at + t.tuple_count;
-    rank_rows(pool, t, columns, &mut into[at..end]);
+    let end = at + rows.table.tuple_count;
+    rank_rows(rows, &mut into[at..end]);
 }
 
 // Fills the empty table with the rows whose words lie where the keys of its last layer will. The lengths are kept beside the header until the end, as in a build.
-pub fn lay_rows(
-    pool: &[u64],
-    t: ColumnTrie,
-    columns: [usize; ColumnTrie::MAX_ARITY],
-    into: &mut [u64],
-    empty: ColumnTrie,
-) -> ColumnTrie
-    requires { Laying pool.now t columns into.old empty }
-    ensures { Fills into.old empty (sort (rows_permuted pool.now t columns)) into.new result }
+pub fn lay_rows(rows: &Permuted, into: &mut [u64], empty: ColumnTrie) -> ColumnTrie
+    requires { Laying rows.now into.old empty }
+    ensures { Fills into.old empty (sort (rows_seen rows.now)) into.new result }
 {
-    let n = t.tuple_count;
+    let n = rows.table.tuple_count;
     if n == 0 {
         return empty;
     }
@@ -66,12 +48,11 @@ pub fn lay_rows(
     let mut interval_len = empty.interval_len;
     let at = layer_at(empty, arity - 1);
     let first = into[at];
-    let mut last = permuted_row(pool, t, columns, first);
+    let mut last = rows.row(first);
     append_row(into, empty, &mut data_len, &mut interval_len, &last, 0, 0);
-    let mut j = 1;
-    while j < n {
+    for j in 1..n {
         let w = into[at + j];
-        let row = permuted_row(pool, t, columns, w);
+        let row = rows.row(w);
         let d = common_prefix_len(&last, &row, arity);
         append_row(
             into,
@@ -83,7 +64,6 @@ pub fn lay_rows(
             d + 1,
         );
         last = row;
-        j += 1;
     }
     filled(empty, data_len, interval_len)
 }

@@ -1,2 +1,2 @@
 pub mod Rows
-mod Compares
+mod Copies

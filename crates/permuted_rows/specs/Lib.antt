@@ -1,3 +1,4 @@
 pub mod Permuted
 pub mod Legible
 pub mod Packed
+pub mod Seen

@@ -1,8 +1,9 @@
 -- Internal: the word of a row, made of its number and its path.
 use Rattle.std.specs.Prelude.{ℕ, ◌≤◌, ◌<◌, ◌≡◌, List, length, get_or}
 use Rattle.column_trie.specs.Limits.{max_arity}
-use Rattle.column_trie.specs.declared.ColumnTrie.{ColumnTrie}
-use Rattle.permuted_rows.specs.Packed.{number_of, place_of, Packed}
+use Rattle.permuted_rows.specs.Packed.{number_of, place_of}
+use Rattle.permuted_rows.specs.Seen.{StandsIn}
+use Rattle.permuted_rows.specs.declared.Permuted.{Permuted}
 
 -- four numbers of 16 bits in one word
 pub record Fields (i x y z w : ℕ) : Type 0 where
@@ -24,6 +25,6 @@ pub record Worded (arity : ℕ) (columns path : List ℕ) (i w : ℕ) : Type 0 w
   pub places : (k : ℕ) → k < 3 → k < arity → place_of k w ≡ get_or path (get_or columns k 0) 0
 
 -- word k is that of row k
-pub record AllPacked (pool : List ℕ) (t : ColumnTrie) (columns words : List ℕ) : Type 0 where
-  pub packed : (k : ℕ) → k < length words → Packed pool t columns (get_or words k 0)
+pub record AllPacked (rows : Permuted) (words : List ℕ) : Type 0 where
+  pub packed : (k : ℕ) → k < length words → StandsIn rows (get_or words k 0)
   pub number : (k : ℕ) → k < length words → number_of (get_or words k 0) ≡ k

@@ -3,10 +3,10 @@
 
 ghost use Rattle.std.specs.Prelude.{◌≡◌, ℕ, ◌≤◌, ◌<◌, length, get_or};
 ghost use Rattle.column_trie.specs.Limits.{max_arity};
-ghost use Rattle.permuted_rows.specs.Legible.{Legible};
 ghost use Rattle.row_words.specs.Words.{Fields, Wordable, Worded, AllPacked};
 
 use column_trie::ColumnTrie;
+use permuted_rows::Permuted;
 use row_path::next_path;
 
 fn four(i: usize, x: usize, y: usize, z: usize) -> u64
@@ -52,23 +52,14 @@ fn row_word(
 }
 
 // The words of all rows, in the rows' sequence.
-pub fn pack_rows(
-    pool: &[u64],
-    t: ColumnTrie,
-    columns: [usize; ColumnTrie::MAX_ARITY],
-    words: &mut [u64],
-)
-    requires { Legible pool.now t columns × (length words.old ≡ t.tuple_count) }
-    ensures { AllPacked pool.now t columns words.new }
+pub fn pack_rows(rows: &Permuted, words: &mut [u64])
+    requires { length words.old ≡ rows.now.table.tuple_count }
+    ensures { AllPacked rows.now words.new }
 {
-    let n = words.len();
-    let arity = t.arity;
+    let arity = rows.table.arity;
     let mut path = [0usize; ColumnTrie::MAX_ARITY];
-    let mut k = 0;
-    while k < n {
-        next_path(pool, t, &mut path, k);
-        let w = row_word(arity, columns, path, k);
-        words[k] = w;
-        k += 1;
+    for k in 0..words.len() {
+        next_path(rows.pool, rows.table, &mut path, k);
+        words[k] = row_word(arity, rows.columns, path, k);
     }
 }

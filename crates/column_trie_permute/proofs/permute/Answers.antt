@@ -1,21 +1,20 @@
--- `column_trie_permute::permute` meets its contract: by the number it is refused, or the rows are ranked where the last keys will lie and the table is filled over them.
-use mathlib.Core.Path.{◌≡◌, refl, sym, ap, ap₂, ◌∙◌, subst}
-use mathlib.Core.List.{List}
+-- `column_trie_permute::permute` meets its contract: a check refuses it, or the rows are ranked where the last keys will lie and the table is filled over them.
+use mathlib.Core.Path.{◌≡◌, refl, sym, ap, ap₂, ◌∙◌}
 use native.Mathlib.Omega.{arith}
-use Prim.Native.Nat.{ℕ, ◌-◌}
+use Prim.Native.Nat.{◌-◌}
 use lib.ListN.{length}
 use Rattle.column_trie.specs.Limits.{max_arity}
 use Rattle.column_trie.specs.Pool.{spot}
 use Rattle.column_trie.specs.declared.ColumnTrie.{ColumnTrie}
 use Rattle.column_trie.proofs.Layers.{Whole}
 use Rattle.from_sorted.proofs.Answer.{regraded}
-use Rattle.permuted_fill.specs.Ranks.{RankedIn}
-use Rattle.column_trie_permute.proofs.Numbers.{Accepted, accepted}
+use Rattle.refusal.specs.Number.{given}
+use Rattle.column_trie_permute.proofs.Numbers.{Accepted, accepted, not_zero}
 use Rattle.column_trie_permute.proofs.Outcomes.{permutes_refused, permutes_rebuilt}
 use Rattle.column_trie_permute.proofs.Rebuilt.{vacant, sound, legible, base_inside, laying, rebuilt_table, rebuilt_words}
 use borrow.Author.Rules.{rules}
 use Rattle.column_trie_permute.proofs.permute.Goals as goal
-use Rattle.column_trie_permute.proofs.permute.Goals.{After-permuted_kinds-kinds, After-rank_into, Else-number-ne0, Start}
+use Rattle.column_trie_permute.proofs.permute.Goals.{After-layer_at-at, In_default, Start}
 
 -- what the call is handed
 module _ (s : Start) where
@@ -26,59 +25,63 @@ module _ (s : Start) where
   long = search rules
 
 -- past the checks
-module _ (k : Else-number-ne0) where
+module _ (k : In_default) where
   passed : Accepted k.args.pool.now k.args.table k.args.columns (length k.args.into.now) k.args.start k.args.capacity
-  passed = accepted _ _ _ _ _ _ (sym k.permute_number-number.ensures ∙ k.if-number-ne0.false)
+  passed = accepted _ _ _ _ _ _ (sym k.check.ensures ∙ ap given k.in_default.is)
 
 -- the table that is filled
-empty_table : (k : After-permuted_kinds-kinds) → regraded k.empty-empty.result k.permuted_kinds-kinds.result ≡ vacant k.args.table k.args.columns k.args.start k.args.capacity
-empty_table k = ap₂ regraded k.empty-empty.ensures k.permuted_kinds-kinds.ensures
+vacant_is : (k : After-layer_at-at) → regraded k.empty-empty.result k.permuted_kinds-kinds.result ≡ vacant k.args.table k.args.columns k.args.start k.args.capacity
+vacant_is k = ap₂ regraded k.empty-empty.ensures k.permuted_kinds-kinds.ensures
 
--- where its last keys will lie
-spot_is : {e : ColumnTrie} (table : ColumnTrie) (columns : List ℕ) (start capacity : ℕ) → e ≡ vacant table columns start capacity → {at : ℕ} → at ≡ spot e.start e.capacity (table.arity - 1) → at ≡ spot start capacity (table.arity - 1)
-spot_is table columns start capacity v q = q ∙ ap (λ (u : ColumnTrie). spot u.start u.capacity (table.arity - 1)) v
-
--- the ranks
-ranks : (k : After-rank_into) → k.layer_at-at.result ≡ spot k.args.start k.args.capacity (k.args.table.arity - 1) →
-    RankedIn k.args.pool.now k.args.table k.args.columns k.args.into.now (spot k.args.start k.args.capacity (k.args.table.arity - 1)) k.rank_into.new.into
-ranks k e = subst (λ (at : ℕ). RankedIn k.args.pool.now k.args.table k.args.columns k.args.into.now at k.rank_into.new.into) e k.rank_into.ensures
-
-pub returns-then-number-ne0 : goal.returns-then-number-ne0
-returns-then-number-ne0 c =
+pub returns-in-Err : goal.returns-in-Err
+returns-in-Err c =
     let s = c.args in
-    permutes_refused s.pool.now s.table s.columns s.into.now s.start s.capacity c.permute_number-number.ensures c.if-number-ne0.true c.empty.ensures
+    permutes_refused s.pool.now s.table s.columns s.into.now s.start s.capacity (c.number.ensures ∙ sym (ap given c.in-Err.is) ∙ c.check.ensures) (λ z. not_zero _ (sym c.number.ensures ∙ z)) c.empty.ensures
 
 pub permuted_kinds-kinds-requires : goal.permuted_kinds-kinds-requires
 permuted_kinds-kinds-requires c =
-    ((sound (whole (goal.at.permuted_kinds-kinds-requires c).Start) (long (goal.at.permuted_kinds-kinds-requires c).Start) (passed (goal.at.permuted_kinds-kinds-requires c).Else-number-ne0)).arity.1, (legible (whole (goal.at.permuted_kinds-kinds-requires c).Start) (long (goal.at.permuted_kinds-kinds-requires c).Start) (passed (goal.at.permuted_kinds-kinds-requires c).Else-number-ne0)).inside)
+    let s = (goal.at.permuted_kinds-kinds-requires c).Start in
+    let p = passed (goal.at.permuted_kinds-kinds-requires c).In_default in
+    ((sound (whole s) (long s) p).arity.1, (legible (whole s) (long s) p).inside)
 
 pub overflow_sub-arity : goal.overflow_sub-arity
-overflow_sub-arity c = omega (arith, (sound (whole (goal.at.overflow_sub-arity c).Start) (long (goal.at.overflow_sub-arity c).Start) (passed (goal.at.overflow_sub-arity c).Else-number-ne0)).arity.0)
+overflow_sub-arity c =
+    let s = (goal.at.overflow_sub-arity c).Start in
+    omega (arith, (sound (whole s) (long s) (passed (goal.at.overflow_sub-arity c).In_default)).arity.0)
 
 pub layer_at-at-requires : goal.layer_at-at-requires
 layer_at-at-requires c =
     let e = c.empty-empty.ensures in
-    let u = (sound (whole (goal.at.layer_at-at-requires c).Start) (long (goal.at.layer_at-at-requires c).Start) (passed (goal.at.layer_at-at-requires c).Else-number-ne0)).arity in (
-      omega (arith, ap (λ (t : ColumnTrie). t.start) e, (passed (goal.at.layer_at-at-requires c).Else-number-ne0).fits, c.well_formed),
-      omega (arith, ap (λ (t : ColumnTrie). t.capacity) e, (passed (goal.at.layer_at-at-requires c).Else-number-ne0).small),
-      omega (arith, u.0, u.1),
-    )
+    let s = (goal.at.layer_at-at-requires c).Start in
+    let p = passed (goal.at.layer_at-at-requires c).In_default in
+    let u = (sound (whole s) (long s) p).arity in
+    (omega (arith, ap (λ (t : ColumnTrie). t.start) e, p.fits, c.well_formed), omega (arith, ap (λ (t : ColumnTrie). t.capacity) e, p.small), omega (arith, u.0, u.1))
+
+pub invariant_of-rows : goal.invariant_of-rows
+invariant_of-rows c =
+    let s = (goal.at.invariant_of-rows c).Start in
+    record { legible = legible (whole s) (long s) (passed (goal.at.invariant_of-rows c).In_default); whole = whole s }
+
+-- where the last keys will lie
+at_is : (k : After-layer_at-at) → k.layer_at-at.result ≡ spot k.args.start k.args.capacity (k.args.table.arity - 1)
+at_is k = k.layer_at-at.ensures ∙ ap (λ (u : ColumnTrie). spot u.start u.capacity (k.args.table.arity - 1)) (vacant_is k)
 
 pub rank_into-requires : goal.rank_into-requires
 rank_into-requires c =
-    (legible (whole (goal.at.rank_into-requires c).Start) (long (goal.at.rank_into-requires c).Start) (passed (goal.at.rank_into-requires c).Else-number-ne0), omega (arith, spot_is c.args.table c.args.columns c.args.start c.args.capacity (empty_table (goal.at.rank_into-requires c).After-permuted_kinds-kinds) c.layer_at-at.ensures, base_inside (whole (goal.at.rank_into-requires c).Start) (long (goal.at.rank_into-requires c).Start) (passed (goal.at.rank_into-requires c).Else-number-ne0)))
+    let s = (goal.at.rank_into-requires c).Start in
+    omega (arith, at_is (goal.at.rank_into-requires c).After-layer_at-at, base_inside (whole s) (long s) (passed (goal.at.rank_into-requires c).In_default))
 
 pub lay_rows-table-requires : goal.lay_rows-table-requires
 lay_rows-table-requires c =
-    laying (whole (goal.at.lay_rows-table-requires c).Start) (long (goal.at.lay_rows-table-requires c).Start) (passed (goal.at.lay_rows-table-requires c).Else-number-ne0) refl (ranks (goal.at.lay_rows-table-requires c).After-rank_into (spot_is c.args.table c.args.columns c.args.start c.args.capacity (empty_table (goal.at.lay_rows-table-requires c).After-permuted_kinds-kinds) c.layer_at-at.ensures)) (empty_table (goal.at.lay_rows-table-requires c).After-permuted_kinds-kinds)
+    let k = (goal.at.lay_rows-table-requires c).After-layer_at-at in
+    laying _ (long (goal.at.lay_rows-table-requires c).Start) (passed (goal.at.lay_rows-table-requires c).In_default) refl (rw (at_is k) at c.rank_into.ensures) (vacant_is k)
 
 pub returns : goal.returns
 returns c =
-    let f = c.lay_rows-table in
     let s = c.args in
-    let o = whole (goal.at.returns c).Start in
+    let k = (goal.at.returns c).After-layer_at-at in
     let l = long (goal.at.returns c).Start in
-    let v = empty_table (goal.at.returns c).After-permuted_kinds-kinds in
-    let r = ranks (goal.at.returns c).After-rank_into (spot_is c.args.table c.args.columns c.args.start c.args.capacity (empty_table (goal.at.returns c).After-permuted_kinds-kinds) c.layer_at-at.ensures) in
-    permutes_rebuilt s.pool.now s.table s.columns s.into.now s.start s.capacity c.permute_number-number.ensures c.if-number-ne0.false
-    (rebuilt_table o l (passed (goal.at.returns c).Else-number-ne0) refl r v f.ensures) (rebuilt_words o l (passed (goal.at.returns c).Else-number-ne0) refl r v f.ensures)
+    let p = passed (goal.at.returns c).In_default in
+    let r = rw (at_is k) at c.rank_into.ensures in
+    let f = c.lay_rows-table.ensures in
+    permutes_rebuilt s.pool.now s.table s.columns s.into.now s.start s.capacity (sym (ap given c.in_default.is) ∙ c.check.ensures) refl (rebuilt_table _ l p refl r (vacant_is k) f) (rebuilt_words _ l p refl r (vacant_is k) f)

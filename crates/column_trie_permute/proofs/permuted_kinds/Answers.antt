@@ -17,7 +17,7 @@ long : (s : Start) → length s.args.columns ≡ max_arity
 long s = search rules
 
 pub loop-d-init : goal.loop-d-init
-loop-d-init c = (omega arith, refl)
+loop-d-init c = refl
 
 pub offset_bounds-columns-d : goal.offset_bounds-columns-d
 offset_bounds-columns-d c = omega (arith, c.loop-d-test.true, c.requires.0)
@@ -35,10 +35,10 @@ pub loop-d-preserved : goal.loop-d-preserved
 loop-d-preserved c =
     let l = c.loop-d in
     let g = c.args.table.grade in
-    (omega (arith, c.loop-d-test.true), ap (λ (k : List Bool). set k l.d (get_or g (get_or c.args.columns l.d 0) false)) l.invariant.1 ∙ kinds_next c.args.table.arity g c.args.columns l.d c.requires.0 (long (goal.at.loop-d-preserved c).Start) c.loop-d-test.true)
+    ap (λ (k : List Bool). set k l.d (get_or g (get_or c.args.columns l.d 0) false)) l.invariant ∙ kinds_next c.args.table.arity g c.args.columns l.d c.requires.0 (long (goal.at.loop-d-preserved c).Start) c.loop-d-test.true
 
 pub returns : goal.returns
 returns c =
     let l = c.loop-d in
-    let e : l.d ≡ c.args.table.arity = omega (arith, l.invariant.0, c.loop-d-test.false) in
-    l.invariant.1 ∙ ap (λ (n : ℕ). kept_kinds n (kinds_permuted c.args.table c.args.columns)) e
+    let e : l.d ≡ c.args.table.arity = omega (arith, l.auto.d-end, c.loop-d-test.false) in
+    l.invariant ∙ ap (λ (n : ℕ). kept_kinds n (kinds_permuted c.args.table c.args.columns)) e

@@ -9,24 +9,24 @@ use Rattle.relation.specs.Rows.{sort}
 use Rattle.relation.proofs.Order.{shared}
 use Rattle.column_trie.specs.Limits.{max_arity}
 use Rattle.column_trie.specs.Pool.{spot}
-use Rattle.column_trie.specs.declared.ColumnTrie.{ColumnTrie}
 use Rattle.column_trie.proofs.Header.{layer_inside}
 use Rattle.from_sorted.specs.Push.{Pushing, Pushes, Fills}
 use Rattle.from_sorted.proofs.Fill.{pushing_first, filled_first, pushing_next, filled_next, fills_none, fills_all, can_push, pushed}
 use Rattle.file_read.proofs.Strict.{neighbours_differ}
-use Rattle.permuted_rows.specs.Permuted.{rows_permuted}
 use Rattle.permuted_rows.specs.Packed.{number_of}
+use Rattle.permuted_rows.specs.Seen.{rows_seen}
+use Rattle.permuted_rows.specs.declared.Permuted.{Permuted}
 use Rattle.permuted_fill.specs.Ranks.{RankAt}
 use Rattle.permuted_fill.proofs.Words.{laid, still}
 use borrow.Author.Rules.{rules}
 use Rattle.permuted_fill.proofs.lay_rows.Goals as goal
-use Rattle.permuted_fill.proofs.lay_rows.Goals.{After-common_prefix_len-d, After-permuted_row-last, After-permuted_row-row, In-loop-j, Start}
+use Rattle.permuted_fill.proofs.lay_rows.Goals.{After-common_prefix_len-d, After-row-last, After-row-row, In-loop-j, Start}
 
 -- a word's row, and the row that it stands for
-moved : {pool : List ℕ} {t : ColumnTrie} {columns : List ℕ} {j : ℕ} (into : List ℕ) {at place : ℕ} → at ≡ place → RankAt pool t columns j (get_or into place 0) → RankAt pool t columns j (get_or into at 0)
-moved {pool} {t} {columns} {j} into e r = subst (λ (m : ℕ). RankAt pool t columns j (get_or into m 0)) (sym e) r
+moved : {rows : Permuted} {j : ℕ} (into : List ℕ) {at place : ℕ} → at ≡ place → RankAt rows j (get_or into place 0) → RankAt rows j (get_or into at 0)
+moved {rows} {j} into e r = subst (λ (m : ℕ). RankAt rows j (get_or into m 0)) (sym e) r
 
-row_is : {pool : List ℕ} {t : ColumnTrie} {columns : List ℕ} {j word : ℕ} {a : ℕ} (row : List ℕ) → a ≡ t.arity → RankAt pool t columns j word → take t.arity row ≡ get_or (rows_permuted pool t columns) (number_of word) [] → take a row ≡ get_or (sort (rows_permuted pool t columns)) j []
+row_is : {rows : Permuted} {j word : ℕ} {a : ℕ} (row : List ℕ) → a ≡ rows.table.arity → RankAt rows j word → take rows.table.arity row ≡ get_or (rows_seen rows) (number_of word) [] → take a row ≡ get_or (sort (rows_seen rows)) j []
 row_is row q r e = ap (λ (m : ℕ). take m row) q ∙ e ∙ r.row
 
 -- what the function is handed
@@ -35,24 +35,24 @@ module _ (s : Start) where
   base = spot s.args.empty.start s.args.empty.capacity (s.args.empty.arity - 1)
 
   -- the words of the last layer lie in the second pool
-  inside : {j : ℕ} → j < s.args.t.tuple_count → base + j < length s.args.into.now
+  inside : {j : ℕ} → j < s.args.rows.now.table.tuple_count → base + j < length s.args.into.now
   inside h = omega (arith, h, s.requires.many, s.requires.fill.room, s.requires.fill.fits, layer_inside s.args.empty.start s.args.empty.arity s.args.empty.capacity (s.args.empty.arity - 1) (omega (arith, s.requires.fill.positive)))
 
 -- the first row, read
-module _ (k : After-permuted_row-last) where
-  some : 0 < k.args.t.tuple_count
+module _ (k : After-row-last) where
+  some : 0 < k.args.rows.now.table.tuple_count
   some = omega (arith, k.if-n-eq0.false)
 
-  first_row : take k.args.empty.arity k.permuted_row-last.result ≡ get_or (sort (rows_permuted k.args.pool.now k.args.t k.args.columns)) 0 []
-  first_row = row_is k.permuted_row-last.result k.requires.arity (moved k.args.into.now (omega (arith, k.layer_at-at.ensures)) (k.requires.lies 0 some)) k.permuted_row-last.ensures
+  first_row : take k.args.empty.arity k.row-last.result ≡ get_or (sort (rows_seen k.args.rows.now)) 0 []
+  first_row = row_is k.row-last.result k.requires.arity (moved k.args.into.now (omega (arith, k.layer_at-at.ensures)) (k.requires.lies 0 some)) k.row-last.ensures
 
-  first : 0 < length (sort (rows_permuted k.args.pool.now k.args.t k.args.columns))
+  first : 0 < length (sort (rows_seen k.args.rows.now))
   first = omega (arith, k.requires.many, some)
 
 -- where the loop turns
 module _ (c : In-loop-j) where
   abbrev rows : List Row
-  rows = sort (rows_permuted c.args.pool.now c.args.t c.args.columns)
+  rows = sort (rows_seen c.args.rows.now)
 
   abbrev j : ℕ
   j = c.loop-j.j
@@ -68,15 +68,15 @@ module _ (c : In-loop-j) where
 
   first_pushed : Pushes c.args.into.now c.args.empty (take 0 rows) (get_or rows 0 []) c.append_row.new.pool c.append_row.new.data_len c.append_row.new.interval_len
   first_pushed =
-      let r = row_is c.permuted_row-last.result c.requires.arity (moved c.args.into.now (omega (arith, c.layer_at-at.ensures)) (c.requires.lies 0 (omega (arith, c.if-n-eq0.false)))) c.permuted_row-last.ensures in
+      let r = row_is c.row-last.result c.requires.arity (moved c.args.into.now (omega (arith, c.layer_at-at.ensures)) (c.requires.lies 0 (omega (arith, c.if-n-eq0.false)))) c.row-last.ensures in
       pushed r (pushing_first c.requires.fill c.requires.width begun) c.append_row.ensures
 
   -- word j is still there
-  rank_now : RankAt c.args.pool.now c.args.t c.args.columns j (get_or c.loop-j.into (c.layer_at-at.result + j) 0)
+  rank_now : RankAt c.args.rows.now j (get_or c.loop-j.into (c.layer_at-at.result + j) 0)
   rank_now =
       let e = laid c.requires.fill c.requires.width c.requires.asc begun first_pushed c.loop-j.invariant.0 in
       let q = still c.requires.fill c.requires.width c.requires.asc c.args.into.now j e j (omega arith) ahead in
-      subst (RankAt c.args.pool.now c.args.t c.args.columns j) (sym (ap (λ (m : ℕ). get_or c.loop-j.into (m + j) 0) c.layer_at-at.ensures ∙ q)) (c.requires.lies j c.loop-j-test.true)
+      subst (RankAt c.args.rows.now j) (sym (ap (λ (m : ℕ). get_or c.loop-j.into (m + j) 0) c.layer_at-at.ensures ∙ q)) (c.requires.lies j c.loop-j-test.true)
 
 pub returns-then-n-eq0 : goal.returns-then-n-eq0
 returns-then-n-eq0 c = fills_none c.requires.fill c.requires.width (sym c.requires.many ∙ c.if-n-eq0.true)
@@ -93,20 +93,20 @@ offset_bounds-into-at c = omega (arith, inside (goal.at.offset_bounds-into-at c)
 pub bounds-into-at : goal.bounds-into-at
 bounds-into-at c = omega (arith, inside (goal.at.bounds-into-at c).Start {j = 0} (omega (arith, c.if-n-eq0.false)), c.layer_at-at.ensures)
 
-pub permuted_row-last-requires : goal.permuted_row-last-requires
-permuted_row-last-requires c =
-    let first_at : c.layer_at-at.result ≡ base (goal.at.permuted_row-last-requires c).Start + 0 = omega (arith, c.layer_at-at.ensures) in
-    (c.requires.legible, (moved c.args.into.now first_at (c.requires.lies 0 (omega (arith, c.if-n-eq0.false)))).packed)
+pub row-last-requires : goal.row-last-requires
+row-last-requires c =
+    let first_at : c.layer_at-at.result ≡ base (goal.at.row-last-requires c).Start + 0 = omega (arith, c.layer_at-at.ensures) in
+    (moved c.args.into.now first_at (c.requires.lies 0 (omega (arith, c.if-n-eq0.false)))).packed
 
 pub append_row-requires : goal.append_row-requires
 append_row-requires c =
-    let k = (goal.at.append_row-requires c).After-permuted_row-last in
+    let k = (goal.at.append_row-requires c).After-row-last in
     can_push (first_row k) (pushing_first c.requires.fill c.requires.width (first k))
 
 pub loop-j-init : goal.loop-j-init
 loop-j-init c =
-    let k = (goal.at.loop-j-init c).After-permuted_row-last in
-    let e : length c.permuted_row-last.result ≡ max_arity = search rules in
+    let k = (goal.at.loop-j-init c).After-row-last in
+    let e : length c.row-last.result ≡ max_arity = search rules in
     (filled_first c.requires.fill c.requires.width (first k) (pushed (first_row k) (pushing_first c.requires.fill c.requires.width (first k)) c.append_row.ensures), e, first_row k)
 
 pub overflow_add-w : goal.overflow_add-w
@@ -118,20 +118,20 @@ offset_bounds-into-at-in-loop-j c = omega (arith, c.layer_at-at.ensures, inside 
 pub bounds-into-at-in-loop-j : goal.bounds-into-at-in-loop-j
 bounds-into-at-in-loop-j c = omega (arith, c.layer_at-at.ensures, inside (goal.at.bounds-into-at-in-loop-j c).Start c.loop-j-test.true, long (goal.at.bounds-into-at-in-loop-j c).In-loop-j)
 
-pub permuted_row-row-requires : goal.permuted_row-row-requires
-permuted_row-row-requires c = (c.requires.legible, (rank_now (goal.at.permuted_row-row-requires c).In-loop-j).packed)
+pub row-row-requires : goal.row-row-requires
+row-row-requires c = (rank_now (goal.at.row-row-requires c).In-loop-j).packed
 
-row_long : (c : After-permuted_row-row) → length c.permuted_row-row.result ≡ max_arity
+row_long : (c : After-row-row) → length c.row-row.result ≡ max_arity
 row_long c = search rules
 
 pub common_prefix_len-d-requires : goal.common_prefix_len-d-requires
 common_prefix_len-d-requires c =
-    (omega (arith, c.requires.fill.few, c.loop-j.invariant.1), omega (arith, c.requires.fill.few, row_long (goal.at.common_prefix_len-d-requires c).After-permuted_row-row))
+    (omega (arith, c.requires.fill.few, c.loop-j.invariant.1), omega (arith, c.requires.fill.few, row_long (goal.at.common_prefix_len-d-requires c).After-row-row))
 
 -- the row that a turn appends, and from which column on
 module _ (c : After-common_prefix_len-d) where
   abbrev rows_here : List Row
-  rows_here = sort (rows_permuted c.args.pool.now c.args.t c.args.columns)
+  rows_here = sort (rows_seen c.args.rows.now)
 
   abbrev i : ℕ
   i = c.loop-j.j
@@ -140,13 +140,13 @@ module _ (c : After-common_prefix_len-d) where
   known = omega (arith, c.requires.many, c.loop-j-test.true)
 
   -- the keys that row j shares with the row before it, and that it differs from it
-  from : take c.args.empty.arity c.permuted_row-row.result ≡ get_or rows_here i [] → c.common_prefix_len-d.result ≡ shared (get_or rows_here (i - 1) []) (get_or rows_here i [])
+  from : take c.args.empty.arity c.row-row.result ≡ get_or rows_here i [] → c.common_prefix_len-d.result ≡ shared (get_or rows_here (i - 1) []) (get_or rows_here i [])
   from r = c.common_prefix_len-d.ensures ∙ ap₂ shared c.loop-j.invariant.2 r
 
-  differs : take c.args.empty.arity c.permuted_row-row.result ≡ get_or rows_here i [] → c.common_prefix_len-d.result < c.args.empty.arity
+  differs : take c.args.empty.arity c.row-row.result ≡ get_or rows_here i [] → c.common_prefix_len-d.result < c.args.empty.arity
   differs r = omega (arith, from r, neighbours_differ c.requires.asc c.requires.width i c.loop-j.invariant.0.low known)
 
-  next : take c.args.empty.arity c.permuted_row-row.result ≡ get_or rows_here i [] →
+  next : take c.args.empty.arity c.row-row.result ≡ get_or rows_here i [] →
       Pushing (length c.loop-j.into) c.args.empty c.loop-j.data_len c.loop-j.interval_len (take i rows_here) (get_or rows_here i []) c.common_prefix_len-d.result (c.common_prefix_len-d.result + 1)
   next r =
       let l = c.loop-j in
@@ -156,25 +156,22 @@ module _ (c : After-common_prefix_len-d) where
 
 pub overflow_add-d : goal.overflow_add-d
 overflow_add-d c =
-    let r = row_is c.permuted_row-row.result c.requires.arity (rank_now (goal.at.overflow_add-d c).In-loop-j) c.permuted_row-row.ensures in
+    let r = row_is c.row-row.result c.requires.arity (rank_now (goal.at.overflow_add-d c).In-loop-j) c.row-row.ensures in
     omega (arith, differs (goal.at.overflow_add-d c).After-common_prefix_len-d r, c.requires.fill.few)
 
 pub append_row-requires-in-loop-j : goal.append_row-requires-in-loop-j
 append_row-requires-in-loop-j c =
-    let r = row_is c.permuted_row-row.result c.requires.arity (rank_now (goal.at.append_row-requires-in-loop-j c).In-loop-j) c.permuted_row-row.ensures in
+    let r = row_is c.row-row.result c.requires.arity (rank_now (goal.at.append_row-requires-in-loop-j c).In-loop-j) c.row-row.ensures in
     can_push r (next (goal.at.append_row-requires-in-loop-j c).After-common_prefix_len-d r)
-
-pub overflow_add-j : goal.overflow_add-j
-overflow_add-j c = omega (arith, c.loop-j-test.true, c.requires.many, c.requires.fill.room, c.requires.fill.small)
 
 pub loop-j-preserved : goal.loop-j-preserved
 loop-j-preserved c =
     let l = (goal.at.loop-j-preserved c).In-loop-j in
     let k = (goal.at.loop-j-preserved c).After-common_prefix_len-d in
-    let r = row_is c.permuted_row-row.result c.requires.arity (rank_now l) c.permuted_row-row.ensures in
+    let r = row_is c.row-row.result c.requires.arity (rank_now l) c.row-row.ensures in
     let q : c.loop-j.j + 1 - 1 ≡ c.loop-j.j = omega arith in (
       filled_next c.requires.fill c.requires.width c.loop-j.invariant.0 (ahead l) c.append_row-in-loop-j.auto.pool (pushed r (next k r) c.append_row-in-loop-j.ensures),
-      row_long (goal.at.loop-j-preserved c).After-permuted_row-row,
+      row_long (goal.at.loop-j-preserved c).After-row-row,
       r ∙ ap (λ (m : ℕ). get_or (rows l) m []) (sym q),
     )
 
@@ -186,6 +183,6 @@ shape_of-into c = c.loop-j.invariant.0.long ∙ c.append_row.auto.pool
 
 pub returns : goal.returns
 returns c =
-    let k = (goal.at.returns c).After-permuted_row-last in
-    subst (Fills c.args.into.now c.args.empty (sort (rows_permuted c.args.pool.now c.args.t c.args.columns)) c.loop-j.into) (sym c.filled.ensures)
+    let k = (goal.at.returns c).After-row-last in
+    subst (Fills c.args.into.now c.args.empty (sort (rows_seen c.args.rows.now)) c.loop-j.into) (sym c.filled.ensures)
     (fills_all c.requires.fill c.requires.width (first k) (pushed (first_row k) (pushing_first c.requires.fill c.requires.width (first k)) c.append_row.ensures) c.loop-j.invariant.0 (omega (arith, c.requires.many, c.loop-j-test.false)))

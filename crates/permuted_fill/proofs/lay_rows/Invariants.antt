@@ -1,4 +1,4 @@
--- `permuted_fill::lay_rows` meets its contract. The loop's invariant: the table holds the first j rows, and the last of them is kept. The measure is the rows left.
+-- `permuted_fill::lay_rows` meets its contract. The loop's invariant: the table holds the first j rows, and the last of them is kept.
 use Prim.Native.Nat.{◌-◌}
 use mathlib.Core.Path.{◌≡◌}
 use mathlib.Core.List.{[]}
@@ -6,11 +6,8 @@ use lib.ListN.{length, take, get_or}
 use Rattle.relation.specs.Rows.{sort}
 use Rattle.column_trie.specs.Limits.{max_arity}
 use Rattle.from_sorted.proofs.Fill.{Filled}
-use Rattle.permuted_rows.specs.Permuted.{rows_permuted}
+use Rattle.permuted_rows.specs.Seen.{rows_seen}
 use Rattle.permuted_fill.proofs.lay_rows.Given as goal
 
 abbrev pub invariant-loop-j : goal.invariant-loop-j
-invariant-loop-j l = Filled l.empty (sort (rows_permuted l.pool l.t l.columns)) l.initial.into l.into l.data_len l.interval_len l.j × (length l.last ≡ max_arity) × (take l.empty.arity l.last ≡ get_or (sort (rows_permuted l.pool l.t l.columns)) (l.j - 1) [])
-
-abbrev pub decreases-loop-j : goal.decreases-loop-j
-decreases-loop-j l = l.n - l.j
+invariant-loop-j l = Filled l.empty (sort (rows_seen l.rows)) l.initial.into l.into l.data_len l.interval_len l.j × (length l.last ≡ max_arity) × (take l.empty.arity l.last ≡ get_or (sort (rows_seen l.rows)) (l.j - 1) [])

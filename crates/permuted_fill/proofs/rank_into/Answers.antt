@@ -8,4 +8,4 @@ pub returns : goal.returns
 returns c =
     let f = c.rank_rows in
     let ns = f.new.numbers in
-    record { numbers = ns; ranked = f.ensures; words = put_back c.args.into.now ns c.args.at (c.args.at + c.args.t.tuple_count) (omega (arith, f.ensures.long)) (omega arith) (omega (arith, c.requires.1)) }
+    record { numbers = ns; ranked = f.ensures; words = put_back c.args.into.now ns c.args.at (c.args.at + c.args.rows.now.table.tuple_count) (omega (arith, f.ensures.long)) (omega arith) (omega (arith, c.requires)) }

@@ -1,4 +1,4 @@
--- `column_trie_permute::permute_number` meets its contract: the checks stand in the sequence of the definition's.
+-- `column_trie_permute::check` meets its contract: the checks stand in the sequence of the definition's.
 use native.Mathlib.Omega.{arith}
 use mathlib.Core.Path.{◌≡◌}
 use mathlib.Core.Bool.{true}
@@ -8,8 +8,8 @@ use Rattle.column_trie.proofs.Damage.{undamaged_told, undamaged_header}
 use Rattle.column_trie_permute.proofs.Numbers.{number_0, number_2, number_3, number_5, number_6, number_8}
 use mathlib.Core.Path.{ap}
 use mathlib.Core.Bool.{not}
-use Rattle.column_trie_permute.proofs.permute_number.Goals as goal
-use Rattle.column_trie_permute.proofs.permute_number.Goals.{Else-not-undamaged}
+use Rattle.column_trie_permute.proofs.check.Goals as goal
+use Rattle.column_trie_permute.proofs.check.Goals.{Else-not-undamaged}
 
 pub returns-then-not-undamaged : goal.returns-then-not-undamaged
 returns-then-not-undamaged c = number_6 _ _ _ _ _ _ (failed c.undamaged.ensures (ap not c.if-not-undamaged.true))
