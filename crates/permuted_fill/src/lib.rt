@@ -12,7 +12,7 @@ ghost use Rattle.permuted_rows.specs.Legible.{Legible};
 ghost use Rattle.permuted_fill.specs.Ranks.{Ranked, RankedIn, Laying};
 
 use column_trie::{ColumnTrie, layer_at};
-use from_sorted::{append_row, common_prefix_len, filled};
+use from_sorted::{Lengths, common_prefix_len};
 use number_sort::sort_numbers;
 use permuted_rows::permuted_row;
 use row_words::pack_rows;
@@ -62,28 +62,19 @@ pub fn lay_rows(
         return empty;
     }
     let arity = empty.arity;
-    let mut data_len = empty.data_len;
-    let mut interval_len = empty.interval_len;
+    let mut lengths = Lengths::of(empty);
     let at = layer_at(empty, arity - 1);
     let first = into[at];
     let mut last = permuted_row(pool, t, columns, first);
-    append_row(into, empty, &mut data_len, &mut interval_len, &last, 0, 0);
+    lengths.append_row(into, empty, &last, 0, 0);
     let mut j = 1;
     while j < n {
         let w = into[at + j];
         let row = permuted_row(pool, t, columns, w);
         let d = common_prefix_len(&last, &row, arity);
-        append_row(
-            into,
-            empty,
-            &mut data_len,
-            &mut interval_len,
-            &row,
-            d,
-            d + 1,
-        );
+        lengths.append_row(into, empty, &row, d, d + 1);
         last = row;
         j += 1;
     }
-    filled(empty, data_len, interval_len)
+    lengths.filled(empty)
 }

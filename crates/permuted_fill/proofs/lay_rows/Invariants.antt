@@ -10,7 +10,7 @@ use Rattle.permuted_rows.specs.Permuted.{rows_permuted}
 use Rattle.permuted_fill.proofs.lay_rows.Given as goal
 
 abbrev pub invariant-loop-j : goal.invariant-loop-j
-invariant-loop-j l = Filled l.empty (sort (rows_permuted l.pool l.t l.columns)) l.initial.into l.into l.data_len l.interval_len l.j × (length l.last ≡ max_arity) × (take l.empty.arity l.last ≡ get_or (sort (rows_permuted l.pool l.t l.columns)) (l.j - 1) [])
+invariant-loop-j l = Filled l.empty (sort (rows_permuted l.pool l.t l.columns)) l.initial.into l.into l.lengths.data l.lengths.intervals l.j × (length l.last ≡ max_arity) × (take l.empty.arity l.last ≡ get_or (sort (rows_permuted l.pool l.t l.columns)) (l.j - 1) [])
 
 abbrev pub decreases-loop-j : goal.decreases-loop-j
 decreases-loop-j l = l.n - l.j
