@@ -1,3 +1,2 @@
-#![tactic(auto)]
-
 // What a build means, of its contract: each number exactly when, what is left, sorted, kept or untouched, and that the outcome is determined. Laws alone, no code.
+#![tactic(auto)]

@@ -5,51 +5,53 @@
 // build the sorted rows are laid in one pass (crate from_sorted); the Rust sorts a copy of them, here they are sorted where they lie.
 #![tactic(auto)]
 
-ghost use Rattle.std.specs.Prelude.{◌≡◌, false, ◌≤◌, replicate};
+ghost use Rattle.std.specs.Prelude.{◌≡◌, ◌≤◌};
+ghost use Rattle.refusal.specs.Number.{given};
 ghost use Rattle.column_trie.specs.Limits.{max_arity};
 ghost use Rattle.from_sorted.specs.Answer.{kept_kinds};
 ghost use Rattle.column_trie_build.specs.Build.{build_number, Builds};
 
 use column_trie::{ColumnTrie, arity_ok, capacity_ok, lies_in};
 use from_sorted::{Built, from_sorted};
+use refusal::Refusal;
 use sort::sort_rows;
 
-// The number of the first check that refuses, or 0.
-fn build_number(words: usize, len: usize, start: usize, arity: usize, capacity: usize) -> u64
-    ensures { result ≡ build_number words len start arity capacity }
+// The first check that refuses.
+fn check(
+    words: usize,
+    len: usize,
+    start: usize,
+    arity: usize,
+    capacity: usize,
+) -> Result<(), Refusal>
+    ensures { given result ≡ build_number words len start arity capacity }
 {
     if !arity_ok(arity) {
-        return 1;
+        return Err(Refusal::BadArity);
     }
     if !capacity_ok(capacity) {
-        return 2;
+        return Err(Refusal::BadCapacity);
     }
     if !lies_in(len, start, arity, capacity) {
-        return 3;
+        return Err(Refusal::OutsidePool);
     }
     if words % arity != 0 {
-        return 4;
+        return Err(Refusal::BadLength);
     }
     if capacity < words / arity {
-        return 5;
+        return Err(Refusal::NoRoom);
     }
-    0
+    Ok(())
 }
 
-// Sets the kinds of the table's columns, all plain before; past the arity they stay so.
-fn keep_kinds(
-    kept: &mut [bool; ColumnTrie::MAX_ARITY],
-    arity: usize,
-    grade: [bool; ColumnTrie::MAX_ARITY],
-)
-    requires { (kept.old ≡ replicate max_arity false) × (arity ≤ max_arity) }
-    ensures { kept.new ≡ kept_kinds arity grade }
+// The kinds of the table's columns; past the arity they are plain.
+fn kept_kinds(arity: usize, grade: [bool; ColumnTrie::MAX_ARITY]) -> [bool; ColumnTrie::MAX_ARITY]
+    requires { arity ≤ max_arity }
+    ensures { result ≡ kept_kinds arity grade }
 {
-    let mut d = 0;
-    while d < arity {
-        kept[d] = grade[d];
-        d += 1;
-    }
+    let mut kept = [false; ColumnTrie::MAX_ARITY];
+    kept[..arity].copy_from_slice(&grade[..arity]);
+    kept
 }
 
 // Sorts the rows in place, lexicographic, and leaves at `start` of the pool a table with each distinct row once, whose columns are of the kinds
@@ -64,18 +66,15 @@ pub fn build(
 ) -> Built
     ensures { Builds rows.old pool.old start arity capacity grade rows.new pool.new result }
 {
-    let number = build_number(rows.len(), pool.len(), start, arity, capacity);
-    if number != 0 {
+    if let Err(refused) = check(rows.len(), pool.len(), start, arity, capacity) {
         return Built {
-            number,
+            number: refused.number(),
             table: ColumnTrie::empty(0, 0, 0),
         };
     }
     sort_rows(rows, arity);
     let mut empty = ColumnTrie::empty(start, arity, capacity);
-    let mut kept = [false; ColumnTrie::MAX_ARITY];
-    keep_kinds(&mut kept, arity, grade);
-    empty.grade = kept;
+    empty.grade = kept_kinds(arity, grade);
     let table = from_sorted(pool, empty, rows);
-    Built { number, table }
+    Built { number: 0, table }
 }

@@ -14,9 +14,11 @@ ghost use Rattle.column_trie_insert.specs.Insert.{Inserts};
 
 use column_trie::{ColumnTrie, begins, layer_at, undamaged};
 use column_trie_path::{Path, find_path, top};
+use refusal::Refusal;
 use wedge::{raise, wedge, wedge_raised};
 
-// Puts `key` at place `at` of layer d, under parent i, which has its interval already unless it is `fresh`. The header comes back with the lengths.
+// Puts `key` at place `at` of layer d, under parent i, which has its interval already unless it is `fresh`. The header comes back with the lengths. It is no
+// one function with a removal's `cut_layer`: the two share only the reading of the header, and ask for opposite things, room and a key that is there.
 fn add_layer(
     pool: &mut [u64],
     t: ColumnTrie,
@@ -51,18 +53,16 @@ fn add_row(pool: &mut [u64], t: ColumnTrie, tuple: &[u64], path: Path) -> Column
     ensures { RowAdded pool.old pool.new t tuple.now result }
 {
     let mut out = t;
-    let mut d = path.depth;
     let mut i = path.interval;
     let mut at = path.at;
     let mut fresh = t.tuple_count == 0;
-    while d < t.arity {
+    for d in path.depth..t.arity {
         if fresh {
             at = begins(pool, out, d, i);
         }
         out = add_layer(pool, out, d, i, at, tuple[d], fresh);
         i = at;
         fresh = true;
-        d += 1;
     }
     out.tuple_count = t.tuple_count + 1;
     out
@@ -77,7 +77,7 @@ pub struct Inserted {
     pub table: ColumnTrie,
 }
 
-// Nothing is changed, and nothing was new.
+// Nothing is changed, and nothing was new. A removal has its own, since C knows `Inserted` and `Removed` as two structs.
 fn unchanged(number: u64, table: ColumnTrie) -> Inserted
     ensures { (result.number ≡ number) × (result.is_new ≡ false) × (result.table ≡ table) }
 {
@@ -93,20 +93,21 @@ pub fn insert(pool: &mut [u64], table: ColumnTrie, tuple: &[u64]) -> Inserted
     ensures { Inserts pool.old pool.new table tuple.now result }
 {
     if !undamaged(pool, table) {
-        return unchanged(6, table);
+        return unchanged(Refusal::Damaged.number(), table);
     }
     if tuple.len() != table.arity {
-        return unchanged(4, table);
+        return unchanged(Refusal::BadLength.number(), table);
     }
-    let mut path = top();
-    if table.tuple_count != 0 {
-        path = find_path(pool, table, tuple);
-    }
+    let path = if table.tuple_count == 0 {
+        top()
+    } else {
+        find_path(pool, table, tuple)
+    };
     if path.depth == table.arity {
         return unchanged(0, table);
     }
     if table.tuple_count == table.capacity {
-        return unchanged(5, table);
+        return unchanged(Refusal::NoRoom.number(), table);
     }
     let grown = add_row(pool, table, tuple, path);
     Inserted {

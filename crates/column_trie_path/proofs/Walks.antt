@@ -26,7 +26,8 @@ use Rattle.relation.proofs.Insert.{PrefixStored, rank_of, descend, branch, root}
 use Rattle.column_trie.specs.Groups.{group_from, group_to}
 use Rattle.column_trie_path.specs.declared.Fork.{Fork}
 use Rattle.column_trie_path.specs.declared.KeyPlace.{KeyPlace}
-use Rattle.column_trie_path.specs.Place.{Grouped, KeyPlaceOf, PathOf, Another, ForkOf, NoFork}
+use Rattle.column_trie_path.specs.Place.{Grouped, KeyPlaceOf, PathOf, Another, ForkOf, LastFork}
+use Rattle.std.specs.Prelude.{Option, Some, None}
 
 -- the groups of a relation's layer
 grouped : (a : ℕ) (rows : List Row) (d i : ℕ) → Width a rows → d < a → i < length (prefixes d rows) → Grouped (ranked_at d rows) i
@@ -64,12 +65,12 @@ walking_start a [] r h = absurd (omega arith)
 walking_start a (q ∷ qs) r h = let z = root {rows = q ∷ qs} r (hd refl) in record { inside = omega arith; stored = z.0; place = sym z.1 }
 
 -- and the last fork on the way is known
-pub record Descending (a : ℕ) (rows : List Row) (r : Row) (d i : ℕ) (f : Fork) : Type 0 where
+pub record Descending (a : ℕ) (rows : List Row) (r : Row) (d i : ℕ) (f : Option Fork) : Type 0 where
   pub walk : Walking a rows r d i
-  pub fork : NoFork rows r d f ⊎ ForkOf rows r d f
+  pub fork : LastFork rows r d f
 
-pub descending_start : (a : ℕ) (rows : List Row) (r : Row) (f : Fork) → f.depth ≡ 0 → f.interval ≡ 0 → 0 < length rows → Descending a rows r 0 0 f
-descending_start a rows r f x y h = record { walk = walking_start a rows r h; fork = inl (record { depth = x; interval = y; alone = λ q m e. e }) }
+pub descending_start : (a : ℕ) (rows : List Row) (r : Row) → 0 < length rows → Descending a rows r 0 0 None
+descending_start a rows r h = record { walk = walking_start a rows r h; fork = λ q m e. e }
 
 module _ {a : ℕ} {rows : List Row} {r : Row} {d i : ℕ} (w : Width a rows) (lr : length r ≡ a) (v : Walking a rows r d i) (h : d < a) where
   index_inside : i < length (prefixes d rows)
@@ -138,12 +139,12 @@ module _ {a : ℕ} {rows : List Row} {r : Row} {d i : ℕ} (w : Width a rows) (l
       fork_here : p.several ≡ true → ForkOf rows r (d + 1) (record { depth = d; interval = i; at = p.at })
       fork_here o = record { above = omega arith; interval = v.place; place = sym found.1; another = another_here o; alone = λ x m s. subst (λ (n : ℕ). take n x ≡ take n r) (sym (add-one d)) s }
 
-      fork_above : p.several ≡ false → {k : Fork} → NoFork rows r d k ⊎ ForkOf rows r d k → NoFork rows r (d + 1) k ⊎ ForkOf rows r (d + 1) k
-      fork_above o (inl y) = inl (record { depth = y.depth; interval = y.interval; alone = λ x m s. deeper x m (y.alone x m s) })
+      fork_above : p.several ≡ false → (k : Option Fork) → LastFork rows r d k → LastFork rows r (d + 1) k
+      fork_above o None y = λ x m s. deeper x m (y x m s)
         where
           deeper : (x : Row) → x ∈ rows → take d x ≡ take d r → take (d + 1) x ≡ take (d + 1) r
           deeper x m s = subst (λ (n : ℕ). take n x ≡ take n r) (sym (add-one d)) (alone_deeper o x m s)
-      fork_above o (inr y) = inr (record { above = omega (arith, y.above); interval = y.interval; place = y.place; another = y.another; alone = λ x m s. subst (λ (n : ℕ). take n x ≡ take n r) (sym (add-one d)) (alone_deeper o x m (y.alone x m s)) })
+      fork_above o (Some f) y = record { above = omega (arith, y.above); interval = y.interval; place = y.place; another = y.another; alone = λ x m s. subst (λ (n : ℕ). take n x ≡ take n r) (sym (add-one d)) (alone_deeper o x m (y.alone x m s)) }
 
     walking_found : p.there ≡ true → Walking a rows r (d + 1) p.at
     walking_found f =
@@ -156,11 +157,11 @@ module _ {a : ℕ} {rows : List Row} {r : Row} {d i : ℕ} (w : Width a rows) (l
         }
 
     -- one layer further, the fork kept or replaced
-    pub descending_next : p.there ≡ true → {k k' : Fork} → NoFork rows r d k ⊎ ForkOf rows r d k → ((p.several ≡ true) × (k' ≡ record { depth = d; interval = i; at = p.at })) ⊎ ((p.several ≡ false) × (k' ≡ k)) → Descending a rows r (d + 1) p.at k'
-    descending_next f y (inl z) = record { walk = walking_found f; fork = inr (subst (λ (x : Fork). ForkOf rows r (d + 1) x) (sym z.1) (fork_here f z.0)) }
-    descending_next f {k} y (inr z) = record { walk = walking_found f; fork = subst (λ (x : Fork). NoFork rows r (d + 1) x ⊎ ForkOf rows r (d + 1) x) (sym z.1) (fork_above f z.0 {k = k} y) }
+    pub descending_next : p.there ≡ true → {k k' : Option Fork} → LastFork rows r d k → ((p.several ≡ true) × (k' ≡ Some (record { depth = d; interval = i; at = p.at }))) ⊎ ((p.several ≡ false) × (k' ≡ k)) → Descending a rows r (d + 1) p.at k'
+    descending_next f y (inl z) = record { walk = walking_found f; fork = subst (LastFork rows r (d + 1)) (sym z.1) (fork_here f z.0) }
+    descending_next f {k} y (inr z) = record { walk = walking_found f; fork = subst (LastFork rows r (d + 1)) (sym z.1) (fork_above f z.0 k y) }
 
-    pub walking_left : p.there ≡ false → {k : Fork} → NoFork rows r d k ⊎ ForkOf rows r d k → PathOf a rows r (record { depth = d; interval = i; at = p.at; fork = k })
+    pub walking_left : p.there ≡ false → {k : Option Fork} → LastFork rows r d k → PathOf a rows r (record { depth = d; interval = i; at = p.at; fork = k })
     walking_left f z =
         let s = branch a rows r w lr d p.at h v.stored from
         (subst (λ (n : ℕ). p.at ≤ get_or (intervals_at d rows) (suc n) (length (keys_at d rows))) v.place q.to)
@@ -168,5 +169,14 @@ module _ {a : ℕ} {rows : List Row} {r : Row} {d i : ℕ} (w : Width a rows) (l
         (λ x. subst (λ (z : ℕ). z < get_or (keys_at d rows) p.at 0) e (q.absent f (subst (λ (n : ℕ). p.at < get_or (intervals_at d rows) (suc n) (length (keys_at d rows))) (sym v.place) x))) in
         record { depth = omega arith; stored = v.stored; interval = v.place; leaves = λ k. s.0; place = λ k. sym s.1; fork = z }
 
-pub walking_end : {a : ℕ} {rows : List Row} {r : Row} {d i : ℕ} {k : Fork} → Walking a rows r d i → NoFork rows r d k ⊎ ForkOf rows r d k → a ≤ d → PathOf a rows r (record { depth = d; interval = i; at = i; fork = k })
-walking_end v z h = record { depth = v.inside; stored = v.stored; interval = v.place; leaves = λ k. absurd (omega arith); place = λ k. absurd (omega arith); fork = z }
+pub walking_end : {a : ℕ} {rows : List Row} {r : Row} {d i : ℕ} {k : Option Fork} → Walking a rows r d i → LastFork rows r d k → a ≤ d → PathOf a rows r (record { depth = a; interval = i; at = i; fork = k })
+walking_end {a} {rows} {r} {d} {k = k} v z h =
+    let e : d ≡ a = omega (arith, v.inside) in
+    record {
+      depth = omega arith;
+      stored = subst (PrefixStored rows r) e v.stored;
+      interval = v.place ∙ ap (rank_of rows r) e;
+      leaves = λ l. absurd (omega arith);
+      place = λ l. absurd (omega arith);
+      fork = subst (λ (n : ℕ). LastFork rows r n k) e z;
+    }

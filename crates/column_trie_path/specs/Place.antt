@@ -1,5 +1,5 @@
 -- Internal: where a key stands in its group, or where it goes, and how far a tuple's keys are stored.
-use Rattle.std.specs.Prelude.{ℕ, suc, ◌-◌, ◌≤◌, ◌<◌, ◌≡◌, true, false, ◌⊎◌, List, length, take, get_or, ltb}
+use Rattle.std.specs.Prelude.{ℕ, suc, ◌-◌, ◌≤◌, ◌<◌, ◌≡◌, true, false, Option, Some, None, List, length, take, get_or, ltb}
 use Rattle.relation.specs.Order.{Row}
 use Rattle.relation.specs.Lists.{◌∈◌}
 use Rattle.relation.specs.Layers.{Layer}
@@ -46,11 +46,10 @@ pub record ForkOf (rows : List Row) (r : Row) (d : ℕ) (f : Fork) : Type 0 wher
   pub another : Another rows r f.depth
   pub alone : Alone rows r (suc f.depth) d
 
--- there is none: all rows share r's first d words
-pub record NoFork (rows : List Row) (r : Row) (d : ℕ) (f : Fork) : Type 0 where
-  pub depth : f.depth ≡ 0
-  pub interval : f.interval ≡ 0
-  pub alone : Alone rows r 0 d
+-- f is that fork; where there is none, all rows share r's first d words
+abbrev pub LastFork : List Row → Row → ℕ → Option Fork → Type 0
+LastFork rows r d None = Alone rows r 0 d
+LastFork rows r d (Some f) = ForkOf rows r d f
 
 -- how many of the tuple's leading keys are stored, the place of the last of them, and the place of the next, which isn't; and the last fork
 -- on the way
@@ -60,4 +59,4 @@ pub record PathOf (a : ℕ) (rows : List Row) (r : Row) (p : Path) : Type 0 wher
   pub interval : p.interval ≡ rank_of rows r p.depth
   pub leaves : p.depth < a → PrefixStored rows r (suc p.depth) → ⊥
   pub place : p.depth < a → p.at ≡ rank_of rows r (suc p.depth)
-  pub fork : NoFork rows r p.depth p.fork ⊎ ForkOf rows r p.depth p.fork
+  pub fork : LastFork rows r p.depth p.fork

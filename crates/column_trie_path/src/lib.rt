@@ -9,7 +9,7 @@ use column_trie::{ColumnTrie, begins, layer_at};
 use seek::{SeekStrategy, partition_point};
 
 // Where a key stands in its group, or where it goes; whether the group has more than one key; and how many keys the search looked at. Nobody asks for
-// that number: it is there so that the contract can bound it.
+// that number: it is there so that the contract can bound it. `there` is no Option's flag: `at` counts in both cases.
 #[derive(Clone, Copy)]
 pub struct KeyPlace {
     pub at: usize,
@@ -27,29 +27,24 @@ pub struct Fork {
 }
 
 // How many leading keys of a tuple are stored, the place of the last of them in its layer, and the place where the next one goes. The fork is the
-// last group on the way that has more than one key: below it the stored keys lead to one row alone.
+// last group on the way that has more than one key, if one has: below it the stored keys lead to one row alone.
 #[derive(Clone, Copy)]
 pub struct Path {
     pub depth: usize,
     pub interval: usize,
     pub at: usize,
-    pub fork: Fork,
+    pub fork: Option<Fork>,
 }
 
 // The path of any tuple in a table without rows.
 pub fn top() -> Path
     ensures { (result.depth ≡ 0) × (result.interval ≡ 0) }
 {
-    let fork = Fork {
-        depth: 0,
-        interval: 0,
-        at: 0,
-    };
     Path {
         depth: 0,
         interval: 0,
         at: 0,
-        fork,
+        fork: None,
     }
 }
 
@@ -79,14 +74,9 @@ pub fn find_path(pool: &[u64], t: ColumnTrie, tuple: &[u64]) -> Path
     requires { (undamaged pool.now t ≡ true) × (length tuple.now ≡ t.arity) × (0 < t.tuple_count) }
     ensures { PathOf t.arity (rows_in pool.now t) tuple.now result }
 {
-    let mut d = 0;
     let mut i = 0;
-    let mut fork = Fork {
-        depth: 0,
-        interval: 0,
-        at: 0,
-    };
-    while d < t.arity {
+    let mut fork = None;
+    for d in 0..t.arity {
         let p = find_place(pool, t, d, i, tuple[d]);
         if !p.there {
             return Path {
@@ -102,13 +92,12 @@ pub fn find_path(pool: &[u64], t: ColumnTrie, tuple: &[u64]) -> Path
                 interval: i,
                 at: p.at,
             };
-            fork = last;
+            fork = Some(last);
         }
         i = p.at;
-        d += 1;
     }
     Path {
-        depth: d,
+        depth: t.arity,
         interval: i,
         at: i,
         fork,

@@ -3,7 +3,6 @@
 use Prim.Native.Nat.{ℕ}
 use mathlib.Core.Path.{◌≡◌, sym, ap, subst, ◌∙◌}
 use mathlib.Core.Bool.{Bool, true, false, ◌&&◌}
-use mathlib.Core.Logic.{◌⊎◌}
 use mathlib.Core.List.{List, []}
 use native.Mathlib.Omega.{arith}
 use lib.Arith.{lt_of_le-ne}
@@ -21,7 +20,7 @@ use Rattle.column_trie.proofs.Damage.{undamaged_told}
 use Rattle.column_trie.proofs.Tables.{Holds, holds}
 use Rattle.column_trie_path.specs.declared.Path.{Path}
 use Rattle.column_trie_path.specs.Known.{known}
-use Rattle.column_trie_path.specs.Place.{PathOf, NoFork, ForkOf}
+use Rattle.column_trie_path.specs.Place.{PathOf, LastFork}
 use Rattle.column_trie_path.proofs.Known.{in_known, not_known}
 use Rattle.column_trie_path.proofs.Paths.{path_there, path_absent}
 use Rattle.column_trie_remove.specs.declared.Removed.{Removed}
@@ -99,7 +98,7 @@ module _ {pool : List ℕ} {t : ColumnTrie} {tuple : Row} (l : Accepted pool t t
           record {
             undamaged = l.sound;
             there = found;
-            fork = subst (λ (d : ℕ). NoFork (rows_in pool t) tuple d p.fork ⊎ ForkOf (rows_in pool t) tuple d p.fork) e q.fork;
+            fork = subst (λ (d : ℕ). LastFork (rows_in pool t) tuple d p.fork) e q.fork;
           }
 
       takes : takes_out pool t tuple ≡ true

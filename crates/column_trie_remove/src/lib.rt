@@ -13,6 +13,7 @@ ghost use Rattle.column_trie_remove.specs.Remove.{Removes};
 
 use column_trie::{ColumnTrie, begins, layer_at, undamaged};
 use column_trie_path::{Fork, find_path};
+use refusal::Refusal;
 use wedge::{close, close_lowered, lower};
 
 // Takes the key at place `at` out of layer d. Its parent i loses its interval if that was its only key. The header comes back with the lengths.
@@ -45,23 +46,22 @@ fn cut_layer(
 
 // Takes out a row's keys from the fork down, layer by layer: in the fork's group others stay, below it each key is its parent's only one. The only row of
 // a table has no fork: its keys go from the top.
-fn cut_row(pool: &mut [u64], t: ColumnTrie, fork: Fork) -> ColumnTrie
+fn cut_row(pool: &mut [u64], t: ColumnTrie, fork: Option<Fork>) -> ColumnTrie
     requires { ForkedSome pool.old t fork }
     ensures { ForkCut pool.old pool.new t fork result }
 {
     let mut out = t;
-    let mut d = fork.depth;
-    let mut i = fork.interval;
-    let mut at = fork.at;
-    let mut lone = t.tuple_count == 1;
-    while d < t.arity {
+    let (depth, mut i, mut at, mut lone) = match fork {
+        Some(f) => (f.depth, f.interval, f.at, false),
+        None => (0, 0, 0, true),
+    };
+    for d in depth..t.arity {
         if lone {
             at = begins(pool, out, d, i);
         }
         out = cut_layer(pool, out, d, i, at, lone);
         i = at;
         lone = true;
-        d += 1;
     }
     out.tuple_count = t.tuple_count - 1;
     out
@@ -76,7 +76,7 @@ pub struct Removed {
     pub table: ColumnTrie,
 }
 
-// Nothing is changed, and nothing was there.
+// Nothing is changed, and nothing was there. An insert has its own, since C knows `Inserted` and `Removed` as two structs.
 fn unchanged(number: u64, table: ColumnTrie) -> Removed
     ensures { (result.number ≡ number) × (result.was_there ≡ false) × (result.table ≡ table) }
 {
@@ -92,10 +92,10 @@ pub fn remove(pool: &mut [u64], table: ColumnTrie, tuple: &[u64]) -> Removed
     ensures { Removes pool.old pool.new table tuple.now result }
 {
     if !undamaged(pool, table) {
-        return unchanged(6, table);
+        return unchanged(Refusal::Damaged.number(), table);
     }
     if tuple.len() != table.arity {
-        return unchanged(4, table);
+        return unchanged(Refusal::BadLength.number(), table);
     }
     if table.tuple_count == 0 {
         return unchanged(0, table);
@@ -104,8 +104,7 @@ pub fn remove(pool: &mut [u64], table: ColumnTrie, tuple: &[u64]) -> Removed
     if path.depth != table.arity {
         return unchanged(0, table);
     }
-    let fork = path.fork;
-    let shrunk = cut_row(pool, table, fork);
+    let shrunk = cut_row(pool, table, path.fork);
     Removed {
         number: 0,
         was_there: true,

@@ -16,7 +16,7 @@ ghost use Rattle.file_read.specs.Read.{Reads};
 use column_trie::{ColumnTrie, capacity_ok, lies_in};
 use file_bytes::read_row;
 use file_check::{Checked, check, row_place};
-use from_sorted::{Built, append_row, common_prefix_len, filled};
+use from_sorted::{Built, Lengths, common_prefix_len};
 
 // The number of the first check that refuses, or 0.
 fn file_number(file: Checked, len: usize, start: usize, capacity: usize) -> u64
@@ -64,21 +64,20 @@ fn load(bytes: &[u8], at: usize, n: usize, pool: &mut [u64], t: ColumnTrie) -> C
         return t;
     }
     let arity = t.arity;
-    let mut data_len = t.data_len;
-    let mut interval_len = t.interval_len;
+    let mut lengths = Lengths::of(t);
     let first = row_place(at, arity, 0);
     let mut last = read_row(bytes, first, arity);
-    append_row(pool, t, &mut data_len, &mut interval_len, &last, 0, 0);
+    lengths.append_row(pool, t, &last, 0, 0);
     let mut i = 1;
     while i < n {
         let place = row_place(at, arity, i);
         let row = read_row(bytes, place, arity);
         let d = common_prefix_len(&last, &row, arity);
-        append_row(pool, t, &mut data_len, &mut interval_len, &row, d, d + 1);
+        lengths.append_row(pool, t, &row, d, d + 1);
         last = row;
         i += 1;
     }
-    filled(t, data_len, interval_len)
+    lengths.filled(t)
 }
 
 // Leaves at `start` of the pool the table that the bytes are, with the capacity given.

@@ -1,7 +1,7 @@
 -- A row pushed column by column: the layers passed are the new ones, those ahead the old ones; one key or interval more is one word more in the
 -- pool and one more in a length.
 use Prim.Native.Nat.{ℕ, suc, ◌+◌, ◌*◌, ◌≤◌, ◌<◌}
-use mathlib.Core.Path.{◌≡◌, refl, sym, ap, ap₂, ◌∙◌, subst, subst₂}
+use mathlib.Core.Path.{◌≡◌, refl, sym, ap, ap₂, ◌∙◌, subst}
 use mathlib.Core.List.{List, [], ◌∷◌, ◌++◌, append-nil}
 use native.Mathlib.Omega.{arith}
 use native.Mathlib.Numerals.{add-one}
@@ -18,7 +18,7 @@ use Rattle.column_trie.proofs.Pool.{Room, store_key, store_interval}
 use Rattle.column_trie.specs.Table.{key_counts, interval_counts}
 use Rattle.column_trie.proofs.Lengths.{keys_at_lem, intervals_at}
 use Rattle.from_sorted.specs.Push.{Appends, keyed, opened, Turn}
-use Rattle.from_sorted.proofs.Lengths.{keys_keyed, intervals_keyed, keys_opened, intervals_opened}
+use Rattle.from_sorted.proofs.Counts.{keys_keyed, intervals_keyed, keys_opened, intervals_opened}
 
 -- ---- layers passed and layers ahead
 
@@ -128,9 +128,6 @@ pub record Ready (t : ColumnTrie) (pool₀ : List ℕ) (old new : List Layer) (d
   pub held : Held t pool₀ old pool ks is layers
   pub spare : length (layer layers d).keys < t.capacity
   pub next : set layers d (keyed k (layer layers d)) ≡ mid (suc d) old new
-
-pub ready_is : {t : ColumnTrie} {pool₀ : List ℕ} {old new : List Layer} {d k : ℕ} {pool pool' ks is is' : List ℕ} → pool ≡ pool' → is ≡ is' → Ready t pool₀ old new d k pool' ks is' → Ready t pool₀ old new d k pool ks is
-ready_is {t} {pool₀} {old} {new} {d} {k} {ks = ks} e f r = subst₂ (λ (p i : List ℕ). Ready t pool₀ old new d k p ks i) (sym e) (sym f) r
 
 module _ {t : ColumnTrie} {pool₀ : List ℕ} {old new : List Layer} {row : Row} {from opens : ℕ} (g : Setting (length pool₀) t old new row from opens) where
   -- layer d lies in the pool

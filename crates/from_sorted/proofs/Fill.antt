@@ -106,9 +106,9 @@ module _ {len : ℕ} {t : ColumnTrie} {rows : List Row} (f : Filling len t rows)
         turn = subst (λ (rs : List Row). Turn t.arity (layers_of t.arity (take i rows)) (layers_of t.arity rs) (get_or rows i []) from opens) (next_row rows i h) r;
       }
 
-  pub pushing_first : 0 < length rows → Pushing len t t.data_len t.interval_len (take 0 rows) (get_or rows 0 []) 0 0
-  pushing_first h =
-      pushing {i = 0} h (ap (λ (u : ColumnTrie). u.data_len) f.empty ∙ sym (keys_none t.arity f.few)) (ap (λ (u : ColumnTrie). u.interval_len) f.empty ∙ sym (intervals_none t.arity f.few))
+  pub pushing_first : {ks is : List ℕ} → (ks ≡ t.data_len) × (is ≡ t.interval_len) → 0 < length rows → Pushing len t ks is (take 0 rows) (get_or rows 0 []) 0 0
+  pushing_first e h =
+      pushing {i = 0} h (e.0 ∙ ap (λ (u : ColumnTrie). u.data_len) f.empty ∙ sym (keys_none t.arity f.few)) (e.1 ∙ ap (λ (u : ColumnTrie). u.interval_len) f.empty ∙ sym (intervals_none t.arity f.few))
       (turn_one f.positive w h)
 
   pub filled_first : {pool pool' ks is : List ℕ} → 0 < length rows → Pushes pool t (take 0 rows) (get_or rows 0 []) pool' ks is → Filled t rows pool' pool' ks is 1

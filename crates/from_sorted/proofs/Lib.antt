@@ -4,6 +4,6 @@ pub mod Taken
 pub mod Fill
 pub mod Ranges
 mod Columns
-mod Lengths
+mod Counts
 mod Shared
 mod Turns

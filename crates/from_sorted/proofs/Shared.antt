@@ -50,7 +50,7 @@ module _ {a : ℕ} {x y : List ℕ} {k : ℕ} (h : (a ≤ length x) × (a ≤ le
       let e : shared (drop k (take a x)) (drop k (take a y)) ≡ suc (shared (drop (k + 1) (take a x)) (drop (k + 1) (take a y))) = heads b ∙ shared_same (get_or x k 0) (get_or y k 0) (drop (k + 1) (take a x)) (drop (k + 1) (take a y)) n in
       record { inside = omega arith; goes = omega (arith, s.goes) }
 
-  pub sharing_end : a ≤ k → k ≡ shared (take a x) (take a y)
+  pub sharing_end : a ≤ k → a ≡ shared (take a x) (take a y)
   sharing_end b =
       let e : shared (drop k (take a x)) (drop k (take a y)) ≡ 0 = ap (λ (r : Row). shared r (drop k (take a y))) (drop_of_length-le (take a x) {i = k} (omega (arith, length-take-le a x h.0))) ∙ shared_none (drop k (take a y)) in
-      omega (arith, s.goes)
+      omega (arith, s.inside, s.goes)

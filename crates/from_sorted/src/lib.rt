@@ -23,14 +23,12 @@ pub fn common_prefix_len(x: &[u64], y: &[u64], arity: usize) -> usize
     requires { (arity ≤ length x.now) × (arity ≤ length y.now) }
     ensures { result ≡ shared (take arity x.now) (take arity y.now) }
 {
-    let mut k = 0;
-    while k < arity {
+    for k in 0..arity {
         if x[k] != y[k] {
             return k;
         }
-        k += 1;
     }
-    k
+    arity
 }
 
 // Appends the word to the list that lies at `at` of the pool and whose length is len[d].
@@ -49,59 +47,63 @@ fn append(
     len[d] = n + 1;
 }
 
-// Appends the row, the first words of `row`, to a table that holds rows before it: its keys from column `from` on, those from column `opens` on under
-// a new interval, which begins at the end of its layer's keys. The table lies where t says, and its lengths are those lent.
-pub fn append_row(
-    pool: &mut [u64],
-    t: ColumnTrie,
-    data_len: &mut [usize; ColumnTrie::MAX_ARITY],
-    interval_len: &mut [usize; ColumnTrie::MAX_ARITY],
-    row: &[u64],
-    from: usize,
-    opens: usize,
-)
-    requires { CanPush (length pool.old) t data_len.old interval_len.old (take t.arity row.now) from opens }
-    ensures { Pushed pool.old t data_len.old interval_len.old (take t.arity row.now) from opens pool.new data_len.new interval_len.new }
-{
-    let arity = t.arity;
-    let mut d = from;
-    while d < arity {
-        let at = layer_at(t, d);
-        if opens <= d {
-            let begin = data_len[d] as u64;
-            append(pool, at + t.capacity, interval_len, d, begin);
-        }
-        append(pool, at, data_len, d, row[d]);
-        d += 1;
-    }
+// How long the lists of a table's layers are while it is filled. They are kept beside the header until the end: a header by value would be copied for
+// each key.
+#[derive(Clone, Copy)]
+pub struct Lengths {
+    pub data: [usize; ColumnTrie::MAX_ARITY],
+    pub intervals: [usize; ColumnTrie::MAX_ARITY],
 }
 
-// The header of the table whose lengths these are: a stored row has a key of its own in the last layer.
-pub fn filled(
-    t: ColumnTrie,
-    data_len: [usize; ColumnTrie::MAX_ARITY],
-    interval_len: [usize; ColumnTrie::MAX_ARITY],
-) -> ColumnTrie
-    requires { (0 < t.arity) × (t.arity ≤ max_arity) }
-    ensures { result ≡ relengthed t data_len interval_len (get_or data_len (t.arity - 1) 0) }
-{
-    let arity = t.arity;
-    let tuple_count = data_len[arity - 1];
-    let grade = t.grade;
-    ColumnTrie {
-        start: t.start,
-        arity,
-        capacity: t.capacity,
-        data_len,
-        interval_len,
-        tuple_count,
-        grade,
+impl Lengths {
+    // Those that a header has.
+    pub fn of(t: ColumnTrie) -> Lengths
+        ensures { (result.data ≡ t.data_len) × (result.intervals ≡ t.interval_len) }
+    {
+        let data = t.data_len;
+        let intervals = t.interval_len;
+        Lengths { data, intervals }
+    }
+
+    // Appends the row, the first words of `row`, to a table that holds rows before it: its keys from column `from` on, those from column `opens` on under
+    // a new interval, which begins at the end of its layer's keys. The table lies where t says, and its lengths are these.
+    pub fn append_row(
+        &mut self,
+        pool: &mut [u64],
+        t: ColumnTrie,
+        row: &[u64],
+        from: usize,
+        opens: usize,
+    )
+        requires { CanPush (length pool.old) t self.old.data self.old.intervals (take t.arity row.now) from opens }
+        ensures { Pushed pool.old t self.old.data self.old.intervals (take t.arity row.now) from opens pool.new self.new.data self.new.intervals }
+    {
+        for d in from..t.arity {
+            let at = layer_at(t, d);
+            if opens <= d {
+                let begin = self.data[d] as u64;
+                append(pool, at + t.capacity, &mut self.intervals, d, begin);
+            }
+            append(pool, at, &mut self.data, d, row[d]);
+        }
+    }
+
+    // The header of the table whose lengths these are: a stored row has a key of its own in the last layer.
+    pub fn filled(self, t: ColumnTrie) -> ColumnTrie
+        requires { (0 < t.arity) × (t.arity ≤ max_arity) }
+        ensures { result ≡ relengthed t self.data self.intervals (get_or self.data (t.arity - 1) 0) }
+    {
+        ColumnTrie {
+            data_len: self.data,
+            interval_len: self.intervals,
+            tuple_count: self.data[t.arity - 1],
+            ..t
+        }
     }
 }
 
 // Fills the empty table t with the rows, which are sorted, in one pass: a row appends its keys from the first column on in which it differs from
-// the row before it, each but the first under a new interval; one that is equal to it appends nothing. The lengths are kept beside the header
-// until the end: a header by value would be copied for each key.
+// the row before it, each but the first under a new interval; one that is equal to it appends nothing.
 pub fn from_sorted(pool: &mut [u64], t: ColumnTrie, rows: &[u64]) -> ColumnTrie
     requires { Filling (length pool.old) t (rows_given t.arity rows.now) }
     ensures { Fills pool.old t (rows_given t.arity rows.now) pool.new result }
@@ -111,26 +113,15 @@ pub fn from_sorted(pool: &mut [u64], t: ColumnTrie, rows: &[u64]) -> ColumnTrie
     if n == 0 {
         return t;
     }
-    let mut data_len = t.data_len;
-    let mut interval_len = t.interval_len;
-    append_row(pool, t, &mut data_len, &mut interval_len, rows, 0, 0);
-    let mut i = 1;
-    while i < n {
+    let mut lengths = Lengths::of(t);
+    lengths.append_row(pool, t, rows, 0, 0);
+    for i in 1..n {
         let y = i * arity;
         let x = y - arity;
         let d = common_prefix_len(&rows[x..], &rows[y..], arity);
         if d < arity {
-            append_row(
-                pool,
-                t,
-                &mut data_len,
-                &mut interval_len,
-                &rows[y..],
-                d,
-                d + 1,
-            );
+            lengths.append_row(pool, t, &rows[y..], d, d + 1);
         }
-        i += 1;
     }
-    filled(t, data_len, interval_len)
+    lengths.filled(t)
 }

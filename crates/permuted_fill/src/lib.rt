@@ -11,7 +11,7 @@ ghost use Rattle.permuted_rows.specs.Seen.{rows_seen};
 ghost use Rattle.permuted_fill.specs.Ranks.{Ranked, RankedIn, Laying};
 
 use column_trie::{ColumnTrie, layer_at};
-use from_sorted::{append_row, common_prefix_len, filled};
+use from_sorted::{Lengths, common_prefix_len};
 use number_sort::sort_numbers;
 use permuted_rows::Permuted;
 use row_words::pack_rows;
@@ -44,26 +44,17 @@ pub fn lay_rows(rows: &Permuted, into: &mut [u64], empty: ColumnTrie) -> ColumnT
         return empty;
     }
     let arity = empty.arity;
-    let mut data_len = empty.data_len;
-    let mut interval_len = empty.interval_len;
+    let mut lengths = Lengths::of(empty);
     let at = layer_at(empty, arity - 1);
     let first = into[at];
     let mut last = rows.row(first);
-    append_row(into, empty, &mut data_len, &mut interval_len, &last, 0, 0);
+    lengths.append_row(into, empty, &last, 0, 0);
     for j in 1..n {
         let w = into[at + j];
         let row = rows.row(w);
         let d = common_prefix_len(&last, &row, arity);
-        append_row(
-            into,
-            empty,
-            &mut data_len,
-            &mut interval_len,
-            &row,
-            d,
-            d + 1,
-        );
+        lengths.append_row(into, empty, &row, d, d + 1);
         last = row;
     }
-    filled(empty, data_len, interval_len)
+    lengths.filled(empty)
 }

@@ -25,11 +25,9 @@ pub fn key_of(pool: &[u64], t: ColumnTrie, i: usize, d: usize) -> u64
     requires { (undamaged pool.now t ≡ true) × (i < t.tuple_count) × (d < t.arity) }
     ensures { result ≡ get_or (get_or (rows_in pool.now t) i []) d 0 }
 {
-    let mut e = t.arity - 1;
     let mut place = i;
-    while d < e {
+    for e in (d + 1..t.arity).rev() {
         place = parent_of(pool, t, e, place);
-        e -= 1;
     }
     let at = layer_at(t, d);
     pool[at + place]

@@ -15,15 +15,12 @@ pub fn next_path(pool: &[u64], t: ColumnTrie, path: &mut [usize; ColumnTrie::MAX
     requires { (undamaged pool.now t ≡ true) × (i < t.tuple_count) × OnPath (layers_in pool.now t) (i - 1) path.old }
     ensures { OnPath (layers_in pool.now t) i path.new }
 {
-    let mut d = t.arity - 1;
-    path[d] = i;
-    while 0 < d {
-        let above = d - 1;
-        let next = path[above] + 1;
+    path[t.arity - 1] = i;
+    for d in (1..t.arity).rev() {
+        let next = path[d - 1] + 1;
         let from = begins(pool, t, d, next);
         if from <= path[d] {
-            path[above] = next;
+            path[d - 1] = next;
         }
-        d = above;
     }
 }

@@ -1,20 +1,19 @@
--- Words that become one more, or one less: where the loop stands, and that in the end they are laid as the contract says. A new word whose later ones
+-- Words that become one more, or one less: what the loop leaves, and that in the end they are laid as the contract says. A new word whose later ones
 -- become one more is a shift, and then a raise of what stands behind it; a word that goes, and whose later ones become one less, likewise.
 use Prim.Native.Nat.{ℕ, zero, suc, ◌+◌, ◌-◌, ◌≤◌, ◌<◌, ◌^◌}
 use mathlib.Core.Path.{◌≡◌, refl, sym, ap, ap₂, subst, ◌∙◌}
-use mathlib.Core.Logic.{◌⊎◌, inl, inr}
-use mathlib.Core.List.{List, [], ◌∷◌, ◌++◌, map}
+use mathlib.Core.List.{List, [], ◌∷◌, ◌++◌, map, append-nil}
 use native.Mathlib.Omega.{arith}
-use native.Mathlib.Decide.{dec_lt}
 use native.Mathlib.Numerals.{add-one}
-use lib.ListN.{length, take, drop, get_or, set, length-set, length-map}
-use lib.Seq.{ext_get_or, get_or-set_same, get_or-set_other}
+use lib.ListN.{length, take, drop, get_or, set, length-map, drop_of_length-le}
+use lib.Seq.{take_all, drop-drop}
+use Rattle.std.proofs.lemmas.List.{drop-take}
 use Rattle.column_trie.specs.Pool.{lay}
-use Rattle.column_trie.proofs.Pool.{lay_length, lay_in, lay_out, lay_read, lay_over}
+use Rattle.column_trie.proofs.Pool.{lay_length, lay_in, lay_read, lay_over}
 use Rattle.column_trie.proofs.Header.{length_part}
 use Rattle.column_trie.proofs.Words.{part_at}
 use Rattle.wedge.specs.Shift.{SmallFrom, PositiveFrom, lessened}
-use Rattle.wedge.proofs.Shifts.{wedged_behind, length_wedged, closed_behind, length_closed}
+use Rattle.wedge.proofs.Shifts.{put_back, lay_behind, wedged_behind, length_wedged, closed_behind, length_closed}
 
 -- ---- words that become others where they stand: one more, or one less
 
@@ -26,84 +25,51 @@ length_lifted f zero xs = length-map xs f
 length_lifted f (suc n) [] = refl
 length_lifted f (suc n) (x ∷ xs) = ap suc (length_lifted f n xs)
 
-lifted_before : (f : ℕ → ℕ) (n : ℕ) (xs : List ℕ) (j : ℕ) → j < n → get_or (lifted f n xs) j 0 ≡ get_or xs j 0
-lifted_before f zero xs j h = absurd (omega arith)
-lifted_before f (suc n) [] j h = refl
-lifted_before f (suc n) (x ∷ xs) zero h = refl
-lifted_before f (suc n) (x ∷ xs) (suc j) h = lifted_before f n xs j (omega arith)
+-- the first i words are f of what they were
+abbrev pub lifting : (ℕ → ℕ) → List ℕ → ℕ → List ℕ
+lifting f xs i = map f (take i xs) ++ drop i xs
 
-lifted_behind : (f : ℕ → ℕ) (n : ℕ) (xs : List ℕ) (j : ℕ) → n ≤ j → j < length xs → get_or (lifted f n xs) j 0 ≡ f (get_or xs j 0)
-lifted_behind f zero [] j h k = absurd (omega arith)
-lifted_behind f zero (x ∷ xs) zero h k = refl
-lifted_behind f zero (x ∷ xs) (suc j) h k = lifted_behind f zero xs j (omega arith) (omega arith)
-lifted_behind f (suc n) [] j h k = absurd (omega arith)
-lifted_behind f (suc n) (x ∷ xs) zero h k = absurd (omega arith)
-lifted_behind f (suc n) (x ∷ xs) (suc j) h k = lifted_behind f n xs j (omega arith) (omega arith)
+-- word i is as it was
+pub lifting_at : (f : ℕ → ℕ) (xs : List ℕ) (i : ℕ) → get_or (lifting f xs i) i 0 ≡ get_or xs i 0
+lifting_at f [] zero = refl
+lifting_at f [] (suc i) = refl
+lifting_at f (x ∷ xs) zero = refl
+lifting_at f (x ∷ xs) (suc i) = lifting_at f xs i
 
--- the words from lo up to i are f of what they were, those up to hi are to follow
-pub record Raising (f : ℕ → ℕ) (pool₀ : List ℕ) (lo hi : ℕ) (pool : List ℕ) (i : ℕ) : Type 0 where
-  pub low : lo ≤ i
-  pub high : i ≤ hi
-  pub long : length pool ≡ length pool₀
-  raised : (j : ℕ) → lo ≤ j → j < i → get_or pool j 0 ≡ f (get_or pool₀ j 0)
-  pub stays : (j : ℕ) → (j < lo) ⊎ (i ≤ j) → get_or pool j 0 ≡ get_or pool₀ j 0
+lifting_step : (f : ℕ → ℕ) (xs : List ℕ) (i v : ℕ) → i < length xs → v ≡ f (get_or (lifting f xs i) i 0) → set (lifting f xs i) i v ≡ lifting f xs (suc i)
+lifting_step f [] i v h e = absurd (omega arith)
+lifting_step f (x ∷ xs) zero v h e = ap (λ (w : ℕ). w ∷ xs) e
+lifting_step f (x ∷ xs) (suc i) v h e = ap (λ (l : List ℕ). f x ∷ l) (lifting_step f xs i v (omega arith) e)
 
-pub raising_start : (f : ℕ → ℕ) (pool : List ℕ) (lo hi : ℕ) → lo ≤ hi → Raising f pool lo hi pool lo
-raising_start f pool lo hi h = record { low = omega arith; high = h; long = refl; raised = λ j a b. absurd (omega arith); stays = λ j s. refl }
+pub lifting_next : (f : ℕ → ℕ) (xs ys : List ℕ) (i v : ℕ) → ys ≡ lifting f xs i → i < length xs → v ≡ f (get_or ys i 0) → set ys i v ≡ lifting f xs (i + 1)
+lifting_next f xs ys i v e h q = ap (λ (l : List ℕ). set l i v) e ∙ lifting_step f xs i v h (q ∙ ap (λ (l : List ℕ). f (get_or l i 0)) e) ∙ ap (lifting f xs) (sym (add-one i))
 
-pub raising_step :
-    {f : ℕ → ℕ} {pool₀ : List ℕ} {lo hi : ℕ} {pool : List ℕ} {i : ℕ} → Raising f pool₀ lo hi pool i → hi ≤ length pool₀ → i < hi → (v : ℕ) → v ≡ f (get_or pool i 0) → Raising f pool₀ lo hi (set pool i v) (i + 1)
-raising_step {f} {pool₀} {lo} {hi} {pool} {i} m inside h v e =
-    record {
-      low = omega (arith, m.low);
-      high = omega arith;
-      long = length-set pool i v ∙ m.long;
-      raised = λ j a b. go j a b (dec_lt j i);
-      stays = λ j s. get_or-set_other pool i j v 0 (away j s) ∙ m.stays j (near j s);
-    }
-  where
-    away : (j : ℕ) → (j < lo) ⊎ (i + 1 ≤ j) → j ≡ i → ⊥
-    away j (inl a) q = omega (arith, m.low)
-    away j (inr a) q = omega arith
+lifting_done : (f : ℕ → ℕ) (xs : List ℕ) (i : ℕ) → length xs ≤ i → lifting f xs i ≡ map f xs
+lifting_done f xs i h = ap₂ (λ (l r : List ℕ). map f l ++ r) (take_all i xs h) (drop_of_length-le xs h) ∙ append-nil (map f xs)
 
-    near : (j : ℕ) → (j < lo) ⊎ (i + 1 ≤ j) → (j < lo) ⊎ (i ≤ j)
-    near j (inl a) = inl a
-    near j (inr a) = inr (omega arith)
+module _ (pool : List ℕ) (base from n : ℕ) (h : from ≤ n) (inside : base + n ≤ length pool) where
+  -- the words that become others
+  abbrev pub part : List ℕ
+  part = take (base + n - (base + from)) (drop (base + from) pool)
 
-    go : (j : ℕ) → lo ≤ j → j < i + 1 → Dec (j < i) → get_or (set pool i v) j 0 ≡ f (get_or pool₀ j 0)
-    go j a b (yes c) = get_or-set_other pool i j v 0 (λ q. omega arith) ∙ m.raised j a c
-    go j a b (no c) =
-        let q : j ≡ i = omega arith in
-        ap (λ (n : ℕ). get_or (set pool i v) n 0) q ∙ get_or-set_same pool i v 0 (omega (arith, m.long)) ∙ e ∙ ap f (m.stays i (inr (omega arith))) ∙ ap (λ (n : ℕ). f (get_or pool₀ n 0)) (sym q)
+  part_is : part ≡ drop from (take n (drop base pool))
+  part_is =
+      let e : base + n - (base + from) ≡ n - from = omega arith in
+      let q : from + (n - from) ≡ n = omega arith in
+      ap₂ take e (sym (drop-drop from base pool)) ∙ sym (drop-take from (n - from) (drop base pool)) ∙ ap (λ (m : ℕ). drop from (take m (drop base pool))) q
 
-pub raising_done :
-    {f : ℕ → ℕ} {pool₀ : List ℕ} {pool : List ℕ} {i : ℕ} (base from n : ℕ) → Raising f pool₀ (base + from) (base + n) pool i → base + n ≤ i → from ≤ n → base + n ≤ length pool₀ →
-    pool ≡ lay pool₀ base (lifted f from (take n (drop base pool₀)))
-raising_done {f} {pool₀} {pool} {i} base from n m o h inside =
-    ext_get_or 0 pool (lay pool₀ base ys) (m.long ∙ sym (lay_length pool₀ base ys)) (λ k b. go k (dec_lt k base) (dec_lt k (base + from)) (dec_lt k (base + n)))
-  where
-    xs : List ℕ
-    xs = take n (drop base pool₀)
+  pub part_long : length part ≡ base + n - (base + from)
+  part_long = length_part pool (base + from) (base + n - (base + from)) (omega arith)
 
-    long : length xs ≡ n
-    long = length_part pool₀ base n (omega arith)
+  pub part_word : (i : ℕ) → i < length part → get_or part i 0 ≡ get_or pool (base + from + i) 0
+  part_word i b = part_at pool (base + from) (base + n - (base + from)) i (omega (arith, part_long))
 
-    ys : List ℕ
-    ys = lifted f from xs
-
-    within : (k : ℕ) → base ≤ k → k < base + n → get_or (lay pool₀ base ys) k 0 ≡ get_or ys (k - base) 0
-    within k a b =
-        let e : k ≡ base + (k - base) = omega arith in
-        ap (λ (q : ℕ). get_or (lay pool₀ base ys) q 0) e ∙ lay_in pool₀ base ys (k - base) 0 (omega (arith, length_lifted f from xs, long)) (omega (arith, length_lifted f from xs, long))
-
-    word : (k : ℕ) → base ≤ k → k < base + n → get_or xs (k - base) 0 ≡ get_or pool₀ k 0
-    word k a b = let e : base + (k - base) ≡ k = omega arith in part_at pool₀ base n (k - base) (omega arith) ∙ ap (λ (q : ℕ). get_or pool₀ q 0) e
-
-    go : (k : ℕ) → Dec (k < base) → Dec (k < base + from) → Dec (k < base + n) → get_or pool k 0 ≡ get_or (lay pool₀ base ys) k 0
-    go k (yes a) p q = m.stays k (inl (omega arith)) ∙ sym (lay_out pool₀ base ys k 0 (inl a))
-    go k (no a) (yes b) (yes c) = m.stays k (inl b) ∙ sym (within k (omega arith) c ∙ lifted_before f from xs (k - base) (omega arith) ∙ word k (omega arith) c)
-    go k (no a) (no b) (yes c) = m.raised k (omega arith) (omega arith) ∙ sym (within k (omega arith) c ∙ lifted_behind f from xs (k - base) (omega arith) (omega (arith, long)) ∙ ap f (word k (omega arith) c))
-    go k (no a) p (no c) = m.stays k (inr (omega (arith, m.high))) ∙ sym (lay_out pool₀ base ys k 0 (inr (omega (arith, length_lifted f from xs, long))))
+  pub raised : (f : ℕ → ℕ) (i : ℕ) (ys : List ℕ) → ys ≡ lifting f part i → length part ≤ i → take (base + from) pool ++ (ys ++ drop (base + n - (base + from)) (drop (base + from) pool)) ≡ lay pool base (lifted f from (take n (drop base pool)))
+  raised f i ys e b =
+      let q : ys ≡ map f part = e ∙ lifting_done f part i b in
+      put_back pool (base + from) (base + n - (base + from)) ys (ap length q ∙ length-map part f ∙ part_long) (omega arith)
+      ∙ ap (lay pool (base + from)) (q ∙ ap (map f) part_is)
+      ∙ lay_behind pool base from n h inside (map f (drop from (take n (drop base pool))))
 
 -- ---- a new word, and one more for those behind it
 

@@ -1,110 +1,37 @@
--- Words that move one up, to make room for a new one: where each stands on the way through the loop, and that the part of the pool which is put
--- back lies there as the contract says.
+-- Words that move one up, to make room for a new one, or one down, over one that goes: that the part of the pool which is put back lies there as the
+-- contract says.
 use Prim.Native.Nat.{ℕ, zero, suc, ◌+◌, ◌-◌, ◌≤◌, ◌<◌}
 use mathlib.Core.Path.{◌≡◌, refl, sym, ap, ap₂, ◌∙◌}
 use mathlib.Core.Logic.{inl, inr}
-use mathlib.Core.List.{List, [], ◌∷◌, ◌++◌, append_assoc}
+use mathlib.Core.List.{List, [], ◌∷◌, ◌++◌, append_assoc, append-nil}
 use native.Mathlib.Omega.{arith}
 use native.Mathlib.Decide.{dec_lt}
-use lib.ListN.{length, take, drop, get_or, set, length-set, length-drop}
-use lib.Seq.{ext_get_or, get_or-set_same, get_or-set_other, get_or-take, get_or-drop, length-take-le, take-take, drop-drop, sets-eq}
+use lib.ListN.{length, take, drop, get_or, set, length-drop, drop_of_length-le}
+use lib.Seq.{ext_get_or, get_or-take, get_or-drop, length-take-le, take-take, drop-drop, sets-eq, take_all}
+use Rattle.std.specs.List.{copy_within}
 use Rattle.column_trie.specs.Pool.{lay}
 use Rattle.column_trie.proofs.Pool.{lay_own, lay_length, lay_in, lay_out}
 use Rattle.column_trie.proofs.Header.{length_part}
 use Rattle.column_trie.proofs.Words.{part_at}
 
--- ---- a list's words move one up, from the last down: those behind i have moved
+-- ---- a list's words moved
 
-pub record Moving (xs ys : List ℕ) (i : ℕ) : Type 0 where
-  pub inside : i < length xs
-  pub long : length ys ≡ length xs
-  pub moved : (j : ℕ) → i ≤ j → suc j < length xs → get_or ys (suc j) 0 ≡ get_or xs j 0
-  pub stays : (j : ℕ) → j ≤ i → get_or ys j 0 ≡ get_or xs j 0
+-- one up, and a word to the front
+shifted : (k w : ℕ) (xs : List ℕ) → length xs ≡ suc k → set (copy_within xs 0 k 1) 0 w ≡ w ∷ take (length xs - 1) xs
+shifted k w [] e = absurd (omega arith)
+shifted k w (x ∷ xs) e =
+    let n : k - 0 ≡ length (x ∷ xs) - 1 = omega arith in
+    ap (λ (m : ℕ). w ∷ (take m (x ∷ xs) ++ drop (1 + m) (x ∷ xs))) n
+    ∙ ap (λ (l : List ℕ). w ∷ (take (length (x ∷ xs) - 1) (x ∷ xs) ++ l)) (drop_of_length-le (x ∷ xs) {i = 1 + (length (x ∷ xs) - 1)} (omega arith))
+    ∙ ap (λ (l : List ℕ). w ∷ l) (append-nil (take (length (x ∷ xs) - 1) (x ∷ xs)))
 
-pub moving_start : (xs : List ℕ) → 0 < length xs → Moving xs xs (length xs - 1)
-moving_start xs h = record { inside = omega arith; long = refl; moved = λ j a b. absurd (omega arith); stays = λ j a. refl }
-
-module _ {xs ys : List ℕ} {i : ℕ} (m : Moving xs ys i) where
-  pub moving_step : 0 < i → Moving xs (set ys i (get_or ys (i - 1) 0)) (i - 1)
-  moving_step h =
-      record {
-        inside = omega (arith, m.inside);
-        long = length-set ys i word ∙ m.long;
-        moved = λ j a b. go j a b (dec_lt j i);
-        stays = λ j a. get_or-set_other ys i j word 0 (λ q. omega arith) ∙ m.stays j (omega arith);
-      }
-    where
-      word : ℕ
-      word = get_or ys (i - 1) 0
-
-      go : (j : ℕ) → i - 1 ≤ j → suc j < length xs → Dec (j < i) → get_or (set ys i word) (suc j) 0 ≡ get_or xs j 0
-      go j a b (yes c) =
-          let q : suc j ≡ i = omega arith in
-          let r : i - 1 ≡ j = omega arith in
-          ap (λ (n : ℕ). get_or (set ys i word) n 0) q ∙ get_or-set_same ys i word 0 (omega (arith, m.long, m.inside)) ∙ m.stays (i - 1) (omega arith) ∙ ap (λ (n : ℕ). get_or xs n 0) r
-      go j a b (no c) = get_or-set_other ys i (suc j) word 0 (λ q. omega arith) ∙ m.moved j (omega arith) b
-
-  -- when all have moved, a word goes to the front
-  pub shifted : (w : ℕ) → i ≤ 0 → set ys 0 w ≡ w ∷ take (length xs - 1) xs
-  shifted w o =
-      ext_get_or 0 (set ys 0 w) (w ∷ take (length xs - 1) xs)
-      (length-set ys 0 w ∙ m.long ∙ (let e : length xs ≡ suc (length (take (length xs - 1) xs)) = omega (arith, long, m.inside) in e)) go
-    where
-      long : length (take (length xs - 1) xs) ≡ length xs - 1
-      long = length-take-le (length xs - 1) xs (omega arith)
-
-      go : (k : ℕ) → k < length (set ys 0 w) → get_or (set ys 0 w) k 0 ≡ get_or (w ∷ take (length xs - 1) xs) k 0
-      go zero b = get_or-set_same ys 0 w 0 (omega (arith, m.long, m.inside))
-      go (suc k) b =
-          let h : suc k < length xs = omega (arith, length-set ys 0 w, m.long) in
-          get_or-set_other ys 0 (suc k) w 0 (λ e. omega arith) ∙ m.moved k (omega arith) h ∙ sym (get_or-take (length xs - 1) xs k 0 (omega arith))
-
--- ---- a list's words move one down, from the first up: those before i have moved, and the last stays
-
-pub record Sinking (xs ys : List ℕ) (i : ℕ) : Type 0 where
-  pub inside : i < length xs
-  pub long : length ys ≡ length xs
-  moved : (j : ℕ) → j < i → get_or ys j 0 ≡ get_or xs (suc j) 0
-  stays : (j : ℕ) → i ≤ j → get_or ys j 0 ≡ get_or xs j 0
-
-pub sinking_start : (xs : List ℕ) → 0 < length xs → Sinking xs xs 0
-sinking_start xs h = record { inside = h; long = refl; moved = λ j a. absurd (omega arith); stays = λ j a. refl }
-
-module _ {xs ys : List ℕ} {i : ℕ} (m : Sinking xs ys i) where
-  pub sinking_step : i < length xs - 1 → Sinking xs (set ys i (get_or ys (i + 1) 0)) (i + 1)
-  sinking_step h =
-      record {
-        inside = omega arith;
-        long = length-set ys i word ∙ m.long;
-        moved = λ j a. go j a (dec_lt j i);
-        stays = λ j a. get_or-set_other ys i j word 0 (λ q. omega arith) ∙ m.stays j (omega arith);
-      }
-    where
-      word : ℕ
-      word = get_or ys (i + 1) 0
-
-      go : (j : ℕ) → j < i + 1 → Dec (j < i) → get_or (set ys i word) j 0 ≡ get_or xs (suc j) 0
-      go j a (yes c) = get_or-set_other ys i j word 0 (λ q. omega arith) ∙ m.moved j c
-      go j a (no c) =
-          let q : j ≡ i = omega arith in
-          let r : i + 1 ≡ suc j = omega arith in
-          ap (λ (n : ℕ). get_or (set ys i word) n 0) q ∙ get_or-set_same ys i word 0 (omega (arith, m.long, m.inside)) ∙ m.stays (i + 1) (omega arith) ∙ ap (λ (n : ℕ). get_or xs n 0) r
-
-  -- when all have moved, the list without its first word is laid over it
-  pub sunk : length xs - 1 ≤ i → ys ≡ lay xs 0 (drop 1 xs)
-  sunk o = ext_get_or 0 ys (lay xs 0 (drop 1 xs)) (m.long ∙ sym (lay_length xs 0 (drop 1 xs))) (λ k b. go k (omega (arith, m.long)) (dec_lt k i))
-    where
-      long : length (drop 1 xs) ≡ length xs - 1
-      long = length-drop 1 xs
-
-      go : (k : ℕ) → k < length xs → Dec (k < i) → get_or ys k 0 ≡ get_or (lay xs 0 (drop 1 xs)) k 0
-      go k b (yes c) =
-          let e : 0 + k ≡ k = omega arith in
-          let q : suc k ≡ 1 + k = omega arith in
-          m.moved k c
-          ∙ ap (λ (n : ℕ). get_or xs n 0) q
-          ∙ sym (ap (λ (n : ℕ). get_or (lay xs 0 (drop 1 xs)) n 0) (sym e) ∙ lay_in xs 0 (drop 1 xs) k 0 (omega (arith, long, m.inside)) (omega (arith, long)) ∙ get_or-drop 1 xs k 0)
-      go k b (no c) = m.stays k (omega arith) ∙ sym (lay_out xs 0 (drop 1 xs) k 0 (inr (omega (arith, long))))
+-- one down: the last stays, so that it stands twice
+sunk : (xs : List ℕ) → 0 < length xs → copy_within xs 1 (length xs) 0 ≡ lay xs 0 (drop 1 xs)
+unfolding lay
+sunk xs h =
+    let n : 0 + (length xs - 1) ≡ 0 + length (drop 1 xs) = omega (arith, length-drop 1 xs) in
+    ap₂ (λ (l : List ℕ) (m : ℕ). l ++ drop m xs) (take_all (length xs - 1) (drop 1 xs) (omega (arith, length-drop 1 xs))) n
+    ∙ sym (sets-eq (drop 1 xs) xs 0 (omega (arith, length-drop 1 xs)))
 
 -- ---- a part of the pool that is put back
 
@@ -115,9 +42,22 @@ lay_append pool at (x ∷ xs) ys =
     lay_append (set pool at x) (suc at) xs ys
     ∙ ap (λ (n : ℕ). lay (lay (set pool at x) (suc at) xs) n ys) (let e : suc at + length xs ≡ at + suc (length xs) = omega arith in e)
 
-put_back : (pool : List ℕ) (a k : ℕ) (ys : List ℕ) → length ys ≡ k → a + k ≤ length pool → take a pool ++ (ys ++ drop k (drop a pool)) ≡ lay pool a ys
+pub put_back : (pool : List ℕ) (a k : ℕ) (ys : List ℕ) → length ys ≡ k → a + k ≤ length pool → take a pool ++ (ys ++ drop k (drop a pool)) ≡ lay pool a ys
 unfolding lay
 put_back pool a k ys e h = ap (λ (l : List ℕ). take a pool ++ (ys ++ l)) (drop-drop k a pool ∙ ap (λ (n : ℕ). drop (a + n) pool) (sym e)) ∙ sym (append_assoc (take a pool) ys (drop (a + length ys) pool)) ∙ sym (sets-eq ys pool a (omega arith))
+
+-- what is laid behind the first of n words is laid with them
+pub lay_behind : (pool : List ℕ) (base at n : ℕ) → at ≤ n → base + n ≤ length pool → (ys : List ℕ) → lay pool (base + at) ys ≡ lay pool base (take at (take n (drop base pool)) ++ ys)
+lay_behind pool base at n h inside ys = sym (lay_append pool base (take at words) ys ∙ ap₂ (λ (p : List ℕ) (m : ℕ). lay p m ys) own (ap (λ (m : ℕ). base + m) long))
+  where
+    words : List ℕ
+    words = take n (drop base pool)
+
+    long : length (take at words) ≡ at
+    long = length-take-le at words (omega (arith, length_part pool base n inside))
+
+    own : lay pool base (take at words) ≡ pool
+    own = ap (lay pool base) (take-take at n (drop base pool) h) ∙ lay_own pool base at (omega arith)
 
 module _ (pool : List ℕ) (base at n w : ℕ) (h : at ≤ n) (inside : base + n < length pool) where
   -- the words from place `at` on, with room for one more
@@ -146,20 +86,15 @@ module _ (pool : List ℕ) (base at n w : ℕ) (h : at ≤ n) (inside : base + n
           ∙ ap (λ (m : ℕ). get_or pool m 0) e
           ∙ sym (get_or-drop at words j 0 ∙ part_at pool base n (at + j) (omega (arith, front)))
 
-  pub wedged : (ys : List ℕ) → ys ≡ w ∷ take (length part - 1) part → take (base + at) pool ++ (ys ++ drop (base + n + 1 - (base + at)) (drop (base + at) pool)) ≡ lay pool base (take at words ++ w ∷ drop at words)
-  wedged ys e =
+  pub wedged : (ys : List ℕ) → ys ≡ set (copy_within part 0 (n - at) 1) 0 w → take (base + at) pool ++ (ys ++ drop (base + n + 1 - (base + at)) (drop (base + at) pool)) ≡ lay pool base (take at words ++ w ∷ drop at words)
+  wedged ys moved =
+      let e : ys ≡ w ∷ take (length part - 1) part = moved ∙ shifted (n - at) w part (omega (arith, part_long)) in
       put_back pool (base + at) (base + n + 1 - (base + at)) ys (ap length e ∙ (let q : suc (length (take (length part - 1) part)) ≡ base + n + 1 - (base + at) = omega (arith, ap length behind, rest) in q)) (omega arith)
       ∙ ap (lay pool (base + at)) (e ∙ ap (λ (l : List ℕ). w ∷ l) behind)
-      ∙ sym (lay_append pool base (take at words) (w ∷ drop at words) ∙ ap₂ (λ (p : List ℕ) (m : ℕ). lay p m (w ∷ drop at words)) own (ap (λ (m : ℕ). base + m) long))
+      ∙ lay_behind pool base at n h (omega arith) (w ∷ drop at words)
     where
-      long : length (take at words) ≡ at
-      long = length-take-le at words (omega (arith, length_part pool base n (omega arith)))
-
       rest : length (drop at words) ≡ n - at
       rest = length-drop at words ∙ ap (λ (m : ℕ). m - at) (length_part pool base n (omega arith))
-
-      own : lay pool base (take at words) ≡ pool
-      own = ap (lay pool base) (take-take at n (drop base pool) h) ∙ lay_own pool base at (omega arith)
 
 -- ---- a list with a word less
 
@@ -197,12 +132,15 @@ module _ (pool : List ℕ) (base at n : ℕ) (h : at < n) (inside : base + n ≤
   all_long : length all_words ≡ n
   all_long = length_part pool base n inside
 
-  pub closed : (ys : List ℕ) → ys ≡ lay rest_words 0 (drop 1 rest_words) → take (base + at) pool ++ (ys ++ drop (base + n - (base + at)) (drop (base + at) pool)) ≡ lay pool base (take at all_words ++ drop (suc at) all_words)
-  closed ys e =
+  pub closed : (ys : List ℕ) → ys ≡ copy_within rest_words 1 (length rest_words) 0 → take (base + at) pool ++ (ys ++ drop (base + n - (base + at)) (drop (base + at) pool)) ≡ lay pool base (take at all_words ++ drop (suc at) all_words)
+  closed ys moved =
       put_back pool (base + at) (base + n - (base + at)) ys (omega (arith, long, rest_long)) (omega arith)
       ∙ ext_get_or 0 (lay pool (base + at) ys) (lay pool base left) (lay_length pool (base + at) ys ∙ sym (lay_length pool base left))
       (λ k b. go k (omega (arith, lay_length pool (base + at) ys)) (dec_lt k base) (dec_lt k (base + at)) (dec_lt (suc k) (base + n)) (dec_lt k (base + n)))
     where
+      e : ys ≡ lay rest_words 0 (drop 1 rest_words)
+      e = moved ∙ sunk rest_words (omega (arith, rest_long))
+
       left : List ℕ
       left = take at all_words ++ drop (suc at) all_words
 

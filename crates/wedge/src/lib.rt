@@ -7,28 +7,14 @@ ghost use Rattle.std.specs.Prelude.{◌≡◌, ◌∷◌, ◌++◌, map, suc, �
 ghost use Rattle.column_trie.specs.Pool.{lay};
 ghost use Rattle.wedge.specs.Shift.{SmallFrom, PositiveFrom, lessened};
 
-// The words move one up, the last one out, and `word` goes to the front. Over a slice of its own, the loop is compiled to a move of the whole
-// block.
-fn shift_in(words: &mut [u64], word: u64)
-    requires { 0 < length words.old }
-    ensures { words.new ≡ word ∷ take (length words.old - 1) words.old }
-{
-    let mut i = words.len() - 1;
-    while 0 < i {
-        words[i] = words[i - 1];
-        i -= 1;
-    }
-    words[0] = word;
-}
-
 // Puts `word` at place `at` of the n words from `base` on: those from `at` on move one up.
 pub fn wedge(pool: &mut [u64], base: usize, at: usize, n: usize, word: u64)
     requires { (at ≤ n) × (base + n < length pool.old) }
     ensures { pool.new ≡ lay pool.old base (take at (take n (drop base pool.old)) ++ word ∷ drop at (take n (drop base pool.old))) }
 {
-    let from = base + at;
-    let end = base + n + 1;
-    shift_in(&mut pool[from..end], word);
+    let words = &mut pool[base + at..base + n + 1];
+    words.copy_within(..n - at, 1);
+    words[0] = word;
 }
 
 // Each of the n words from `base` on becomes one more from place `from` on.
@@ -36,11 +22,8 @@ pub fn raise(pool: &mut [u64], base: usize, from: usize, n: usize)
     requires { (from ≤ n) × (base + n ≤ length pool.old) × SmallFrom (base + from) (base + n) pool.old }
     ensures { pool.new ≡ lay pool.old base (take from (take n (drop base pool.old)) ++ map suc (drop from (take n (drop base pool.old)))) }
 {
-    let end = base + n;
-    let mut i = base + from;
-    while i < end {
-        pool[i] = pool[i] + 1;
-        i += 1;
+    for word in &mut pool[base + from..base + n] {
+        *word += 1;
     }
 }
 
@@ -53,39 +36,22 @@ pub fn wedge_raised(pool: &mut [u64], base: usize, at: usize, n: usize, word: u6
     raise(pool, base, at + 1, n + 1);
 }
 
-// The words move one down, the first one out; the last stays, so that it stands twice.
-fn shift_out(words: &mut [u64])
-    requires { 0 < length words.old }
-    ensures { words.new ≡ lay words.old 0 (drop 1 words.old) }
-{
-    let last = words.len() - 1;
-    let mut i = 0;
-    while i < last {
-        words[i] = words[i + 1];
-        i += 1;
-    }
-}
-
 // Takes the word at place `at` out of the n words from `base` on: those behind it move one down, and the last one's old place stays as it was.
 pub fn close(pool: &mut [u64], base: usize, at: usize, n: usize)
     requires { (at < n) × (base + n ≤ length pool.old) }
     ensures { pool.new ≡ lay pool.old base (take at (take n (drop base pool.old)) ++ drop (suc at) (take n (drop base pool.old))) }
 {
-    let from = base + at;
-    let end = base + n;
-    shift_out(&mut pool[from..end]);
+    pool[base + at..base + n].copy_within(1.., 0);
 }
 
-// Each of the n words from `base` on becomes one less from place `from` on.
+// Each of the n words from `base` on becomes one less from place `from` on. `raise` and this are a line each: one function with the step as a
+// closure would put the closure's pre and post in the place of both readable contracts.
 pub fn lower(pool: &mut [u64], base: usize, from: usize, n: usize)
     requires { (from ≤ n) × (base + n ≤ length pool.old) × PositiveFrom (base + from) (base + n) pool.old }
     ensures { pool.new ≡ lay pool.old base (take from (take n (drop base pool.old)) ++ map lessened (drop from (take n (drop base pool.old)))) }
 {
-    let end = base + n;
-    let mut i = base + from;
-    while i < end {
-        pool[i] = pool[i] - 1;
-        i += 1;
+    for word in &mut pool[base + from..base + n] {
+        *word -= 1;
     }
 }
 

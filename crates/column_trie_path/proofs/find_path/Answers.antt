@@ -39,7 +39,7 @@ place : (c : After-find_place-p) → layer_in c.args.pool.now c.args.t c.loop-d.
 place c e = subst (λ (l : Layer). KeyPlaceOf l c.loop-d.i (get_or c.args.tuple.now c.loop-d.d 0) c.find_place-p.result) e c.find_place-p.ensures
 
 pub loop-d-init : goal.loop-d-init
-loop-d-init c = descending_start c.args.t.arity (rows_in c.args.pool.now c.args.t) c.args.tuple.now _ refl refl (omega (arith, (held (goal.at.loop-d-init c).Start).counted, c.requires.2))
+loop-d-init c = descending_start c.args.t.arity (rows_in c.args.pool.now c.args.t) c.args.tuple.now (omega (arith, (held (goal.at.loop-d-init c).Start).counted, c.requires.2))
 
 pub bounds-tuple-d : goal.bounds-tuple-d
 bounds-tuple-d c = omega (arith, c.requires.1)
@@ -57,9 +57,6 @@ pub returns-then-not-p : goal.returns-then-not-p
 returns-then-not-p c =
     let v = c.loop-d.invariant in
     walking_left (held (goal.at.returns-then-not-p c).Start).width c.requires.1 v.walk c.loop-d-test.true refl (place (goal.at.returns-then-not-p c).After-find_place-p (layer_words (goal.at.returns-then-not-p c).Start c.loop-d.d c.loop-d-test.true)) (not-true _ c.if-not-p.true) v.fork
-
-pub overflow_add-d : goal.overflow_add-d
-overflow_add-d c = omega (arith, sound (goal.at.overflow_add-d c).Start)
 
 pub loop-d-preserved : goal.loop-d-preserved
 loop-d-preserved c =

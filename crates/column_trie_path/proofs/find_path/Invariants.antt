@@ -1,11 +1,7 @@
 -- `column_trie_path::find_path` meets its contract: each turn goes down one stored key (Walks.antt).
-use Prim.Native.Nat.{◌-◌}
 use Rattle.column_trie.specs.Table.{rows_in}
 use Rattle.column_trie_path.proofs.Walks.{Descending}
 use Rattle.column_trie_path.proofs.find_path.Given as goal
 
 abbrev pub invariant-loop-d : goal.invariant-loop-d
 invariant-loop-d l = Descending l.t.arity (rows_in l.pool l.t) l.tuple l.d l.i l.fork
-
-abbrev pub decreases-loop-d : goal.decreases-loop-d
-decreases-loop-d l = l.t.arity - l.d

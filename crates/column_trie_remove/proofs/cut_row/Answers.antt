@@ -1,6 +1,6 @@
 -- The goals of `cut_row` that the check leaves.
 use Prim.Native.Nat.{suc}
-use mathlib.Core.Path.{◌≡◌, refl, ◌∙◌}
+use mathlib.Core.Path.{◌≡◌, ◌∙◌}
 use mathlib.Core.Logic.{inl, inr}
 use native.Mathlib.Omega.{arith}
 use Rattle.relation.specs.Order.{Row}
@@ -9,11 +9,11 @@ use Rattle.column_trie.specs.Table.{rows_in}
 use Rattle.column_trie.proofs.Layers.{Whole}
 use Rattle.column_trie_remove.specs.Remove.{without}
 use Rattle.column_trie_remove.specs.Shrink.{Forked}
-use Rattle.column_trie_remove.proofs.Enters.{ready, shrinking_first}
+use Rattle.column_trie_remove.proofs.Enters.{ready, shrinking_some, shrinking_none}
 use Rattle.column_trie_remove.proofs.Cuts.{Shrinking, counted, placed, shrinks_here, cut_sound, cut_long, inside_out, shrinking_step, cut_words, cut_header}
 use borrow.Author.Rules.{rules}
 use Rattle.column_trie_remove.proofs.cut_row.Goals as goal
-use Rattle.column_trie_remove.proofs.cut_row.Goals.{Joined-lone, Start, else-lone, then-lone}
+use Rattle.column_trie_remove.proofs.cut_row.Goals.{Joined-lone, Start, in-Some, in-None, else-lone, then-lone}
 
 whole : (s : Start) → Whole s.args.t
 whole s = record { data_long = search rules; interval_long = search rules }
@@ -28,7 +28,10 @@ settled c o tuple f =
     (elim c.if-lone.branch [ then-lone w ↦ inl (w.if-lone.true, w.at-is ∙ w.begins-at.ensures) | else-lone w ↦ inr (w.if-lone.false, w.at-is) ])
 
 pub loop-d-init : goal.loop-d-init
-loop-d-init c = λ tuple f. shrinking_first (whole (goal.at.loop-d-init c).Start) f _ refl
+loop-d-init c =
+    λ tuple f.
+    let o = whole (goal.at.loop-d-init c).Start in
+    elim c.match-fork.branch [ in-Some w ↦ rw w.depth-is (shrinking_some o f w.in-Some.is) | in-None w ↦ rw w.depth-is (shrinking_none o f w.in-None.is) ]
 
 pub begins-at-requires : goal.begins-at-requires
 begins-at-requires c =

@@ -1,5 +1,4 @@
 -- `column_trie_remove::cut_row` meets its contract: each turn takes the key out of one layer (Cuts.antt).
-use Prim.Native.Nat.{◌-◌}
 use Rattle.relation.specs.Order.{Row}
 use Rattle.column_trie.specs.Table.{rows_in}
 use Rattle.column_trie_remove.specs.Remove.{without}
@@ -9,7 +8,4 @@ use Rattle.column_trie_remove.proofs.cut_row.Given as goal
 
 -- the loop keeps this for every row whose fork it is
 abbrev pub invariant-loop-d : goal.invariant-loop-d
-invariant-loop-d l = (tuple : Row) → Forked l.initial.pool l.t tuple (record { depth = l.initial.d; interval = l.initial.i; at = l.initial.at }) → Shrinking l.initial.pool l.t (without tuple (rows_in l.initial.pool l.t)) tuple l.pool l.out l.d l.i l.at l.lone
-
-abbrev pub decreases-loop-d : goal.decreases-loop-d
-decreases-loop-d l = l.t.arity - l.d
+invariant-loop-d l = (tuple : Row) → Forked l.initial.pool l.t tuple l.fn.fork → Shrinking l.initial.pool l.t (without tuple (rows_in l.initial.pool l.t)) tuple l.pool l.out l.d l.i l.at l.lone

@@ -1,5 +1,5 @@
 -- `column_trie_remove::remove` meets its contract: each way out is one of Removes.antt.
-use mathlib.Core.Path.{◌≡◌, refl, sym}
+use mathlib.Core.Path.{◌≡◌, refl, sym, ◌∙◌}
 use mathlib.Core.Bool.{true}
 use native.Mathlib.Omega.{arith}
 use lib.Arith.{lt_of_le-ne}
@@ -21,10 +21,10 @@ accepted : (c : Else-tuple-table) → Accepted c.args.pool.now c.args.table c.ar
 accepted c = record { sound = passed c.undamaged.ensures (ap not c.if-not-undamaged.false); long = c.if-tuple-table.false; whole = record { data_long = search rules; interval_long = search rules } }
 
 pub returns-then-not-undamaged : goal.returns-then-not-undamaged
-returns-then-not-undamaged c = let a = c.args in damaged a.pool.now a.table a.tuple.now (failed c.undamaged.ensures (ap not c.if-not-undamaged.true)) c.unchanged.result c.unchanged.ensures
+returns-then-not-undamaged c = let a = c.args in damaged a.pool.now a.table a.tuple.now (failed c.undamaged.ensures (ap not c.if-not-undamaged.true)) c.unchanged.result (c.unchanged.ensures.0 ∙ c.number.ensures, c.unchanged.ensures.1, c.unchanged.ensures.2)
 
 pub returns-then-tuple-table : goal.returns-then-tuple-table
-returns-then-tuple-table c = let a = c.args in another_length a.pool.now a.table a.tuple.now (sound (goal.at.returns-then-tuple-table c).Else-not-undamaged) c.if-tuple-table.true c.unchanged-then-tuple-table.result c.unchanged-then-tuple-table.ensures
+returns-then-tuple-table c = let a = c.args in another_length a.pool.now a.table a.tuple.now (sound (goal.at.returns-then-tuple-table c).Else-not-undamaged) c.if-tuple-table.true c.unchanged-then-tuple-table.result (c.unchanged-then-tuple-table.ensures.0 ∙ c.number-then-tuple-table.ensures, c.unchanged-then-tuple-table.ensures.1, c.unchanged-then-tuple-table.ensures.2)
 
 pub returns-then-table-eq0 : goal.returns-then-table-eq0
 returns-then-table-eq0 c = no_row (accepted (goal.at.returns-then-table-eq0 c).Else-tuple-table) c.if-table-eq0.true c.unchanged-then-table-eq0.result c.unchanged-then-table-eq0.ensures

@@ -52,13 +52,13 @@ read_row-last-requires c = seated (goal.at.read_row-last-requires c).Start 0 (om
 pub append_row-requires : goal.append_row-requires
 append_row-requires c =
     let k = (goal.at.append_row-requires c).After-read_row-last in
-    can_push (first_row k) (pushing_first c.requires.fill c.requires.width (first k))
+    can_push (first_row k) (pushing_first c.requires.fill c.requires.width c.of-lengths.ensures (first k))
 
 pub loop-i-init : goal.loop-i-init
 loop-i-init c =
     let k = (goal.at.loop-i-init c).After-read_row-last in
     let e : length c.read_row-last.result ≡ max_arity = search rules in
-    (filled_first c.requires.fill c.requires.width (first k) (pushed (first_row k) (pushing_first c.requires.fill c.requires.width (first k)) c.append_row.ensures), e, first_row k)
+    (filled_first c.requires.fill c.requires.width (first k) (pushed (first_row k) (pushing_first c.requires.fill c.requires.width c.of-lengths.ensures (first k)) c.append_row.ensures), e, first_row k)
 
 pub row_place-place-requires : goal.row_place-place-requires
 row_place-place-requires c = placed (goal.at.row_place-place-requires c).Start c.loop-i.i c.loop-i-test.true
@@ -94,11 +94,11 @@ module _ (c : After-common_prefix_len-d) where
   differs : c.common_prefix_len-d.result < c.args.t.arity
   differs = omega (arith, from, neighbours_differ c.requires.asc c.requires.width i c.loop-i.invariant.0.low ahead)
 
-  next : Pushing (length c.loop-i.pool) c.args.t c.loop-i.data_len c.loop-i.interval_len (take i rows) (get_or rows i []) c.common_prefix_len-d.result (c.common_prefix_len-d.result + 1)
+  next : Pushing (length c.loop-i.pool) c.args.t c.loop-i.lengths.data c.loop-i.lengths.intervals (take i rows) (get_or rows i []) c.common_prefix_len-d.result (c.common_prefix_len-d.result + 1)
   next =
       let l = c.loop-i in
       let d = c.common_prefix_len-d.result in
-      subst (λ (n : ℕ). Pushing n c.args.t l.data_len l.interval_len (take i rows) (get_or rows i []) d (d + 1)) (sym (l.invariant.0.long ∙ c.append_row.auto.pool))
+      subst (λ (n : ℕ). Pushing n c.args.t l.lengths.data l.lengths.intervals (take i rows) (get_or rows i []) d (d + 1)) (sym (l.invariant.0.long ∙ c.append_row.auto.pool))
       (pushing_next c.requires.fill c.requires.width d l.invariant.0 ahead from differs)
 
 pub overflow_add-d : goal.overflow_add-d
@@ -131,4 +131,4 @@ pub returns : goal.returns
 returns c =
     let k = (goal.at.returns c).After-read_row-last in
     subst (Fills c.args.pool.now c.args.t (rows_found (parse c.args.bytes.now)) c.loop-i.pool) (sym c.filled.ensures)
-    (fills_all c.requires.fill c.requires.width (first k) (pushed (first_row k) (pushing_first c.requires.fill c.requires.width (first k)) c.append_row.ensures) c.loop-i.invariant.0 (omega (arith, c.requires.many, c.loop-i-test.false)))
+    (fills_all c.requires.fill c.requires.width (first k) (pushed (first_row k) (pushing_first c.requires.fill c.requires.width c.of-lengths.ensures (first k)) c.append_row.ensures) c.loop-i.invariant.0 (omega (arith, c.requires.many, c.loop-i-test.false)))

@@ -10,7 +10,7 @@ use Rattle.file_read.specs.Load.{rows_found}
 use Rattle.file_read.proofs.load.Given as goal
 
 abbrev pub invariant-loop-i : goal.invariant-loop-i
-invariant-loop-i l = Filled l.t (rows_found (parse l.bytes)) l.initial.pool l.pool l.data_len l.interval_len l.i × (length l.last ≡ max_arity) × (take l.t.arity l.last ≡ get_or (rows_found (parse l.bytes)) (l.i - 1) [])
+invariant-loop-i l = Filled l.t (rows_found (parse l.bytes)) l.initial.pool l.pool l.lengths.data l.lengths.intervals l.i × (length l.last ≡ max_arity) × (take l.t.arity l.last ≡ get_or (rows_found (parse l.bytes)) (l.i - 1) [])
 
 abbrev pub decreases-loop-i : goal.decreases-loop-i
 decreases-loop-i l = l.n - l.i

@@ -1,9 +1,6 @@
 -- The goals of `common_prefix_len` that the check leaves.
-use Rattle.from_sorted.proofs.Shared.{sharing_start, sharing_apart, sharing_on, sharing_end}
+use Rattle.from_sorted.proofs.Shared.{sharing_apart, sharing_on, sharing_end}
 use Rattle.from_sorted.proofs.common_prefix_len.Goals as goal
-
-pub loop-k-init : goal.loop-k-init
-loop-k-init c = sharing_start _ _ _
 
 pub returns-then-x-k : goal.returns-then-x-k
 returns-then-x-k c = sharing_apart c.requires c.loop-k.invariant c.loop-k-test.true c.if-x-k.true

@@ -19,21 +19,18 @@ first a ws h = ap (λ (n : ℕ). take a (drop n ws)) (sym (zero-mul a)) ∙ row_
 ahead : (a : ℕ) (ws : List ℕ) {i : ℕ} → i < length ws / a → i < length (rows_given a ws)
 ahead a ws h = omega (arith, length_given a ws)
 
-pub nonzero_div-n : goal.nonzero_div-n
-nonzero_div-n c = c.requires.positive
-
 pub returns-then-n-eq0 : goal.returns-then-n-eq0
 returns-then-n-eq0 c = fills_none c.requires (width_given c.args.t.arity c.args.rows.now) (length_given c.args.t.arity c.args.rows.now ∙ c.if-n-eq0.true)
 
 pub append_row-requires : goal.append_row-requires
 append_row-requires c =
     let h : 0 < length (rows_given c.args.t.arity c.args.rows.now) = omega (arith, length_given c.args.t.arity c.args.rows.now, c.if-n-eq0.false) in
-    can_push (first c.args.t.arity c.args.rows.now h) (pushing_first c.requires (width_given c.args.t.arity c.args.rows.now) h)
+    can_push (first c.args.t.arity c.args.rows.now h) (pushing_first c.requires (width_given c.args.t.arity c.args.rows.now) c.of-lengths.ensures h)
 
 pub loop-i-init : goal.loop-i-init
 loop-i-init c =
     let h : 0 < length c.args.rows.now / c.args.t.arity = omega (arith, c.if-n-eq0.false) in
-    filled_first c.requires (width_given c.args.t.arity c.args.rows.now) (ahead c.args.t.arity c.args.rows.now h) (pushed (first c.args.t.arity c.args.rows.now (ahead c.args.t.arity c.args.rows.now h)) (pushing_first c.requires (width_given c.args.t.arity c.args.rows.now) (ahead c.args.t.arity c.args.rows.now h)) c.append_row.ensures)
+    filled_first c.requires (width_given c.args.t.arity c.args.rows.now) (ahead c.args.t.arity c.args.rows.now h) (pushed (first c.args.t.arity c.args.rows.now (ahead c.args.t.arity c.args.rows.now h)) (pushing_first c.requires (width_given c.args.t.arity c.args.rows.now) c.of-lengths.ensures (ahead c.args.t.arity c.args.rows.now h)) c.append_row.ensures)
 
 -- where the loop turns
 module _ (c : In-loop-i) where
@@ -65,44 +62,14 @@ module _ (c : In-loop-i) where
 
   -- row i can be pushed, if it differs from that row
   next : (d : ℕ) → d ≡ shared (get_or (rows_given a ws) (i - 1) []) (get_or (rows_given a ws) i []) → d < a →
-      Pushing (length c.loop-i.pool) c.args.t c.loop-i.data_len c.loop-i.interval_len (take i (rows_given a ws)) (get_or (rows_given a ws) i []) d (d + 1)
+      Pushing (length c.loop-i.pool) c.args.t c.loop-i.lengths.data c.loop-i.lengths.intervals (take i (rows_given a ws)) (get_or (rows_given a ws) i []) d (d + 1)
   next d e b =
       let l = c.loop-i in
-      subst (λ (n : ℕ). Pushing n c.args.t l.data_len l.interval_len (take i (rows_given a ws)) (get_or (rows_given a ws) i []) d (d + 1)) (sym (l.invariant.long ∙ c.append_row.auto.pool))
+      subst (λ (n : ℕ). Pushing n c.args.t l.lengths.data l.lengths.intervals (take i (rows_given a ws)) (get_or (rows_given a ws) i []) d (d + 1)) (sym (l.invariant.long ∙ c.append_row.auto.pool))
       (pushing_next c.requires (width_given c.args.t.arity c.args.rows.now) d l.invariant (ahead a ws c.loop-i-test.true) e b)
-
-pub overflow_mul-y : goal.overflow_mul-y
-overflow_mul-y c = omega (arith, at_row (goal.at.overflow_mul-y c).In-loop-i)
-
-pub overflow_sub-x : goal.overflow_sub-x
-overflow_sub-x c = omega (arith, at_row (goal.at.overflow_sub-x c).In-loop-i)
-
-pub offset_bounds-rows-x : goal.offset_bounds-rows-x
-offset_bounds-rows-x c = omega (arith, at_row (goal.at.offset_bounds-rows-x c).In-loop-i)
-
-pub slice_bounds-common_prefix_len-count : goal.slice_bounds-common_prefix_len-count
-slice_bounds-common_prefix_len-count c = omega (arith, at_row (goal.at.slice_bounds-common_prefix_len-count c).In-loop-i)
-
-pub slice_bounds-common_prefix_len-start : goal.slice_bounds-common_prefix_len-start
-slice_bounds-common_prefix_len-start c = omega (arith, at_row (goal.at.slice_bounds-common_prefix_len-start c).In-loop-i)
-
-pub offset_bounds-rows-y : goal.offset_bounds-rows-y
-offset_bounds-rows-y c = omega (arith, at_row (goal.at.offset_bounds-rows-y c).In-loop-i)
-
-pub slice_bounds-common_prefix_len-count-in-loop-i : goal.slice_bounds-common_prefix_len-count-in-loop-i
-slice_bounds-common_prefix_len-count-in-loop-i c = omega (arith, at_row (goal.at.slice_bounds-common_prefix_len-count-in-loop-i c).In-loop-i)
 
 pub common_prefix_len-d-requires : goal.common_prefix_len-d-requires
 common_prefix_len-d-requires c = (row_long (a (goal.at.common_prefix_len-d-requires c).In-loop-i) (ws (goal.at.common_prefix_len-d-requires c).In-loop-i) (i (goal.at.common_prefix_len-d-requires c).In-loop-i - 1) (omega (arith, c.loop-i-test.true)) (at_row (goal.at.common_prefix_len-d-requires c).In-loop-i).1, row_long (a (goal.at.common_prefix_len-d-requires c).In-loop-i) (ws (goal.at.common_prefix_len-d-requires c).In-loop-i) (i (goal.at.common_prefix_len-d-requires c).In-loop-i) c.loop-i-test.true refl)
-
-pub offset_bounds-rows-y-then-d-arity : goal.offset_bounds-rows-y-then-d-arity
-offset_bounds-rows-y-then-d-arity c = omega (arith, at_row (goal.at.offset_bounds-rows-y-then-d-arity c).In-loop-i)
-
-pub slice_bounds-append_row-count : goal.slice_bounds-append_row-count
-slice_bounds-append_row-count c = omega (arith, at_row (goal.at.slice_bounds-append_row-count c).In-loop-i)
-
-pub slice_bounds-append_row-start : goal.slice_bounds-append_row-start
-slice_bounds-append_row-start c = omega (arith, at_row (goal.at.slice_bounds-append_row-start c).In-loop-i)
 
 pub append_row-requires-then-d-arity : goal.append_row-requires-then-d-arity
 append_row-requires-then-d-arity c =
@@ -114,16 +81,10 @@ loop-i-preserved c =
     let d = c.common_prefix_len-d in
     let e = known (goal.at.loop-i-preserved c).In-loop-i d.result d.ensures in
     let h = ahead c.args.t.arity c.args.rows.now c.loop-i-test.true in
-    elim c.if-d-arity.branch [ then-d-arity x ↦ rw (x.pool-is, x.data_len-is, x.interval_len-is) (filled_next c.requires (width_given c.args.t.arity c.args.rows.now) c.loop-i.invariant h x.append_row-then-d-arity.auto.pool (pushed (row_now (goal.at.loop-i-preserved c).In-loop-i) (next (goal.at.loop-i-preserved c).In-loop-i d.result e (omega (arith, x.if-d-arity.true))) x.append_row-then-d-arity.ensures)) | else-d-arity x ↦ rw (x.pool-is, x.data_len-is, x.interval_len-is) (filled_equal c.requires (width_given c.args.t.arity c.args.rows.now) c.loop-i.invariant h (omega (arith, e, x.if-d-arity.false))) ]
-
-pub filled-requires : goal.filled-requires
-filled-requires c = (c.requires.positive, c.requires.few)
-
-pub shape_of-pool : goal.shape_of-pool
-shape_of-pool c = c.loop-i.invariant.long ∙ c.append_row.auto.pool
+    elim c.if-d-arity.branch [ then-d-arity x ↦ rw (x.pool-is, x.lengths-is) (filled_next c.requires (width_given c.args.t.arity c.args.rows.now) c.loop-i.invariant h x.append_row-then-d-arity.auto.pool (pushed (row_now (goal.at.loop-i-preserved c).In-loop-i) (next (goal.at.loop-i-preserved c).In-loop-i d.result e (omega (arith, x.if-d-arity.true))) x.append_row-then-d-arity.ensures)) | else-d-arity x ↦ rw (x.pool-is, x.lengths-is) (filled_equal c.requires (width_given c.args.t.arity c.args.rows.now) c.loop-i.invariant h (omega (arith, e, x.if-d-arity.false))) ]
 
 pub returns : goal.returns
 returns c =
     let h : 0 < length c.args.rows.now / c.args.t.arity = omega (arith, c.if-n-eq0.false) in
     subst (Fills c.args.pool.now c.args.t (rows_given c.args.t.arity c.args.rows.now) c.loop-i.pool) (sym c.filled.ensures)
-    (fills_all c.requires (width_given c.args.t.arity c.args.rows.now) (ahead c.args.t.arity c.args.rows.now h) (pushed (first c.args.t.arity c.args.rows.now (ahead c.args.t.arity c.args.rows.now h)) (pushing_first c.requires (width_given c.args.t.arity c.args.rows.now) (ahead c.args.t.arity c.args.rows.now h)) c.append_row.ensures) c.loop-i.invariant (omega (arith, length_given c.args.t.arity c.args.rows.now, c.loop-i-test.false)))
+    (fills_all c.requires (width_given c.args.t.arity c.args.rows.now) (ahead c.args.t.arity c.args.rows.now h) (pushed (first c.args.t.arity c.args.rows.now (ahead c.args.t.arity c.args.rows.now h)) (pushing_first c.requires (width_given c.args.t.arity c.args.rows.now) c.of-lengths.ensures (ahead c.args.t.arity c.args.rows.now h)) c.append_row.ensures) c.loop-i.invariant (omega (arith, length_given c.args.t.arity c.args.rows.now, c.loop-i-test.false)))

@@ -66,10 +66,10 @@ module _ (c : In-loop-j) where
   begun : 0 < length rows
   begun = omega (arith, ahead)
 
-  first_pushed : Pushes c.args.into.now c.args.empty (take 0 rows) (get_or rows 0 []) c.append_row.new.pool c.append_row.new.data_len c.append_row.new.interval_len
+  first_pushed : Pushes c.args.into.now c.args.empty (take 0 rows) (get_or rows 0 []) c.append_row.new.pool c.append_row.new.self.data c.append_row.new.self.intervals
   first_pushed =
       let r = row_is c.row-last.result c.requires.arity (moved c.args.into.now (omega (arith, c.layer_at-at.ensures)) (c.requires.lies 0 (omega (arith, c.if-n-eq0.false)))) c.row-last.ensures in
-      pushed r (pushing_first c.requires.fill c.requires.width begun) c.append_row.ensures
+      pushed r (pushing_first c.requires.fill c.requires.width c.of-lengths.ensures begun) c.append_row.ensures
 
   -- word j is still there
   rank_now : RankAt c.args.rows.now j (get_or c.loop-j.into (c.layer_at-at.result + j) 0)
@@ -101,13 +101,13 @@ row-last-requires c =
 pub append_row-requires : goal.append_row-requires
 append_row-requires c =
     let k = (goal.at.append_row-requires c).After-row-last in
-    can_push (first_row k) (pushing_first c.requires.fill c.requires.width (first k))
+    can_push (first_row k) (pushing_first c.requires.fill c.requires.width c.of-lengths.ensures (first k))
 
 pub loop-j-init : goal.loop-j-init
 loop-j-init c =
     let k = (goal.at.loop-j-init c).After-row-last in
     let e : length c.row-last.result ≡ max_arity = search rules in
-    (filled_first c.requires.fill c.requires.width (first k) (pushed (first_row k) (pushing_first c.requires.fill c.requires.width (first k)) c.append_row.ensures), e, first_row k)
+    (filled_first c.requires.fill c.requires.width (first k) (pushed (first_row k) (pushing_first c.requires.fill c.requires.width c.of-lengths.ensures (first k)) c.append_row.ensures), e, first_row k)
 
 pub overflow_add-w : goal.overflow_add-w
 overflow_add-w c = omega (arith, c.layer_at-at.ensures, inside (goal.at.overflow_add-w c).Start c.loop-j-test.true, c.well_formed)
@@ -147,11 +147,11 @@ module _ (c : After-common_prefix_len-d) where
   differs r = omega (arith, from r, neighbours_differ c.requires.asc c.requires.width i c.loop-j.invariant.0.low known)
 
   next : take c.args.empty.arity c.row-row.result ≡ get_or rows_here i [] →
-      Pushing (length c.loop-j.into) c.args.empty c.loop-j.data_len c.loop-j.interval_len (take i rows_here) (get_or rows_here i []) c.common_prefix_len-d.result (c.common_prefix_len-d.result + 1)
+      Pushing (length c.loop-j.into) c.args.empty c.loop-j.lengths.data c.loop-j.lengths.intervals (take i rows_here) (get_or rows_here i []) c.common_prefix_len-d.result (c.common_prefix_len-d.result + 1)
   next r =
       let l = c.loop-j in
       let d = c.common_prefix_len-d.result in
-      subst (λ (m : ℕ). Pushing m c.args.empty l.data_len l.interval_len (take i rows_here) (get_or rows_here i []) d (d + 1)) (sym (l.invariant.0.long ∙ c.append_row.auto.pool))
+      subst (λ (m : ℕ). Pushing m c.args.empty l.lengths.data l.lengths.intervals (take i rows_here) (get_or rows_here i []) d (d + 1)) (sym (l.invariant.0.long ∙ c.append_row.auto.pool))
       (pushing_next c.requires.fill c.requires.width d l.invariant.0 known (from r) (differs r))
 
 pub overflow_add-d : goal.overflow_add-d
@@ -185,4 +185,4 @@ pub returns : goal.returns
 returns c =
     let k = (goal.at.returns c).After-row-last in
     subst (Fills c.args.into.now c.args.empty (sort (rows_seen c.args.rows.now)) c.loop-j.into) (sym c.filled.ensures)
-    (fills_all c.requires.fill c.requires.width (first k) (pushed (first_row k) (pushing_first c.requires.fill c.requires.width (first k)) c.append_row.ensures) c.loop-j.invariant.0 (omega (arith, c.requires.many, c.loop-j-test.false)))
+    (fills_all c.requires.fill c.requires.width (first k) (pushed (first_row k) (pushing_first c.requires.fill c.requires.width c.of-lengths.ensures (first k)) c.append_row.ensures) c.loop-j.invariant.0 (omega (arith, c.requires.many, c.loop-j-test.false)))

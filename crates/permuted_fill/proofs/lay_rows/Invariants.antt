@@ -10,4 +10,4 @@ use Rattle.permuted_rows.specs.Seen.{rows_seen}
 use Rattle.permuted_fill.proofs.lay_rows.Given as goal
 
 abbrev pub invariant-loop-j : goal.invariant-loop-j
-invariant-loop-j l = Filled l.empty (sort (rows_seen l.rows)) l.initial.into l.into l.data_len l.interval_len l.j × (length l.last ≡ max_arity) × (take l.empty.arity l.last ≡ get_or (sort (rows_seen l.rows)) (l.j - 1) [])
+invariant-loop-j l = Filled l.empty (sort (rows_seen l.rows)) l.initial.into l.into l.lengths.data l.lengths.intervals l.j × (length l.last ≡ max_arity) × (take l.empty.arity l.last ≡ get_or (sort (rows_seen l.rows)) (l.j - 1) [])

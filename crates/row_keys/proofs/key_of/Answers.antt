@@ -27,11 +27,8 @@ fits s = layer_fits (in_pool (sound s)) s.requires.2
 found : (c : After-loop-e) → KeyAt c.args.pool.now c.args.t c.args.i c.args.d c.loop-e.place
 found c =
     let l = c.loop-e in
-    let e : l.e ≡ c.args.d = omega (arith, l.invariant.low, c.loop-e-test.false) in
-    rw e at (climbing_at (whole c.before.before.before.before.before) (sound c.before.before.before.before.before) l.invariant c.requires.1)
-
-pub overflow_sub-e : goal.overflow_sub-e
-overflow_sub-e c = omega (arith, (sound (goal.at.overflow_sub-e c).Start).arity.0)
+    let e : l.e - 1 ≡ c.args.d = omega (arith, l.invariant.low, c.loop-e-test.false) in
+    rw e at (climbing_at (whole c.before.before.before.before) (sound c.before.before.before.before) l.invariant c.requires.1)
 
 pub loop-e-init : goal.loop-e-init
 loop-e-init c = climbing_start (whole (goal.at.loop-e-init c).Start) (sound (goal.at.loop-e-init c).Start) c.args.i c.args.d (c.args.t.arity - 1) c.requires.2 refl
@@ -41,15 +38,9 @@ parent_of-place-requires c =
     let l = c.loop-e in
     (c.requires.0, l.invariant.high, (climbing_at (whole (goal.at.parent_of-place-requires c).Start) (sound (goal.at.parent_of-place-requires c).Start) l.invariant c.requires.1).inside)
 
-pub overflow_sub-e-in-loop-e : goal.overflow_sub-e-in-loop-e
-overflow_sub-e-in-loop-e c = omega (arith, c.loop-e-test.true)
-
-pub loop-e-smaller : goal.loop-e-smaller
-loop-e-smaller c = omega (arith, c.loop-e-test.true)
-
 pub loop-e-preserved : goal.loop-e-preserved
 loop-e-preserved c =
-    climbing_on (whole (goal.at.loop-e-preserved c).Start) (sound (goal.at.loop-e-preserved c).Start) c.loop-e.invariant c.loop-e-test.true c.parent_of-place.ensures
+    climbing_on (whole (goal.at.loop-e-preserved c).Start) (sound (goal.at.loop-e-preserved c).Start) c.loop-e.invariant (omega (arith, c.loop-e-test.true)) c.parent_of-place.ensures
 
 pub layer_at-at-requires : goal.layer_at-at-requires
 layer_at-at-requires c =

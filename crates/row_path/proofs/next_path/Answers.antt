@@ -26,14 +26,14 @@ starts : (s : Start) (d : ℕ) → d < s.args.t.arity → (k : ℕ) {from : ℕ}
     from ≡ get_or (layer (layers_in s.args.pool.now s.args.t) d).intervals k (length (layer (layers_in s.args.pool.now s.args.t) d).keys)
 starts s d h k e = begins_is s.args.pool.now (whole s) (in_pool (sound s)) d k h e
 
-pub overflow_sub-d : goal.overflow_sub-d
-overflow_sub-d c = omega (arith, (sound (goal.at.overflow_sub-d c).Start).arity.0)
+pub overflow_sub-path : goal.overflow_sub-path
+overflow_sub-path c = omega (arith, (sound (goal.at.overflow_sub-path c).Start).arity.0)
 
-pub offset_bounds-path-d : goal.offset_bounds-path-d
-offset_bounds-path-d c = omega (arith, (sound (goal.at.offset_bounds-path-d c).Start).arity.1)
+pub bounds-path-t : goal.bounds-path-t
+bounds-path-t c = omega (arith, (sound (goal.at.bounds-path-t c).Start).arity.1)
 
-pub bounds-path-d : goal.bounds-path-d
-bounds-path-d c = omega (arith, (sound (goal.at.bounds-path-d c).Start).arity.1)
+pub offset_bounds-path-t : goal.offset_bounds-path-t
+offset_bounds-path-t c = omega (arith, (sound (goal.at.offset_bounds-path-t c).Start).arity.1)
 
 pub loop-d-init : goal.loop-d-init
 loop-d-init c =
@@ -44,42 +44,24 @@ loop-d-init c =
 pub overflow_add-next : goal.overflow_add-next
 overflow_add-next c =
     let h = layers (goal.at.overflow_add-next c).Start in
-    let p = parent_listed h.chain (omega (arith, c.requires.1, h.counted)) c.loop-d.invariant c.loop-d-test.true in
-    omega (arith, p, ((sound (goal.at.overflow_add-next c).Start).layers.room c.loop-d.d (omega (arith, c.loop-d.invariant.depth, h.long))).1, (sound (goal.at.overflow_add-next c).Start).capacity.1)
+    let p = parent_listed h.chain (omega (arith, c.requires.1, h.counted)) c.loop-d.invariant (omega (arith, c.loop-d-test.true)) in
+    omega (arith, p, ((sound (goal.at.overflow_add-next c).Start).layers.room (c.loop-d.d - 1) (omega (arith, c.loop-d.invariant.depth, h.long))).1, (sound (goal.at.overflow_add-next c).Start).capacity.1)
 
 pub begins-from-requires : goal.begins-from-requires
 begins-from-requires c =
     (undamaged_header c.args.pool.now c.args.t c.requires.0, omega (arith, c.loop-d.invariant.depth, (layers (goal.at.begins-from-requires c).Start).long))
 
-pub offset_bounds-path-d-in-loop-d : goal.offset_bounds-path-d-in-loop-d
-offset_bounds-path-d-in-loop-d c = omega (arith, c.loop-d.invariant.depth, c.loop-d.invariant.few)
-
-pub bounds-path-d-in-loop-d : goal.bounds-path-d-in-loop-d
-bounds-path-d-in-loop-d c = omega (arith, c.loop-d.invariant.depth, c.loop-d.invariant.few)
-
-pub offset_bounds-path-above-then-from-path : goal.offset_bounds-path-above-then-from-path
-offset_bounds-path-above-then-from-path c = let m = c.loop-d.invariant in omega (arith, m.depth, m.few)
-
-pub bounds-path-above-then-from-path : goal.bounds-path-above-then-from-path
-bounds-path-above-then-from-path c = let m = c.loop-d.invariant in omega (arith, m.depth, m.few)
-
-pub loop-d-smaller-then-from-path : goal.loop-d-smaller-then-from-path
-loop-d-smaller-then-from-path c = omega (arith, c.loop-d-test.true)
-
 pub loop-d-preserved-then-from-path : goal.loop-d-preserved-then-from-path
 loop-d-preserved-then-from-path c =
     let h = layers (goal.at.loop-d-preserved-then-from-path c).Start in
-    let f = starts (goal.at.loop-d-preserved-then-from-path c).Start c.loop-d.d (omega (arith, c.loop-d.invariant.depth, h.long)) (get_or c.loop-d.path (c.loop-d.d - 1) 0 + 1) c.begins-from.ensures in
-    moved_on h.chain (omega (arith, c.requires.1, h.counted)) c.loop-d.invariant c.loop-d-test.true f (omega (arith, c.if-from-path.true))
-
-pub loop-d-smaller : goal.loop-d-smaller
-loop-d-smaller c = omega (arith, c.loop-d-test.true)
+    let f = starts (goal.at.loop-d-preserved-then-from-path c).Start (c.loop-d.d - 1) (omega (arith, c.loop-d.invariant.depth, h.long)) (get_or c.loop-d.path ((c.loop-d.d - 1) - 1) 0 + 1) c.begins-from.ensures in
+    moved_on h.chain (omega (arith, c.requires.1, h.counted)) c.loop-d.invariant (omega (arith, c.loop-d-test.true)) f (omega (arith, c.if-from-path.true))
 
 pub loop-d-preserved : goal.loop-d-preserved
 loop-d-preserved c =
     let h = layers (goal.at.loop-d-preserved c).Start in
-    let f = starts (goal.at.loop-d-preserved c).Start c.loop-d.d (omega (arith, c.loop-d.invariant.depth, h.long)) (get_or c.loop-d.path (c.loop-d.d - 1) 0 + 1) c.begins-from.ensures in
-    moved_not h.chain (omega (arith, c.requires.1, h.counted)) c.loop-d.invariant c.loop-d-test.true f (omega (arith, c.if-from-path.false))
+    let f = starts (goal.at.loop-d-preserved c).Start (c.loop-d.d - 1) (omega (arith, c.loop-d.invariant.depth, h.long)) (get_or c.loop-d.path ((c.loop-d.d - 1) - 1) 0 + 1) c.begins-from.ensures in
+    moved_not h.chain (omega (arith, c.requires.1, h.counted)) c.loop-d.invariant (omega (arith, c.loop-d-test.true)) f (omega (arith, c.if-from-path.false))
 
 pub returns : goal.returns
 returns c = moved_all c.loop-d.invariant (omega (arith, c.loop-d-test.false))

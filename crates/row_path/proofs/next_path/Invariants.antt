@@ -1,10 +1,8 @@
 -- `row_path::next_path` meets its contract: from the last layer up, each place becomes that of the row (Moves.antt).
+use Prim.Native.Nat.{◌-◌}
 use Rattle.column_trie.specs.Table.{layers_in}
 use Rattle.row_path.proofs.Moves.{Moved}
 use Rattle.row_path.proofs.next_path.Given as goal
 
 abbrev pub invariant-loop-d : goal.invariant-loop-d
-invariant-loop-d l = Moved (layers_in l.pool l.t) l.i l.path l.d
-
-abbrev pub decreases-loop-d : goal.decreases-loop-d
-decreases-loop-d l = l.d
+invariant-loop-d l = Moved (layers_in l.pool l.t) l.i l.path (l.d - 1)

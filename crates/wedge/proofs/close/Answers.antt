@@ -3,4 +3,4 @@ use Rattle.wedge.proofs.Shifts.{closed}
 use Rattle.wedge.proofs.close.Goals as goal
 
 pub returns : goal.returns
-returns c = closed c.args.pool.now c.args.base c.args.at c.args.n c.requires.0 c.requires.1 c.shift_out.new.words c.shift_out.ensures
+returns c = let a = c.args in closed a.pool.now a.base a.at a.n c.requires.0 c.requires.1 _ c.copy_within.ensures.after

@@ -1,23 +1,17 @@
 -- The goals of `lower` that the check leaves.
-use Prim.Native.Nat.{◌+◌}
-use mathlib.Core.Logic.{inr}
-use native.Mathlib.Omega.{arith}
-use mathlib.Core.Path.{refl}
 use Rattle.wedge.specs.Shift.{lessened}
-use Rattle.wedge.proofs.Raises.{raising_start, raising_step, raising_done}
+use Rattle.std.proofs.Common.{refl, ap, arith, ◌+◌, get_or, ℕ, List}
+use Rattle.wedge.proofs.Raises.{lifting_at, lifting_next, part, part_long, part_word, raised}
 use Rattle.wedge.proofs.lower.Goals as goal
 
-pub loop-i-init : goal.loop-i-init
-loop-i-init c = raising_start lessened c.args.pool.now (c.args.base + c.args.from) (c.args.base + c.args.n) (omega arith)
+pub overflow_sub-word : goal.overflow_sub-word
+overflow_sub-word c =
+    let a = c.args in
+    let i = c.loop-word.word-index in
+    omega (arith, ap (λ (l : List ℕ). get_or l i 0) c.loop-word.invariant, lifting_at lessened (part a.pool.now a.base a.from a.n c.requires.0 c.requires.1) i, part_word a.pool.now a.base a.from a.n c.requires.0 c.requires.1 i c.loop-word-test.true, c.requires.2 (a.base + a.from + i) (omega arith) (omega (arith, part_long a.pool.now a.base a.from a.n c.requires.0 c.requires.1, c.loop-word-test.true)))
 
-pub overflow_sub-pool : goal.overflow_sub-pool
-overflow_sub-pool c = omega (arith, c.loop-i.invariant.stays c.loop-i.i (inr (omega arith)), c.requires.2 c.loop-i.i (omega (arith, c.loop-i.invariant)) c.loop-i-test.true)
-
-pub loop-i-preserved : goal.loop-i-preserved
-loop-i-preserved c = raising_step c.loop-i.invariant c.requires.1 c.loop-i-test.true _ refl
-
-pub shape_of-pool : goal.shape_of-pool
-shape_of-pool c = c.loop-i.invariant.long
+pub loop-word-preserved : goal.loop-word-preserved
+loop-word-preserved c = lifting_next _ _ _ _ _ c.loop-word.invariant c.loop-word-test.true refl
 
 pub returns : goal.returns
-returns c = let a = c.args in raising_done a.base a.from a.n c.loop-i.invariant c.loop-i-test.false c.requires.0 c.requires.1
+returns c = let a = c.args in raised a.pool.now a.base a.from a.n c.requires.0 c.requires.1 lessened c.loop-word.word-index _ c.loop-word.invariant c.loop-word-test.false

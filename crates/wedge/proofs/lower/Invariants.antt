@@ -1,11 +1,8 @@
 -- `wedge::lower` meets its contract: the words passed are one less (Raises.antt).
-use Prim.Native.Nat.{◌+◌, ◌-◌}
 use Rattle.wedge.specs.Shift.{lessened}
-use Rattle.wedge.proofs.Raises.{Raising}
+use mathlib.Core.Path.{◌≡◌}
+use Rattle.wedge.proofs.Raises.{lifting}
 use Rattle.wedge.proofs.lower.Given as goal
 
-abbrev pub invariant-loop-i : goal.invariant-loop-i
-invariant-loop-i l = Raising lessened l.initial.pool (l.base + l.from) l.end l.pool l.i
-
-abbrev pub decreases-loop-i : goal.decreases-loop-i
-decreases-loop-i l = l.end - l.i
+abbrev pub invariant-loop-word : goal.invariant-loop-word
+invariant-loop-word l = l.word-items ≡ lifting lessened l.initial.word-items l.word-index

@@ -7,33 +7,23 @@ use lib.Seq.{get_or-take}
 use Rattle.relation.specs.Order.{Row}
 use Rattle.relation.specs.Layers.{layers_of}
 use Rattle.from_sorted.specs.Push.{Pushing}
-use Rattle.from_sorted.proofs.Columns.{Ready, ready_is, layer_fits, turn_interval, ready_only, ready_under, turn_key, turn_done, held_start, held_end}
+use Rattle.from_sorted.proofs.Columns.{Ready, layer_fits, turn_interval, ready_only, ready_under, turn_key, turn_done, held_start, held_end}
 use Rattle.from_sorted.proofs.Turns.{setting}
-use Rattle.from_sorted.proofs.append_row.Goals as goal
-use Rattle.from_sorted.proofs.append_row.Goals.{Joined-opens-d, else-opens-d, then-opens-d}
+use Rattle.from_sorted.proofs.Lengths.append_row.Goals as goal
+use Rattle.from_sorted.proofs.Lengths.append_row.Goals.{Joined-opens-d, else-opens-d, then-opens-d}
 
 -- past the branch the column's interval is open, if it is to be
-module _ (j : Joined-opens-d) (old : List Row) (p : Pushing (length j.args.pool.now) j.args.t j.args.data_len.now j.args.interval_len.now old (take j.args.t.arity j.args.row.now) j.args.from j.args.opens) where
-  ready : Ready j.args.t j.args.pool.now (layers_of j.args.t.arity old) (layers_of j.args.t.arity (old ++ (take j.args.t.arity j.args.row.now ∷ []))) j.loop-d.d (get_or (take j.args.t.arity j.args.row.now) j.loop-d.d 0) j.if-opens-d.pool j.loop-d.data_len j.if-opens-d.interval_len
+module _ (j : Joined-opens-d) (old : List Row) (p : Pushing (length j.args.pool.now) j.args.t j.args.self.now.data j.args.self.now.intervals old (take j.args.t.arity j.args.row.now) j.args.from j.args.opens) where
+  ready : Ready j.args.t j.args.pool.now (layers_of j.args.t.arity old) (layers_of j.args.t.arity (old ++ (take j.args.t.arity j.args.row.now ∷ []))) j.loop-d.d (get_or (take j.args.t.arity j.args.row.now) j.loop-d.d 0) j.if-opens-d.pool j.if-opens-d.self.data j.if-opens-d.self.intervals
   ready =
       let g = setting p in
       let v = j.loop-d.invariant in
       let h = j.loop-d-test.true in
-      elim j.if-opens-d.branch [ then-opens-d x ↦ ready_is x.pool-is x.interval_len-is (ready_under g (v.2 old p) h (omega (arith, x.if-opens-d.true)) (rw (← j.layer_at-at.ensures) x.append.ensures)) | else-opens-d x ↦ ready_is x.pool-is x.interval_len-is (ready_only g (v.2 old p) h v.0 (omega (arith, x.if-opens-d.false))) ]
+      elim j.if-opens-d.branch [ then-opens-d x ↦ rw (x.pool-is, x.self-is) (ready_under g (v.2 old p) h (omega (arith, x.if-opens-d.true)) (rw (← j.layer_at-at.ensures) x.append.ensures)) | else-opens-d x ↦ rw (x.pool-is, x.self-is) (ready_only g (v.2 old p) h v.0 (omega (arith, x.if-opens-d.false))) ]
 
 pub loop-d-init : goal.loop-d-init
 loop-d-init c =
     (omega arith, omega (arith, c.requires.1.turn.inside), λ old p. held_start (setting p) p.keys p.intervals)
-
-pub layer_at-at-requires : goal.layer_at-at-requires
-layer_at-at-requires c =
-    (omega (arith, c.requires.1.fits, c.well_formed), c.requires.1.small, omega (arith, c.requires.1.few, c.loop-d-test.true))
-
-pub offset_bounds-data_len-d : goal.offset_bounds-data_len-d
-offset_bounds-data_len-d c = omega (arith, c.requires.1.few, c.loop-d-test.true)
-
-pub bounds-data_len-d : goal.bounds-data_len-d
-bounds-data_len-d c = omega (arith, c.requires.1.few, c.loop-d-test.true)
 
 pub overflow_add-at : goal.overflow_add-at
 overflow_add-at c =
@@ -49,9 +39,6 @@ append-requires c =
     let h = c.loop-d-test.true in
     let v = l.invariant.2 c.requires.0 c.requires.1 in
     (omega (arith, c.requires.1.few, h), omega (arith, c.layer_at-at.ensures, turn_interval g v h, layer_fits g v h))
-
-pub offset_bounds-row-d : goal.offset_bounds-row-d
-offset_bounds-row-d c = omega (arith, c.requires.1.few, c.loop-d-test.true)
 
 pub bounds-row-d : goal.bounds-row-d
 bounds-row-d c = omega (arith, c.requires.1.wide, length-take c.args.t.arity c.args.row.now, c.loop-d-test.true)
@@ -69,9 +56,6 @@ loop-d-preserved c =
     let d = c.loop-d.d in
     let x : get_or (take c.args.t.arity c.args.row.now) d 0 ≡ get_or c.args.row.now d 0 = get_or-take c.args.t.arity c.args.row.now d 0 h in
     (omega arith, omega arith, λ old p. turn_done (setting p) (ready (goal.at.loop-d-preserved c).Joined-opens-d old p) h (rw (x, ← c.layer_at-at.ensures) c.append-in-loop-d.ensures))
-
-pub shape_of-pool : goal.shape_of-pool
-shape_of-pool c = (c.loop-d.invariant.2 c.requires.0 c.requires.1).long
 
 pub returns : goal.returns
 returns c =

@@ -1,10 +1,10 @@
--- `column_trie_build::build_number` meets its contract: the checks stand in the sequence of the definition's.
+-- `column_trie_build::check` meets its contract: the checks stand in the sequence of the definition's.
 use Rattle.relation.proofs.Tests.{passed, failed}
 use Rattle.column_trie.proofs.Header.{arity_told}
 use Rattle.column_trie_build.proofs.Numbers.{number_0, number_1, number_2, number_3, number_4, number_5}
 use mathlib.Core.Path.{ap}
 use mathlib.Core.Bool.{not}
-use Rattle.column_trie_build.proofs.build_number.Goals as goal
+use Rattle.column_trie_build.proofs.check.Goals as goal
 
 pub returns-then-not-arity_ok : goal.returns-then-not-arity_ok
 returns-then-not-arity_ok c = number_1 _ _ _ _ _ (failed c.arity_ok.ensures (ap not c.if-not-arity_ok.true))
