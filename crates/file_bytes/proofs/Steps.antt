@@ -1,22 +1,32 @@
--- Steps of the loops that read and write numbers, and read rows.
-use Prim.Native.Nat.{ℕ, zero, suc, ◌+◌, ◌*◌, ◌<◌, ◌≤◌}
+-- Steps of the loops that read numbers and rows, and what a word written leaves.
+use Prim.Native.Nat.{ℕ, zero, suc, ◌+◌, ◌*◌, ◌/◌, ◌<◌, ◌≤◌}
 use mathlib.Core.Path.{◌≡◌, refl, sym, ap, ap₂, ◌∙◌}
-use mathlib.Core.List.{List, [], ◌∷◌, ◌++◌}
+use mathlib.Core.List.{List, [], ◌∷◌, ◌++◌, append_assoc}
 use native.Mathlib.Omega.{arith}
 use native.Mathlib.Numerals.{add-one}
-use lib.ListN.{length, take, drop, get_or, set}
-use lib.Seq.{drop-drop, get_or-drop, take-suc-set}
+use lib.ListN.{length, take, drop, get_or, set, length-take}
+use lib.Seq.{drop-drop, get_or-take, take-suc-set, sets-eq}
+use borrow.Rule.Slice.PartMut.{put_mid}
+use Rattle.std.specs.Int.{w64, to_be_bytes}
+use Rattle.std.proofs.lemmas.Slice.{put_mid-paste}
+use Rattle.std.proofs.lemmas.List.Edits.{paste_all}
 use Rattle.column_trie.specs.Pool.{lay}
-use Rattle.table_file.specs.Bytes.{number, decode, Bytes}
+use Rattle.table_file.specs.Bytes.{bytes_of, number, decode, Bytes}
 use Rattle.table_file.proofs.Numbers.{top, number_top, bytes_drop}
 
 pub number_none : (bs : List ℕ) → number 0 bs ≡ 0
 unfolding number
 number_none bs = refl
 
-pub number_more : (at i : ℕ) (bs : List ℕ) → number (i + 1) (drop at bs) ≡ number i (drop at bs) * 256 + get_or bs (at + i) 0
+pub number_more : (i : ℕ) (bs : List ℕ) → number (i + 1) bs ≡ number i bs * 256 + get_or bs i 0
 unfolding number
-number_more at i bs = ap (λ (k : ℕ). number k (drop at bs)) (add-one i) ∙ ap (λ (k : ℕ). number i (drop at bs) * 256 + k) (get_or-drop at bs i 0)
+number_more i bs = ap (λ (k : ℕ). number k bs) (add-one i)
+
+-- the bytes of a part of no fewer than n
+pub number_part : (n m : ℕ) (bs : List ℕ) → n ≤ m → number n (take m bs) ≡ number n bs
+unfolding number
+number_part zero m bs h = refl
+number_part (suc n) m bs h = omega (arith, number_part n m bs (omega arith), get_or-take m bs n 0 (omega arith))
 
 top_more : (i : ℕ) → i < 8 → top i * 256 ≤ 18446744073709551616
 unfolding top
@@ -30,24 +40,32 @@ top_more (suc (suc (suc (suc (suc (suc zero)))))) h = omega arith
 top_more (suc (suc (suc (suc (suc (suc (suc zero))))))) h = omega arith
 top_more (suc (suc (suc (suc (suc (suc (suc (suc i)))))))) h = absurd (omega arith)
 
-pub number_fits : (at i : ℕ) (bs : List ℕ) → Bytes bs → i < 8 → number i (drop at bs) * 256 + 255 < 18446744073709551616
-number_fits at i bs b h = omega (arith, number_top i (drop at bs) (bytes_drop at bs b), top_more i h)
+-- at each byte of a part of eight or fewer: a word has room for that byte too
+pub number_fits : (k i at : ℕ) (bs : List ℕ) → Bytes bs → k ≤ 8 → i < length (take k (drop at bs)) → number i (take k (drop at bs)) * 256 + get_or (take k (drop at bs)) i 0 < 18446744073709551616
+number_fits k i at bs b h j =
+    let short : i < k = omega (arith, length-take k (drop at bs)) in
+    let byte : get_or (take k (drop at bs)) i 0 < 256 = omega (arith, get_or-take k (drop at bs) i 0 short, bytes_drop at bs b i) in
+    omega (arith, byte, number_part i k (drop at bs) (omega arith), number_top i (drop at bs) (bytes_drop at bs b), top_more i (omega arith))
 
--- eight bytes, one behind the other
-pub word_laid :
-    (text : List ℕ) (at x₀ x₁ x₂ x₃ x₄ x₅ x₆ x₇ : ℕ) →
-    set (set (set (set (set (set (set (set text at x₀) (at + 1) x₁) (at + 2) x₂) (at + 3) x₃) (at + 4) x₄) (at + 5) x₅) (at + 6) x₆) (at + 7) x₇ ≡
-    lay text at (x₀ ∷ (x₁ ∷ (x₂ ∷ (x₃ ∷ (x₄ ∷ (x₅ ∷ (x₆ ∷ (x₇ ∷ []))))))))
-unfolding lay
-word_laid text at x₀ x₁ x₂ x₃ x₄ x₅ x₆ x₇ =
-    let e₁ : at + 1 ≡ suc at = omega arith in
-    let e₂ : at + 2 ≡ suc (suc at) = omega arith in
-    let e₃ : at + 3 ≡ suc (suc (suc at)) = omega arith in
-    let e₄ : at + 4 ≡ suc (suc (suc (suc at))) = omega arith in
-    let e₅ : at + 5 ≡ suc (suc (suc (suc (suc at)))) = omega arith in
-    let e₆ : at + 6 ≡ suc (suc (suc (suc (suc (suc at))))) = omega arith in
-    let e₇ : at + 7 ≡ suc (suc (suc (suc (suc (suc (suc at)))))) = omega arith in
+-- the library's bytes of a word are ours
+pub word_bytes : (w : ℕ) → to_be_bytes w64 w ≡ bytes_of 8 w
+unfolding bytes_of
+word_bytes w =
+    let e₂ : w / 65536 ≡ w / 256 / 256 = omega arith in
+    let e₃ : w / 16777216 ≡ w / 256 / 256 / 256 = omega arith in
+    let e₄ : w / 4294967296 ≡ w / 256 / 256 / 256 / 256 = omega arith in
+    let e₅ : w / 1099511627776 ≡ w / 256 / 256 / 256 / 256 / 256 = omega arith in
+    let e₆ : w / 281474976710656 ≡ w / 256 / 256 / 256 / 256 / 256 / 256 = omega arith in
+    let e₇ : w / 72057594037927936 ≡ w / 256 / 256 / 256 / 256 / 256 / 256 / 256 = omega arith in
     cc
+
+-- a part written over, as words laid
+pub written : (text : List ℕ) (at k : ℕ) (ys zs : List ℕ) → ys ≡ zs → k ≡ length zs → at + length zs ≤ length text → put_mid at k text ys ≡ lay text at zs
+unfolding lay
+written text at k ys zs e n h =
+    put_mid-paste at k text ys zs (length zs) e (sym n) refl ∙
+    paste_all text at zs (length zs) refl ∙
+    sym (sets-eq zs text at h ∙ append_assoc (take at text) zs (drop (at + length zs) text))
 
 -- ---- a row, word by word
 

@@ -1,15 +1,17 @@
 -- The field of rows at the front, by its bytes.
-use Prim.Native.Nat.{ℕ, ◌+◌, ◌*◌, ◌/◌, ◌%◌, ◌-◌, ◌<◌, ◌≤◌}
+use Prim.Native.Nat.{ℕ, zero, suc, ◌+◌, ◌*◌, ◌/◌, ◌%◌, ◌-◌, ◌<◌, ◌≤◌}
 use mathlib.Core.Path.{◌≡◌, refl, sym, ap, ap₂, ◌∙◌, subst}
 use mathlib.Core.Bool.{Bool, true, false, ◌&&◌, ◌||◌}
 use mathlib.Core.Logic.{◌⊎◌, inl, inr, ⊎_elim}
 use mathlib.Core.List.{List, ◌∷◌, ◌++◌, append_assoc}
 use native.Mathlib.Omega.{arith}
-use native.Mathlib.Nat.{div-add-mod'}
+use native.Mathlib.Nat.{div-add-mod', suc-mul}
 use lib.ListN.{length, take, drop, get_or, length-append, length-drop, take-append-drop}
-use lib.Dec.{eqb, ltb}
+use lib.Dec.{eqb}
 use lib.Seq.{get_or-drop, drop-drop, drop-cons, take_all}
-use borrow.Author.Tests.{eqb-true, eq-eqb, ltb-true, ltb-false}
+use borrow.Author.Tests.{eqb-true, eq-eqb}
+use Rattle.std.specs.Prelude.{Some, None}
+use Rattle.std.proofs.lemmas.Option.{none-some, same_Some}
 use Rattle.relation.specs.Rows.{cut, flat, same}
 use Rattle.relation.proofs.Tests.{and_true, or_right, not_both}
 use Rattle.relation.proofs.Words.{flat_cut}
@@ -22,6 +24,11 @@ use Rattle.table_file.proofs.Fields.{eights, two, per_fits, length_flat, length_
 either : (x y : Bool) → (x || y) ≡ true → (x ≡ true) ⊎ (y ≡ true)
 either true y h = inl refl
 either false y h = inr h
+
+-- a product with a factor that is not 0
+pub times : (k a : ℕ) → 0 < a → k ≤ k * a
+times zero a h = omega arith
+times (suc k) a h = omega (arith, times k a h, suc-mul k a)
 
 or_left : (x y : Bool) → x ≡ true → (x || y) ≡ true
 or_left x y h = ap (λ (z : Bool). z || y) h
@@ -108,53 +115,60 @@ module _ (a : ℕ) (pos : 0 < a) (bs : List ℕ) (b : Bytes bs) where
       (λ (e : same (drop (3 + said) bs) end ≡ true). or_right (eqb (length (rows_here a bs)) (per_field a)) (same (behind a bs) end) (subst (λ (l : List ℕ). same l end ≡ true) (sym (behind_is g.whole)) e))
       g.last))
 
-  rows_ok : field_ok a bs ≡ true → field_rows a bs ≡ length (rows_here a bs)
+  rows_ok : field_ok a bs ≡ true → field_rows a bs ≡ Some (length (rows_here a bs))
   unfolding field_rows
   rows_ok h = simp (field_rows, h)
 
-  rows_none : field_ok a bs ≡ false → field_rows a bs ≡ 0
+  rows_none : field_ok a bs ≡ false → field_rows a bs ≡ None
   unfolding field_rows
   rows_none h = simp (field_rows, h)
 
-  pub rows_bad : (Good → ⊥) → field_rows a bs ≡ 0
+  pub rows_bad : (Good → ⊥) → field_rows a bs ≡ None
   rows_bad n = go (field_ok a bs) refl
     where
-      go : (x : Bool) → field_ok a bs ≡ x → field_rows a bs ≡ 0
+      go : (x : Bool) → field_ok a bs ≡ x → field_rows a bs ≡ None
       go true h = absurd (n (ok_good h))
       go false h = rows_none h
 
-  pub rows_good : Good → field_rows a bs ≡ rows_said
-  rows_good g = go (field_ok a bs) refl (ltb 0 rows_said) refl
+  pub rows_empty : said ≡ 0 → field_rows a bs ≡ None
+  rows_empty z = go (field_ok a bs) refl
     where
-      go : (x : Bool) → field_ok a bs ≡ x → (y : Bool) → ltb 0 rows_said ≡ y → field_rows a bs ≡ rows_said
-      go true h y k = rows_ok h ∙ length_here a pos bs
-      go false h true k = not_both (field_ok a bs) (good_ok g (ltb-true 0 rows_said k)) h
-      go false h false k = rows_none h ∙ omega (arith, ltb-false 0 rows_said k)
+      go : (x : Bool) → field_ok a bs ≡ x → field_rows a bs ≡ None
+      go true h = absurd (omega (arith, exact (ok_good h).whole, eights rows_said a, not_empty_rows (rows_here a bs) (tests a pos bs h).1, length_here a pos bs, times rows_said a pos))
+      go false h = rows_none h
+
+  pub rows_good : Good → 0 < said → field_rows a bs ≡ Some rows_said
+  rows_good g s = rows_ok (good_ok g (some_said rows_said refl)) ∙ ap Some (length_here a pos bs)
+    where
+      some_said : (q : ℕ) → rows_said ≡ q → 0 < rows_said
+      some_said zero e = absurd (omega (arith, exact g.whole, ap (λ (j : ℕ). 8 * (j * a)) e))
+      some_said (suc q) e = omega arith
 
   -- a field that is there
-  pub some_ok : 0 < field_rows a bs → field_ok a bs ≡ true
-  some_ok h = go (field_ok a bs) refl
+  pub some_ok : {k : ℕ} → Some k ≡ field_rows a bs → field_ok a bs ≡ true
+  some_ok {k} e = go (field_ok a bs) refl
     where
       go : (x : Bool) → field_ok a bs ≡ x → field_ok a bs ≡ true
-      go true k = k
-      go false k = absurd (omega (arith, rows_none k))
+      go true h = h
+      go false h = absurd (none-some k (sym (e ∙ rows_none h)))
 
-  pub none_bad : field_rows a bs ≡ 0 → field_ok a bs ≡ false
-  none_bad h = go (field_ok a bs) refl
+  pub none_bad : None ≡ field_rows a bs → field_ok a bs ≡ false
+  none_bad e = go (field_ok a bs) refl
     where
       go : (x : Bool) → field_ok a bs ≡ x → field_ok a bs ≡ false
-      go true k = absurd (omega (arith, rows_ok k, not_empty_rows (rows_here a bs) (tests a pos bs k).1))
-      go false k = k
+      go true h = absurd (none-some _ (e ∙ rows_ok h))
+      go false h = h
 
   -- where it ends, by its rows
-  pub behind_rows : 0 < field_rows a bs → (behind a bs ≡ drop (3 + 8 * (field_rows a bs * a)) bs) × (3 + 8 * (field_rows a bs * a) ≤ length bs) × (length (rows_here a bs) ≡ field_rows a bs)
-  behind_rows h =
-      let k = some_ok h in
-      let g = ok_good k in
-      let e = rows_ok k in (
-        ap (λ (n : ℕ). drop n bs) (length_field (rows_here a bs) (here_width a pos bs) ∙ ap (λ (j : ℕ). 3 + 8 * (j * a)) (sym e)),
-        omega (arith, ap (λ (j : ℕ). 8 * (j * a)) (e ∙ length_here a pos bs), exact g.whole, g.long),
-        sym e,
+  pub behind_rows : {k : ℕ} → Some k ≡ field_rows a bs → (behind a bs ≡ drop (3 + 8 * (k * a)) bs) × (3 + 8 * (k * a) ≤ length bs) × (length (rows_here a bs) ≡ k) × (0 < k)
+  behind_rows {k} e =
+      let h = some_ok e in
+      let g = ok_good h in
+      let n : length (rows_here a bs) ≡ k = sym (same_Some k (length (rows_here a bs)) (e ∙ rows_ok h)) in (
+        ap (λ (n : ℕ). drop n bs) (length_field (rows_here a bs) (here_width a pos bs) ∙ ap (λ (j : ℕ). 3 + 8 * (j * a)) n),
+        omega (arith, ap (λ (j : ℕ). 8 * (j * a)) (sym n ∙ length_here a pos bs), exact g.whole, g.long),
+        n,
+        omega (arith, n, not_empty_rows (rows_here a bs) (tests a pos bs h).1),
       )
 
 -- ---- at a place of the bytes
@@ -169,17 +183,20 @@ module _ (a : ℕ) (pos : 0 < a) (bytes : List ℕ) (at : ℕ) (b : Bytes bytes)
   tag_at : get_or (drop at bytes) 0 0 ≡ get_or bytes at 0
   tag_at = get_or-drop at bytes 0 0 ∙ ap (λ (k : ℕ). get_or bytes k 0) (let e : at + 0 ≡ at = omega arith in e)
 
-  pub at_short : length bytes - at < 3 → field_rows a (drop at bytes) ≡ 0
+  pub at_short : length bytes - at < 3 → field_rows a (drop at bytes) ≡ None
   at_short h = rows_bad a pos (drop at bytes) bd (λ g. omega (arith, g.long, length-drop at bytes))
 
-  pub at_tag : (get_or bytes at 0 ≡ 2 → ⊥) → field_rows a (drop at bytes) ≡ 0
+  pub at_tag : (get_or bytes at 0 ≡ 2 → ⊥) → field_rows a (drop at bytes) ≡ None
   at_tag h = rows_bad a pos (drop at bytes) bd (λ g. h (sym tag_at ∙ g.tag))
 
   module _ (n : ℕ) (e : n ≡ number 2 (drop (at + 1) bytes)) where
-    pub at_part : (n % (8 * a) ≡ 0 → ⊥) → field_rows a (drop at bytes) ≡ 0
+    pub at_empty : n ≡ 0 → field_rows a (drop at bytes) ≡ None
+    at_empty h = rows_empty a pos (drop at bytes) bd (said_at ∙ sym e ∙ h)
+
+    pub at_part : (n % (8 * a) ≡ 0 → ⊥) → field_rows a (drop at bytes) ≡ None
     at_part h = rows_bad a pos (drop at bytes) bd (λ g. h (ap (λ (k : ℕ). k % (8 * a)) (e ∙ sym said_at) ∙ g.whole))
 
-    pub at_long : length bytes - at - 3 < n → field_rows a (drop at bytes) ≡ 0
+    pub at_long : length bytes - at - 3 < n → field_rows a (drop at bytes) ≡ None
     at_long h = rows_bad a pos (drop at bytes) bd (λ g. omega (arith, g.long, length-drop at bytes, said_at))
 
     more : drop (3 + number 2 (drop 1 (drop at bytes))) (drop at bytes) ≡ drop (at + 3 + n) bytes
@@ -188,13 +205,13 @@ module _ (a : ℕ) (pos : 0 < a) (bytes : List ℕ) (at : ℕ) (b : Bytes bytes)
     count : number 2 (drop 1 (drop at bytes)) / (8 * a) ≡ n / (8 * a)
     count = ap (λ (k : ℕ). k / (8 * a)) (said_at ∙ sym e)
 
-    pub at_none : (n / (8 * a) ≡ 65535 / (8 * a) → ⊥) → same (drop (at + 3 + n) bytes) end ≡ false → field_rows a (drop at bytes) ≡ 0
+    pub at_none : (n / (8 * a) ≡ 65535 / (8 * a) → ⊥) → same (drop (at + 3 + n) bytes) end ≡ false → field_rows a (drop at bytes) ≡ None
     unfolding per_field
     at_none h k = rows_bad a pos (drop at bytes) bd (λ g. ⊎_elim (λ (x : number 2 (drop 1 (drop at bytes)) / (8 * a) ≡ per_field a). h (sym count ∙ x)) (λ (x : same (drop (3 + number 2 (drop 1 (drop at bytes))) (drop at bytes)) end ≡ true). not_both (same (drop (at + 3 + n) bytes) end) (subst (λ (l : List ℕ). same l end ≡ true) more x) k) g.last)
 
-    pub at_some : get_or bytes at 0 ≡ 2 → n % (8 * a) ≡ 0 → 3 ≤ length bytes - at → n ≤ length bytes - at - 3 → (n / (8 * a) ≡ 65535 / (8 * a)) ⊎ (same (drop (at + 3 + n) bytes) end ≡ true) → field_rows a (drop at bytes) ≡ n / (8 * a)
+    pub at_some : get_or bytes at 0 ≡ 2 → 0 < n → n % (8 * a) ≡ 0 → 3 ≤ length bytes - at → n ≤ length bytes - at - 3 → (n / (8 * a) ≡ 65535 / (8 * a)) ⊎ (same (drop (at + 3 + n) bytes) end ≡ true) → field_rows a (drop at bytes) ≡ Some (n / (8 * a))
     unfolding per_field
-    at_some t w l m o =
+    at_some t s w l m o =
         rows_good a pos (drop at bytes) bd
         (record {
           tag = tag_at ∙ t;
@@ -202,4 +219,5 @@ module _ (a : ℕ) (pos : 0 < a) (bytes : List ℕ) (at : ℕ) (b : Bytes bytes)
           long = omega (arith, length-drop at bytes, said_at);
           last = ⊎_elim (λ (x : n / (8 * a) ≡ 65535 / (8 * a)). inl (count ∙ x)) (λ (x : same (drop (at + 3 + n) bytes) end ≡ true). inr (subst (λ (l : List ℕ). same l end ≡ true) (sym more) x)) o;
         })
-        ∙ count
+        (omega (arith, said_at))
+        ∙ ap Some count

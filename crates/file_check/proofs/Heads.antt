@@ -4,11 +4,13 @@ use mathlib.Core.Path.{◌≡◌, refl, sym, ap, ap₂, ◌∙◌, subst}
 use mathlib.Core.Bool.{Bool, true, false, ◌&&◌, ◌||◌, not}
 use mathlib.Core.List.{List, [], ◌∷◌, ◌++◌, map, append_assoc}
 use native.Mathlib.Omega.{arith}
-use native.Mathlib.Numerals.{add-one}
 use lib.ListN.{length, take, drop, get_or, replicate, length-append, length-drop, length-map, length-replicate, take-append-drop}
-use lib.Dec.{eqb}
-use lib.Seq.{drop-drop, drop-cons, take_all, take-suc, get_or-drop, get_or-take, length-take-le, take_at, drop_at}
-use borrow.Author.Tests.{eq-eqb, ne_eqb}
+use lib.Dec.{eqb, leb}
+use lib.Seq.{drop-drop, drop-cons, length-take-le, take_at, drop_at}
+use borrow.Author.Tests.{eq-eqb, ne_eqb, lt-leb}
+use Rattle.std.specs.Prelude.{Some, None}
+use Rattle.std.specs.List.{list_all, list_any}
+use Rattle.relation.specs.Order.{pick}
 use Rattle.relation.specs.Rows.{same}
 use Rattle.relation.proofs.Tests.{and_left, and_right, and_true, and_false_left, or_right, not_both}
 use Rattle.column_trie.specs.Table.{arity_ok}
@@ -24,78 +26,33 @@ ones bs = map (λ b. eqb b 1) bs
 
 -- ---- kinds, byte by byte
 
-map_append : {A B : Type 0} (f : A → B) (xs ys : List A) → map f (xs ++ ys) ≡ map f xs ++ map f ys
-map_append f [] ys = refl
-map_append {B = B} f (x ∷ xs) ys = ap {B = List B} (λ l. f x ∷ l) (map_append f xs ys)
+low_is : (b : ℕ) (x : Bool) → (leb b 1 && x) ≡ pick (eqb b (kind_byte (eqb b 1))) x false
+low_is zero x = refl
+low_is (suc zero) x = refl
+low_is (suc (suc b)) x =
+    let n : eqb (suc (suc b)) 1 ≡ false = ne_eqb (suc (suc b)) 1 (λ e. omega arith) in
+    let z : eqb (suc (suc b)) 0 ≡ false = ne_eqb (suc (suc b)) 0 (λ e. omega arith) in
+    ap (λ (y : Bool). y && x) (lt-leb (suc (suc b)) 1 (omega arith)) ∙ sym (ap (λ (y : Bool). pick (eqb (suc (suc b)) (kind_byte y)) x false) n ∙ ap (λ (y : Bool). pick y x false) z)
 
-graded_snoc : (ks : List Bool) (k : Bool) → graded (ks ++ (k ∷ [])) ≡ (graded ks || k)
+-- each is 0 or 1, and some is 1: as the library tests it
+pub all_low : (bs : List ℕ) → list_all (λ b. leb b 1) bs ≡ same bs (map kind_byte (ones bs))
+unfolding same
+all_low [] = refl
+all_low (b ∷ bs) = ap (λ (x : Bool). leb b 1 && x) (all_low bs) ∙ low_is b (same bs (map kind_byte (ones bs)))
+
+pub some_one : (bs : List ℕ) → list_any (λ b. eqb b 1) bs ≡ graded (ones bs)
 unfolding graded
-graded_snoc [] true = refl
-graded_snoc [] false = refl
-graded_snoc (true ∷ ks) k = refl
-graded_snoc (false ∷ ks) k = graded_snoc ks k
+some_one [] = refl
+some_one (b ∷ bs) = ap (λ (x : Bool). eqb b 1 || x) (some_one bs)
 
-pub record Kinds (bs : List ℕ) (i : ℕ) (some : Bool) : Type 0 where
-  pub ahead : i ≤ length bs
-  pub each : take i bs ≡ map kind_byte (ones (take i bs))
-  pub any : some ≡ graded (ones (take i bs))
+module _ (bs : List ℕ) {low : Bool} (h : low ≡ list_all (λ b. leb b 1) bs) where
+  pub kinds_low : {one : Bool} → low ≡ true → one ≡ list_any (λ b. eqb b 1) bs → one ≡ kinds_ok bs
+  unfolding kinds_ok
+  kinds_low t e = e ∙ some_one bs ∙ sym (ap (λ (x : Bool). x && graded (ones bs)) (sym (all_low bs) ∙ sym h ∙ t))
 
-pub kinds_none : (bs : List ℕ) → Kinds bs 0 false
-unfolding graded
-kinds_none bs = record { ahead = omega arith; each = refl; any = refl }
-
-byte_of : (b : ℕ) → b ≤ 1 → b ≡ kind_byte (eqb b 1)
-byte_of zero h = refl
-byte_of (suc zero) h = refl
-byte_of (suc (suc b)) h = absurd (omega arith)
-
-pub kinds_more : {bs : List ℕ} {i : ℕ} {some some' : Bool} → Kinds bs i some → i < length bs → get_or bs i 0 ≤ 1 → some' ≡ (some || eqb (get_or bs i 0) 1) → Kinds bs (i + 1) some'
-kinds_more {bs} {i} {some} {some'} k h l e =
-    let b = get_or bs i 0 in
-    let t : take (i + 1) bs ≡ take i bs ++ (b ∷ []) = ap (λ (n : ℕ). take n bs) (add-one i) ∙ take-suc bs i 0 h in
-    let o : ones (take (i + 1) bs) ≡ ones (take i bs) ++ (eqb b 1 ∷ []) = ap ones t ∙ map_append (λ b. eqb b 1) (take i bs) (b ∷ []) in
-    record {
-      ahead = omega arith;
-      each = t ∙ ap₂ {C = List ℕ} (λ (x : List ℕ) (y : ℕ). x ++ (y ∷ [])) k.each (byte_of b l) ∙ sym (ap (map kind_byte) o ∙ map_append kind_byte (ones (take i bs)) (eqb b 1 ∷ []));
-      any = e ∙ ap (λ (x : Bool). x || eqb b 1) k.any ∙ sym (ap graded o ∙ graded_snoc (ones (take i bs)) (eqb b 1));
-    }
-
-pub kinds_all : {bs : List ℕ} {i : ℕ} {some : Bool} → Kinds bs i some → length bs ≤ i → some ≡ kinds_ok bs
-unfolding kinds_ok
-kinds_all {bs} {i} {some} k h =
-    let t : take i bs ≡ bs = take_all i bs h in
-    let s : same bs (map kind_byte (ones bs)) ≡ true = same_true (sym t ∙ k.each ∙ ap (λ (l : List ℕ). map kind_byte (ones l)) t) in
-    k.any ∙ ap (λ (l : List ℕ). graded (ones l)) t ∙ sym (ap (λ (x : Bool). x && graded (ones bs)) s)
-
-kind_low : (ks : List Bool) (i : ℕ) → get_or (map kind_byte ks) i 0 ≤ 1
-kind_low [] i = omega arith
-kind_low (true ∷ ks) zero = omega arith
-kind_low (false ∷ ks) zero = omega arith
-kind_low (k ∷ ks) (suc i) = kind_low ks i
-
-pub kinds_bad : (bs : List ℕ) (i : ℕ) → 1 < get_or bs i 0 → kinds_ok bs ≡ false
-unfolding kinds_ok
-kinds_bad bs i h = and_false_left (same bs (map kind_byte (ones bs))) (graded (ones bs)) (go (same bs (map kind_byte (ones bs))) refl)
-  where
-    go : (x : Bool) → same bs (map kind_byte (ones bs)) ≡ x → same bs (map kind_byte (ones bs)) ≡ false
-    go true e = absurd (omega (arith, ap (λ (l : List ℕ). get_or l i 0) (same_is bs (map kind_byte (ones bs)) e), kind_low (ones bs) i))
-    go false e = e
-
--- one kind more, a grade or not
-pub or_yes : (s : Bool) (b : ℕ) → b ≡ 1 → true ≡ (s || eqb b 1)
-or_yes s b h = sym (or_right s (eqb b 1) (eq-eqb b 1 h))
-
-pub or_no : (s : Bool) (b : ℕ) → (b ≡ 1 → ⊥) → s ≡ (s || eqb b 1)
-or_no true b h = refl
-or_no false b h = sym (ne_eqb b 1 h)
-
--- a part of the bytes
-module _ (bytes : List ℕ) (at n : ℕ) (h : at + n ≤ length bytes) where
-  pub part_length : length (take n (drop at bytes)) ≡ n
-  part_length = length-take-le n (drop at bytes) (omega (arith, length-drop at bytes))
-
-  pub part_at : (i : ℕ) → i < n → get_or (take n (drop at bytes)) i 0 ≡ get_or bytes (at + i) 0
-  part_at i k = get_or-take n (drop at bytes) i 0 k ∙ get_or-drop at bytes i 0
+  pub kinds_high : low ≡ false → low ≡ kinds_ok bs
+  unfolding kinds_ok
+  kinds_high f = f ∙ sym (and_false_left (same bs (map kind_byte (ones bs))) (graded (ones bs)) (sym (all_low bs) ∙ sym h ∙ f))
 
 -- ---- the head
 
@@ -115,15 +72,15 @@ module _ (bs : List ℕ) (b : Bytes bs) where
   abbrev kinds : List Bool
   kinds = kinds_read (get_or bs 3 0) bs
 
-  len_some : head_ok arity kinds bs ≡ true → head_len bs ≡ length (head arity kinds)
+  len_some : head_ok arity kinds bs ≡ true → head_len bs ≡ Some (length (head arity kinds))
   unfolding head_len
   len_some h = simp (head_len, h)
 
-  pub len_none : (head_ok arity kinds bs ≡ true → ⊥) → head_len bs ≡ 0
+  pub len_none : (head_ok arity kinds bs ≡ true → ⊥) → head_len bs ≡ None
   unfolding head_len
   len_none n = go (head_ok arity kinds bs) refl
     where
-      go : (x : Bool) → head_ok arity kinds bs ≡ x → head_len bs ≡ 0
+      go : (x : Bool) → head_ok arity kinds bs ≡ x → head_len bs ≡ None
       go true h = absurd (n h)
       go false h = simp (head_len, h)
 
@@ -136,13 +93,13 @@ module _ (bs : List ℕ) (b : Bytes bs) where
   unfolding head bytes_of number
   head_first h = ap (number 3) (begins_true (head arity kinds) bs (head_tests arity kinds bs h).3)
 
-  pub no_short : length bs < 4 → head_len bs ≡ 0
+  pub no_short : length bs < 4 → head_len bs ≡ None
   no_short h = len_none (λ k. omega (arith, head_long k))
 
-  pub no_first : (number 3 (drop 0 bs) ≡ 65537 → ⊥) → head_len bs ≡ 0
+  pub no_first : (number 3 (drop 0 bs) ≡ 65537 → ⊥) → head_len bs ≡ None
   no_first n = len_none (λ k. n (head_first k))
 
-  pub no_arity : arity_ok arity ≡ false → head_len bs ≡ 0
+  pub no_arity : arity_ok arity ≡ false → head_len bs ≡ None
   no_arity h = len_none (λ k. not_both (arity_ok arity) (head_tests arity kinds bs k).0 h)
 
   front : 4 ≤ length bs → number 3 bs ≡ 65537 → bs ≡ 1 ∷ (0 ∷ (1 ∷ (arity ∷ drop 4 bs)))
@@ -151,14 +108,14 @@ module _ (bs : List ℕ) (b : Bytes bs) where
       let t : bytes_of 3 65537 ≡ take 3 bs = ap (bytes_of 3) (sym h) ∙ bytes_number 3 bs b (omega arith) in
       sym (take-append-drop 3 bs) ∙ ap₂ {C = List ℕ} ◌++◌ (sym t) (drop-cons bs 3 0 (omega arith))
 
-  pub plain_head : 4 ≤ length bs → number 3 (drop 0 bs) ≡ 65537 → arity_ok arity ≡ true → (get_or bs 4 0 ≡ 4 → ⊥) → head_len bs ≡ 4
+  pub plain_head : 4 ≤ length bs → number 3 (drop 0 bs) ≡ 65537 → arity_ok arity ≡ true → (get_or bs 4 0 ≡ 4 → ⊥) → head_len bs ≡ Some 4
   plain_head l h p n =
       let e : kinds ≡ replicate arity false = kinds_plain arity bs n in
       let g : graded kinds ≡ false = ap graded e ∙ no_grades arity in
       let q : head arity kinds ≡ 1 ∷ (0 ∷ (1 ∷ (arity ∷ []))) = head_plain arity kinds g in
       let k : begins (head arity kinds) bs ≡ true = subst (λ (z : List ℕ). begins z bs ≡ true) (sym q) (subst (λ (z : List ℕ). begins (1 ∷ (0 ∷ (1 ∷ (arity ∷ [])))) z ≡ true) (sym (front l h)) (begins_append (1 ∷ (0 ∷ (1 ∷ (arity ∷ [])))) (drop 4 bs))) in
       let o = head_ok_lem arity kinds bs p (ap length e ∙ length-replicate arity false) (or_right (graded kinds) (not (eqb (get_or bs 4 0) 4)) (ap not (ne_eqb (get_or bs 4 0) 4 n))) k in
-      len_some o ∙ ap length q
+      len_some o ∙ ap (λ (z : List ℕ). Some (length z)) q
 
   module _ (four : get_or bs 4 0 ≡ 4) where
     abbrev kb : List ℕ
@@ -196,7 +153,7 @@ module _ (bs : List ℕ) (b : Bytes bs) where
         go false true h e = h
         go false false h e = e
 
-    pub graded_head : number 3 (drop 0 bs) ≡ 65537 → arity_ok arity ≡ true → 7 + arity ≤ length bs → number 2 (drop 5 bs) ≡ arity → kinds_ok kb ≡ true → head_len bs ≡ 7 + arity
+    pub graded_head : number 3 (drop 0 bs) ≡ 65537 → arity_ok arity ≡ true → 7 + arity ≤ length bs → number 2 (drop 5 bs) ≡ arity → kinds_ok kb ≡ true → head_len bs ≡ Some (7 + arity)
     unfolding kinds_ok
     graded_head h p l s k =
         let m : kb ≡ map kind_byte (ones kb) = same_is kb (map kind_byte (ones kb)) (and_left (same kb (map kind_byte (ones kb))) (graded (ones kb)) k) in
@@ -214,13 +171,13 @@ module _ (bs : List ℕ) (b : Bytes bs) where
         front (omega arith) h ∙
         ap (λ (u : List ℕ). 1 ∷ (0 ∷ (1 ∷ (arity ∷ u)))) (x ∙ ap (λ (u : List ℕ). 4 ∷ u) (y ∙ ap (λ (u : List ℕ). bytes_of 2 (length v) ++ u) z ∙ sym (append_assoc (bytes_of 2 (length v)) v (drop arity (drop 7 bs))))) in
         let f : begins (head arity kinds) bs ≡ true = subst (λ (u : List ℕ). begins u bs ≡ true) (sym q) (subst (λ (u : List ℕ). begins (1 ∷ (0 ∷ (1 ∷ (arity ∷ (4 ∷ (bytes_of 2 (length v) ++ v)))))) u ≡ true) (sym e) (begins_append (1 ∷ (0 ∷ (1 ∷ (arity ∷ (4 ∷ (bytes_of 2 (length v) ++ v)))))) (drop arity (drop 7 bs)))) in
-        len_some (head_ok_lem arity kinds bs p n (ap (λ (u : Bool). u || not (eqb (get_or bs 4 0) 4)) g) f) ∙ ap length q ∙ omega (arith, length-append (bytes_of 2 (length v)) v, length_bytes_of 2 (length v))
+        len_some (head_ok_lem arity kinds bs p n (ap (λ (u : Bool). u || not (eqb (get_or bs 4 0) 4)) g) f) ∙ ap Some (ap length q ∙ omega (arith, length-append (bytes_of 2 (length v)) v, length_bytes_of 2 (length v)))
 
-    pub no_long : arity ≤ 8 → length bs < 7 + arity → head_len bs ≡ 0
+    pub no_long : arity ≤ 8 → length bs < 7 + arity → head_len bs ≡ None
     no_long few h = len_none (λ k. omega (arith, (ok_graded few k).long))
 
-    pub no_size : arity ≤ 8 → (number 2 (drop 5 bs) ≡ arity → ⊥) → head_len bs ≡ 0
+    pub no_size : arity ≤ 8 → (number 2 (drop 5 bs) ≡ arity → ⊥) → head_len bs ≡ None
     no_size few n = len_none (λ k. n (ok_graded few k).size)
 
-    pub no_kinds : arity ≤ 8 → kinds_ok kb ≡ false → head_len bs ≡ 0
+    pub no_kinds : arity ≤ 8 → kinds_ok kb ≡ false → head_len bs ≡ None
     no_kinds few h = len_none (λ k. not_both (kinds_ok kb) (ok_graded few k).good h)

@@ -6,16 +6,17 @@ use mathlib.Core.List.{List, []}
 use native.Mathlib.Omega.{arith}
 use lib.ListN.{length, drop, get_or, length-drop, length-append}
 use lib.Seq.{drop-drop}
+use Rattle.std.specs.Prelude.{Option, Some, None}
+use Rattle.std.proofs.lemmas.Option.{none-some, same_Some}
 use Rattle.relation.specs.Tests.{every}
 use Rattle.relation.specs.Order.{Row, before}
 use Rattle.relation.specs.Lists.{◌∈◌}
 use Rattle.relation.proofs.Lists.{get_or_in}
-use Rattle.relation.proofs.Tests.{every_none, every_more, every_fails, every_fewer, not_both}
+use Rattle.relation.proofs.Tests.{every_none, every_more, every_fails, every_fewer}
 use Rattle.table_file.specs.Bytes.{decode, Bytes}
-use Rattle.table_file.specs.File.{end, head, Read, nothing, found, kinds_read, head_ok, ascending, if_ascending, parse_as, parse}
+use Rattle.table_file.specs.File.{end, head, kinds_read, head_ok, ascending, if_ascending, parse_as, parse}
 use Rattle.table_file.specs.Places.{place}
 use Rattle.file_check.specs.Checks.{counted, head_len, given, rows_from, HasRows, checked}
-use Rattle.file_check.specs.declared.Counted.{Counted}
 use Rattle.table_file.proofs.Numbers.{bytes_drop}
 use Rattle.table_file.proofs.Fields.{Written, written, per_some}
 use Rattle.table_file.proofs.Laws.{head_long, headed, parse_open, parse_shut, keeps, drops}
@@ -35,9 +36,9 @@ ascended_none rows = record { some = omega arith; upto = every_none (in_order ro
 
 -- ---- the rows where they lie
 
-counted_found : (r : Read (List Row)) (n : ℕ) → counted r ≡ record { ok = true; rows = n } → (r ≡ found (given r)) × (n ≡ length (given r))
-counted_found nothing n h = not_both true refl (sym (ap (λ (c : Counted). c.ok) h))
-counted_found (found rows) n h = (refl, sym (ap (λ (c : Counted). c.rows) h))
+counted_found : (r : Option (List Row)) (n : ℕ) → counted r ≡ Some n → (r ≡ Some (given r)) × (n ≡ length (given r))
+counted_found None n h = absurd (none-some n h)
+counted_found (Some rows) n h = (refl, sym (same_Some (length rows) n h))
 
 module _ {bytes : List ℕ} {at a n : ℕ} (b : Bytes bytes) (h : HasRows bytes at a n) where
   abbrev rows : List Row
@@ -103,30 +104,30 @@ module _ (bytes : List ℕ) where
     pub long : 4 ≤ length bytes
     pub opens : parse bytes ≡ if_ascending arity kinds (rows_from bytes body arity)
 
-  len_true : head_ok arity kinds bytes ≡ true → head_len bytes ≡ length (head arity kinds)
+  len_true : head_ok arity kinds bytes ≡ true → head_len bytes ≡ Some (length (head arity kinds))
   unfolding head_len
   len_true h = simp (head_len, h)
 
-  len_false : head_ok arity kinds bytes ≡ false → head_len bytes ≡ 0
+  len_false : head_ok arity kinds bytes ≡ false → head_len bytes ≡ None
   unfolding head_len
   len_false h = simp (head_len, h)
 
-  pub not_begun : head_len bytes ≡ 0 → checked (parse bytes) ≡ record { ok = false; arity = 0; body = 0; rows = 0 }
+  pub not_begun : None ≡ head_len bytes → checked (parse bytes) ≡ None
   unfolding parse
   not_begun e = go (head_ok arity kinds bytes) refl
     where
-      go : (x : Bool) → head_ok arity kinds bytes ≡ x → checked (parse_as arity kinds bytes) ≡ record { ok = false; arity = 0; body = 0; rows = 0 }
-      go true h = absurd (omega (arith, len_true h, head_long arity kinds))
+      go : (x : Bool) → head_ok arity kinds bytes ≡ x → checked (parse_as arity kinds bytes) ≡ None
+      go true h = absurd (none-some _ (e ∙ len_true h))
       go false h = ap checked (parse_shut arity kinds bytes h)
 
-  pub begun : {body : ℕ} → body ≡ head_len bytes → (body ≡ 0 → ⊥) → Begun body
+  pub begun : {body : ℕ} → Some body ≡ head_len bytes → Begun body
   unfolding parse
-  begun {body} e n = go (head_ok arity kinds bytes) refl
+  begun {body} e = go (head_ok arity kinds bytes) refl
     where
       go : (x : Bool) → head_ok arity kinds bytes ≡ x → Begun body
       go true h =
           let k = headed arity kinds bytes h in
-          let l = e ∙ len_true h in
+          let l = same_Some body (length (head arity kinds)) (e ∙ len_true h) in
           let m = ap length k.front ∙ length-append (head arity kinds) (drop (length (head arity kinds)) bytes) in
           record {
             some = k.some;
@@ -136,28 +137,27 @@ module _ (bytes : List ℕ) where
             long = omega (arith, head_long arity kinds);
             opens = parse_open arity kinds bytes h ∙ ap (λ (j : ℕ). if_ascending arity kinds (rows_from bytes j arity)) (sym l);
           }
-      go false h = absurd (n (e ∙ len_false h))
+      go false h = absurd (none-some body (sym (e ∙ len_false h)))
 
-  module _ {body : ℕ} (g : Begun body) {c : Counted} (e : c ≡ counted (rows_from bytes body arity)) where
-    not_counted : (r : Read (List Row)) → c ≡ counted r → c.ok ≡ false → if_ascending arity kinds r ≡ nothing
-    not_counted nothing e h = refl
-    not_counted (found rows) e h = not_both c.ok (ap (λ (z : Counted). z.ok) e) h
+  module _ {body : ℕ} (g : Begun body) where
+    not_counted : (r : Option (List Row)) → None ≡ counted r → if_ascending arity kinds r ≡ None
+    not_counted None e = refl
+    not_counted (Some rows) e = absurd (none-some (length rows) e)
 
-    pub check_rows : c.ok ≡ false → checked (parse bytes) ≡ record { ok = false; arity = 0; body = 0; rows = 0 }
-    check_rows h = ap checked (g.opens ∙ not_counted (rows_from bytes body arity) e h)
+    pub check_rows : None ≡ counted (rows_from bytes body arity) → checked (parse bytes) ≡ None
+    check_rows e = ap checked (g.opens ∙ not_counted (rows_from bytes body arity) e)
 
-    pub has_rows : c.ok ≡ true → HasRows bytes body arity c.rows
-    has_rows h =
-        let z : c ≡ record { ok = true; rows = c.rows } = ap (λ (x : Bool). record { ok = x; rows = c.rows }) h in
-        record { some = g.some; few = g.few; inside = g.inside; rows = sym e ∙ z }
+    module _ {n : ℕ} (e : Some n ≡ counted (rows_from bytes body arity)) where
+      pub has_rows : HasRows bytes body arity n
+      has_rows = record { some = g.some; few = g.few; inside = g.inside; rows = sym e }
 
-    pub check_falls : c.ok ≡ true → ascending (given (rows_from bytes body arity)) ≡ false → checked (parse bytes) ≡ record { ok = false; arity = 0; body = 0; rows = 0 }
-    check_falls h f =
-        let q = counted_found (rows_from bytes body arity) c.rows (has_rows h).rows in
-        ap checked (g.opens ∙ ap (if_ascending arity kinds) q.0 ∙ drops arity kinds (given (rows_from bytes body arity)) f)
+      pub check_falls : ascending (given (rows_from bytes body arity)) ≡ false → checked (parse bytes) ≡ None
+      check_falls f =
+          let q = counted_found (rows_from bytes body arity) n (sym e) in
+          ap checked (g.opens ∙ ap (if_ascending arity kinds) q.0 ∙ drops arity kinds (given (rows_from bytes body arity)) f)
 
-    pub check_good : c.ok ≡ true → ascending (given (rows_from bytes body arity)) ≡ true → checked (parse bytes) ≡ record { ok = true; arity = arity; body = body; rows = c.rows }
-    check_good h f =
-        let q = counted_found (rows_from bytes body arity) c.rows (has_rows h).rows in
-        ap checked (g.opens ∙ ap (if_ascending arity kinds) q.0 ∙ keeps arity kinds (given (rows_from bytes body arity)) f) ∙
-        ap₂ (λ (j k : ℕ). record { ok = true; arity = arity; body = j; rows = k }) (sym g.size) (sym q.1)
+      pub check_good : ascending (given (rows_from bytes body arity)) ≡ true → checked (parse bytes) ≡ Some (record { arity = arity; body = body; rows = n })
+      check_good f =
+          let q = counted_found (rows_from bytes body arity) n (sym e) in
+          ap checked (g.opens ∙ ap (if_ascending arity kinds) q.0 ∙ keeps arity kinds (given (rows_from bytes body arity)) f) ∙
+          ap₂ (λ (j k : ℕ). Some (record { arity = arity; body = j; rows = k })) (sym g.size) (sym q.1)

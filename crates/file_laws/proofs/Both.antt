@@ -7,6 +7,7 @@ use mathlib.Core.List.{List, [], ◌++◌}
 use native.Mathlib.Omega.{arith}
 use lib.ListN.{length, take, drop, get_or, replicate}
 use lib.Seq.{length-take-le, take_all, take_at}
+use Rattle.std.specs.Prelude.{Some}
 use Rattle.relation.specs.Order.{Row}
 use Rattle.relation.specs.Lists.{◌∈◌}
 use Rattle.relation.specs.Layers.{layers_of}
@@ -23,7 +24,7 @@ use Rattle.from_sorted.specs.Answer.{kept_kinds}
 use Rattle.from_sorted.specs.declared.Built.{Built}
 use Rattle.from_sorted.proofs.Taken.{kept_own}
 use Rattle.table_file.specs.Bytes.{Bytes}
-use Rattle.table_file.specs.File.{File, found, file_of, parse, Table}
+use Rattle.table_file.specs.File.{File, file_of, parse, Table}
 use Rattle.table_file.proofs.Numbers.{Words}
 use Rattle.table_file.proofs.Laws.{what_is_written_is_read, what_is_read_was_written}
 use Rattle.row_path.specs.Path.{ancestor}
@@ -76,7 +77,7 @@ module _ {pool bytes bytes' : List ℕ} {t : ColumnTrie} {w : FileWritten} (o : 
   abbrev as_file : File
   as_file = record { arity = t.arity; kinds = kinds_of t; rows = rows_in pool t }
 
-  parsed : parse (take w.len bytes') ≡ found as_file
+  parsed : parse (take w.len bytes') ≡ Some as_file
   parsed = ap parse (a_write_leaves_the_file_of_the_table x z) ∙ what_is_written_is_read t.arity (kinds_of t) (rows_in pool t) (holds_a_file o g u p)
 
   own_kinds : kept_kinds t.arity (kinds_of t) ≡ t.grade
@@ -94,7 +95,7 @@ module _ {pool bytes bytes' : List ℕ} {t : ColumnTrie} {w : FileWritten} (o : 
       h : Holds pool t (rows_in pool t)
       h = holds o u
 
-      go : (f : File) → found f ≡ found as_file → TableOfTheFile f lent' r.table → r.table ≡ table_of start f.arity capacity (kept_kinds f.arity f.kinds) f.rows → ReadBack pool t start capacity lent' r.table
+      go : (f : File) → Some f ≡ Some as_file → TableOfTheFile f lent' r.table → r.table ≡ table_of start f.arity capacity (kept_kinds f.arity f.kinds) f.rows → ReadBack pool t start capacity lent' r.table
       go f e l k =
           let i : f ≡ as_file = cc in
           let j : r.table ≡ table_of start t.arity capacity t.grade (rows_in pool t) =

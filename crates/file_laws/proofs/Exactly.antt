@@ -8,16 +8,16 @@ use native.Mathlib.Omega.{arith}
 use native.Mathlib.Decide.{dec_lt}
 use lib.ListN.{length}
 use borrow.Author.Tests.{le-leb, lt-leb}
+use Rattle.std.proofs.lemmas.Option.{none-some}
+use Rattle.std.specs.Prelude.{Option, Some, None}
 use Rattle.relation.specs.Exactly.{Exactly}
 use Rattle.column_trie.specs.Limits.{max_capacity}
 use Rattle.column_trie.specs.Table.{lies_in}
 use Rattle.from_sorted.specs.declared.Built.{Built}
 use Rattle.from_sorted.proofs.Ranges.{From1To, Off, on, off, either}
 use Rattle.table_file.specs.Bytes.{Bytes}
-use Rattle.table_file.specs.File.{File, Read, nothing, found, file_of, parse, Table}
-use Rattle.table_file.proofs.Fields.{never}
+use Rattle.table_file.specs.File.{File, file_of, parse, Table}
 use Rattle.table_file.proofs.Laws.{what_is_written_is_read, what_is_read_was_written}
-use Rattle.file_check.specs.Checks.{checked}
 use Rattle.file_read.specs.Read.{read_number, Reads}
 use Rattle.file_read.proofs.Numbers.{number_2, number_3, number_5, number_0}
 
@@ -46,33 +46,33 @@ module _ (bytes lent : List ℕ) (start capacity : ℕ) (y : Bytes bytes) where
 
   -- ---- from the facts to the number
 
-  is_found : (f : File) → FileOf bytes f → parse bytes ≡ found f
+  is_found : (f : File) → FileOf bytes f → parse bytes ≡ Some f
   is_found f w = ap parse w.0 ∙ what_is_written_is_read f.arity f.kinds f.rows w.1
 
-  at_file : (f : File) → FileOf bytes f → number ≡ read_number (found f) len start capacity
-  at_file f w = ap (λ (x : Read File). read_number x len start capacity) (is_found f w)
+  at_file : (f : File) → FileOf bytes f → number ≡ read_number (Some f) len start capacity
+  at_file f w = ap (λ (x : Option File). read_number x len start capacity) (is_found f w)
 
   thirteen : ((f : File) → FileOf bytes f → ⊥) → number ≡ 13
   thirteen h = go (parse bytes) refl
     where
-      go : (x : Read File) → parse bytes ≡ x → number ≡ 13
-      go nothing e = ap (λ (x : Read File). read_number x len start capacity) e
-      go (found f) e = absurd (h f (what_is_read_was_written bytes f y e))
+      go : (x : Option File) → parse bytes ≡ x → number ≡ 13
+      go None e = ap (λ (x : Option File). read_number x len start capacity) e
+      go (Some f) e = absurd (h f (what_is_read_was_written bytes f y e))
 
   two : (f : File) × FileOf bytes f × Off max_capacity capacity → number ≡ 2
-  two (f, w, h) = at_file f w ∙ sym (number_2 (checked (found f)) len start capacity refl (off max_capacity capacity h))
+  two (f, w, h) = at_file f w ∙ sym (number_2 f len start capacity (off max_capacity capacity h))
 
   three : (f : File) × FileOf bytes f × From1To max_capacity capacity × (len < start + 2 * f.arity * capacity) → number ≡ 3
-  three (f, w, c, h) = at_file f w ∙ sym (number_3 (checked (found f)) len start capacity refl (on max_capacity capacity c) (lt-leb (start + 2 * f.arity * capacity) len h))
+  three (f, w, c, h) = at_file f w ∙ sym (number_3 f len start capacity (on max_capacity capacity c) (lt-leb (start + 2 * f.arity * capacity) len h))
 
   lies : (f : File) → Fits len start f.arity capacity → lies_in len start f.arity capacity ≡ true
   lies f p = le-leb (start + 2 * f.arity * capacity) len p.1
 
   five : (f : File) × FileOf bytes f × Fits len start f.arity capacity × (capacity < length f.rows) → number ≡ 5
-  five (f, w, p, h) = at_file f w ∙ sym (number_5 (checked (found f)) len start capacity refl (on max_capacity capacity p.0) (lies f p) h)
+  five (f, w, p, h) = at_file f w ∙ sym (number_5 f len start capacity (on max_capacity capacity p.0) (lies f p) h)
 
   none : (f : File) × FileOf bytes f × Fits len start f.arity capacity × (length f.rows ≤ capacity) → number ≡ 0
-  none (f, w, p, h) = at_file f w ∙ sym (number_0 (checked (found f)) len start capacity refl (on max_capacity capacity p.0) (lies f p) h)
+  none (f, w, p, h) = at_file f w ∙ sym (number_0 f len start capacity (on max_capacity capacity p.0) (lies f p) h)
 
   -- ---- and back: one of them holds, with its number, and so no other has it
 
@@ -146,9 +146,9 @@ module _ (bytes lent : List ℕ) (start capacity : ℕ) (y : Bytes bytes) where
       by_capacity f w (inl c) = by_pool f w c (dec_lt len (start + 2 * f.arity * capacity))
       by_capacity f w (inr c) = only_two (f, w, c)
 
-      by_bytes : (x : Read File) → parse bytes ≡ x → Numbers bytes lent start capacity number
-      by_bytes nothing e = only_thirteen (λ f w. never (sym e ∙ is_found f w))
-      by_bytes (found f) e = by_capacity f (what_is_read_was_written bytes f y e) (either max_capacity capacity)
+      by_bytes : (x : Option File) → parse bytes ≡ x → Numbers bytes lent start capacity number
+      by_bytes None e = only_thirteen (λ f w. none-some _ (sym e ∙ is_found f w))
+      by_bytes (Some f) e = by_capacity f (what_is_read_was_written bytes f y e) (either max_capacity capacity)
 
 pub each_number_of_a_read_is_given_exactly_when : (bytes lent : List ℕ) (start capacity : ℕ) {lent' : List ℕ} {r : Built} → Bytes bytes → Reads bytes lent start capacity lent' r → Numbers bytes lent start capacity r.number
 each_number_of_a_read_is_given_exactly_when bytes lent start capacity y b = subst (Numbers bytes lent start capacity) (sym (ap (λ (x : Built). x.number) b.answer)) (numbers bytes lent start capacity y)

@@ -3,6 +3,7 @@ use Prim.Native.Nat.{ℕ}
 use mathlib.Core.Path.{◌≡◌, refl, sym, ap, ◌∙◌, subst₂}
 use mathlib.Core.List.{List}
 use lib.ListN.{length}
+use Rattle.std.specs.Prelude.{Option, Some}
 use Rattle.relation.specs.Layers.{layers_of}
 use Rattle.column_trie.specs.Pool.{store}
 use Rattle.column_trie.specs.Table.{table_of, empty_table, layers_in, rows_in, Undamaged}
@@ -13,7 +14,7 @@ use Rattle.from_sorted.specs.declared.Built.{Built}
 use Rattle.from_sorted.proofs.Answer.{if_built}
 use Rattle.from_sorted.proofs.Taken.{kept_plain}
 use Rattle.table_file.specs.Bytes.{Bytes}
-use Rattle.table_file.specs.File.{File, Read, found, parse}
+use Rattle.table_file.specs.File.{File, parse}
 use Rattle.file_read.specs.Read.{read_number, table_read, pool_read, Reads}
 use Rattle.file_read.proofs.Numbers.{Accepted, accepted}
 
@@ -36,20 +37,20 @@ module _ (bytes lent : List ℕ) (start capacity : ℕ) {lent' : List ℕ} {r : 
   abbrev pub file_read : File
   file_read = read_accepted.file
 
-  pub read_found : parse bytes ≡ found file_read
+  pub read_found : parse bytes ≡ Some file_read
   read_found = read_accepted.found_is
 
   pub read_pool : lent' ≡ store start capacity (layers_of file_read.arity file_read.rows) lent
   read_pool =
       b.pool
       ∙ if_built (read_number (parse bytes) (length lent) start capacity) (pool_read (parse bytes) lent start capacity) lent zero_number
-      ∙ ap (λ (x : Read File). pool_read x lent start capacity) read_found
+      ∙ ap (λ (x : Option File). pool_read x lent start capacity) read_found
 
   pub read_table : r.table ≡ table_of start file_read.arity capacity (kept_kinds file_read.arity file_read.kinds) file_read.rows
   read_table =
       ap (λ (x : Built). x.table) b.answer
       ∙ if_built (read_number (parse bytes) (length lent) start capacity) (table_read (parse bytes) start capacity) (empty_table 0 0 0) zero_number
-      ∙ ap (λ (x : Read File). table_read x start capacity) read_found
+      ∙ ap (λ (x : Option File). table_read x start capacity) read_found
 
   pub a_read_leaves_the_table_of_the_file : TableOfTheFile file_read lent' r.table
   a_read_leaves_the_table_of_the_file =

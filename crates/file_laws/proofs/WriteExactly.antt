@@ -35,13 +35,13 @@ module _ (pool : List ℕ) (t : ColumnTrie) (bytes : List ℕ) where
     where
       go : (b : Bool) → undamaged pool t ≡ b → number ≡ 6
       go true e = absurd (n (undamaged_told pool t e))
-      go false e = number_6 pool t bytes e
+      go false e = number_6 pool t (length bytes) e
 
   fourteen : Undamaged pool t × (length bytes < long) → number ≡ 14
-  fourteen h = number_14 pool t bytes (told_undamaged pool t h.0) h.1
+  fourteen h = number_14 pool t (length bytes) (told_undamaged pool t h.0) h.1
 
   none : Undamaged pool t × (long ≤ length bytes) → number ≡ 0
-  none h = number_0 pool t bytes (told_undamaged pool t h.0) h.1
+  none h = number_0 pool t (length bytes) (told_undamaged pool t h.0) h.1
 
   -- ---- and back: one of them holds, and its number is no other's
 

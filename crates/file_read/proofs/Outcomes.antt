@@ -1,23 +1,24 @@
--- The two outcomes of a read, by its number: refused, and read.
+-- A read that is not refused: what it fills, and what that leaves.
 use Prim.Native.Nat.{ℕ}
 use mathlib.Core.Path.{◌≡◌, refl, sym, ap, ap₂, ◌∙◌, subst}
 use mathlib.Core.Bool.{Bool, true}
 use mathlib.Core.List.{List, []}
 use native.Mathlib.Omega.{arith}
 use lib.ListN.{length, get_or}
+use Rattle.std.specs.Prelude.{Option, Some, None}
+use Rattle.std.proofs.lemmas.Option.{none-some, same_Some}
 use Rattle.relation.specs.Order.{Row}
 use Rattle.relation.specs.Rows.{Sorted, Asc, Width, as_set}
 use Rattle.relation.specs.Layers.{layers_of}
 use Rattle.relation.proofs.Sorting.{sort_sorted, sort_asc, as_set_is}
-use Rattle.relation.proofs.Tests.{not_both}
 use Rattle.column_trie.specs.Pool.{store}
 use Rattle.column_trie.specs.Table.{arity_ok, empty_table, refilled}
 use Rattle.column_trie.specs.declared.ColumnTrie.{ColumnTrie}
 use Rattle.from_sorted.specs.Answer.{unless_refused, kept_kinds}
 use Rattle.from_sorted.specs.Push.{Filling, Fills}
-use Rattle.from_sorted.proofs.Answer.{if_built, if_refused, regraded}
+use Rattle.from_sorted.proofs.Answer.{if_built, regraded}
 use Rattle.table_file.specs.Bytes.{Bytes}
-use Rattle.table_file.specs.File.{head, File, Read, nothing, found, kinds_read, parse}
+use Rattle.table_file.specs.File.{head, File, kinds_read, parse}
 use Rattle.table_file.proofs.Laws.{what_is_read_was_written, arity_ok_lem, file_kinds, kinds_inside, file_long}
 use Rattle.table_file.proofs.Places.{file_row, file_row_read}
 use Rattle.file_check.specs.Checks.{checked}
@@ -27,42 +28,33 @@ use Rattle.file_read.specs.Read.{read_number, table_read, pool_read, Reads}
 use Rattle.file_read.proofs.Numbers.{Accepted}
 
 -- a file's arity is one that a table may have
-pub arity_checked : (bytes : List ℕ) → Bytes bytes → {c : Checked} → c ≡ checked (parse bytes) → c.ok ≡ true → arity_ok c.arity ≡ true
-arity_checked bytes b {c} e o = go (parse bytes) refl e
+pub arity_checked : (bytes : List ℕ) → Bytes bytes → {c : Checked} → Some c ≡ checked (parse bytes) → arity_ok c.arity ≡ true
+arity_checked bytes b {c} e = go (parse bytes) refl e
   where
-    go : (x : Read File) → parse bytes ≡ x → c ≡ checked x → arity_ok c.arity ≡ true
-    go nothing p q = not_both c.ok o (ap (λ (z : Checked). z.ok) q)
-    go (found f) p q =
+    go : (x : Option File) → parse bytes ≡ x → Some c ≡ checked x → arity_ok c.arity ≡ true
+    go None p q = absurd (none-some c (sym q))
+    go (Some f) p q =
         let t = (what_is_read_was_written bytes f b p).1 in
-        ap (λ (z : Checked). arity_ok z.arity) q ∙ arity_ok_lem f.arity t.some t.few
+        ap (λ (z : Checked). arity_ok z.arity) (same_Some _ _ q) ∙ arity_ok_lem f.arity t.some t.few
 
-module _ (bytes lent : List ℕ) (start capacity : ℕ) {n : ℕ} {t : ColumnTrie} (e : n ≡ read_number (parse bytes) (length lent) start capacity) where
-  pub reads_refused : (n ≡ 0 → ⊥) → t ≡ empty_table 0 0 0 → Reads bytes lent start capacity lent (record { number = n; table = t })
-  reads_refused h f =
-      let k = read_number (parse bytes) (length lent) start capacity in
-      let z : k ≡ 0 → ⊥ = λ q. h (e ∙ q) in
-      let left : t ≡ unless_refused k (table_read (parse bytes) start capacity) (empty_table 0 0 0) = f ∙ sym (if_refused k _ (empty_table 0 0 0) z) in
-      record { answer = λ i. record { number = e i; table = left i }; pool = sym (if_refused k _ lent z) }
-
-  pub reads_read : {lent' : List ℕ} → n ≡ 0 → t ≡ table_read (parse bytes) start capacity → lent' ≡ pool_read (parse bytes) lent start capacity → Reads bytes lent start capacity lent' (record { number = n; table = t })
-  reads_read h f p =
-      let k = read_number (parse bytes) (length lent) start capacity in
-      let z : k ≡ 0 = sym e ∙ h in
-      let left : t ≡ unless_refused k (table_read (parse bytes) start capacity) (empty_table 0 0 0) = f ∙ sym (if_built k _ (empty_table 0 0 0) z) in
-      record { answer = λ i. record { number = e i; table = left i }; pool = p ∙ sym (if_built k _ _ z) }
+pub reads_read : (bytes lent : List ℕ) (start capacity : ℕ) {lent' : List ℕ} {t : ColumnTrie} → 0 ≡ read_number (parse bytes) (length lent) start capacity → t ≡ table_read (parse bytes) start capacity → lent' ≡ pool_read (parse bytes) lent start capacity → Reads bytes lent start capacity lent' (record { number = 0; table = t })
+reads_read bytes lent start capacity {lent'} {t} e f p =
+    let k = read_number (parse bytes) (length lent) start capacity in
+    let left : t ≡ unless_refused k (table_read (parse bytes) start capacity) (empty_table 0 0 0) = f ∙ sym (if_built k _ (empty_table 0 0 0) (sym e)) in
+    record { answer = λ i. record { number = e i; table = left i }; pool = p ∙ sym (if_built k _ _ (sym e)) }
 
 -- an accepted file
 module _ {bytes : List ℕ} {len start capacity : ℕ} (a : Accepted bytes len start capacity) where
   abbrev file : File
   file = a.file
 
-  checked_is : {c : Checked} → c ≡ checked (parse bytes) → c ≡ checked (found file)
-  checked_is e = e ∙ ap checked a.found_is
+  checked_is : {c : Checked} → Some c ≡ checked (parse bytes) → c ≡ record { arity = file.arity; body = length (head file.arity file.kinds); rows = length file.rows }
+  checked_is e = same_Some _ _ (e ∙ ap checked a.found_is)
 
   rows_are : rows_found (parse bytes) ≡ file.rows
   rows_are = ap rows_found a.found_is
 
-  pub has_kinds : {c : Checked} → c ≡ checked (parse bytes) → HasKinds bytes c.arity
+  pub has_kinds : {c : Checked} → Some c ≡ checked (parse bytes) → HasKinds bytes c.arity
   has_kinds {c} e =
       let q : c.arity ≡ file.arity = ap (λ (z : Checked). z.arity) (checked_is e) in
       record {
@@ -71,7 +63,7 @@ module _ {bytes : List ℕ} {len start capacity : ℕ} (a : Accepted bytes len s
         there = λ h. omega (arith, q, ap length a.bytes_are, kinds_inside file.arity file.kinds file.rows a.table (sym (ap (λ (l : List ℕ). get_or l 4 0) a.bytes_are) ∙ h));
       }
 
-  pub kinds_are : {c : Checked} → c ≡ checked (parse bytes) → kept_kinds c.arity (kinds_read c.arity bytes) ≡ kept_kinds file.arity file.kinds
+  pub kinds_are : {c : Checked} → Some c ≡ checked (parse bytes) → kept_kinds c.arity (kinds_read c.arity bytes) ≡ kept_kinds file.arity file.kinds
   kinds_are {c} e =
       ap (λ (n : ℕ). kept_kinds n (kinds_read n bytes)) (ap (λ (z : Checked). z.arity) (checked_is e)) ∙
       ap (kept_kinds file.arity) (ap (kinds_read file.arity) a.bytes_are ∙ file_kinds file.arity file.kinds file.rows a.table)
@@ -80,7 +72,7 @@ module _ {bytes : List ℕ} {len start capacity : ℕ} (a : Accepted bytes len s
   pub vacant : ColumnTrie
   vacant = regraded (empty_table start file.arity capacity) (kept_kinds file.arity file.kinds)
 
-  pub vacant_is : {c : Checked} {t : ColumnTrie} {kinds : List Bool} → c ≡ checked (parse bytes) → t ≡ empty_table start c.arity capacity → kinds ≡ kept_kinds c.arity (kinds_read c.arity bytes) → regraded t kinds ≡ vacant
+  pub vacant_is : {c : Checked} {t : ColumnTrie} {kinds : List Bool} → Some c ≡ checked (parse bytes) → t ≡ empty_table start c.arity capacity → kinds ≡ kept_kinds c.arity (kinds_read c.arity bytes) → regraded t kinds ≡ vacant
   unfolding vacant
   vacant_is {c} e u k = ap₂ regraded (u ∙ ap (λ (z : Checked). empty_table start z.arity capacity) (checked_is e)) (k ∙ kinds_are e)
 
@@ -111,7 +103,7 @@ module _ {bytes : List ℕ} {len start capacity : ℕ} (a : Accepted bytes len s
         asc = subst Asc (sym rows_are) a.table.asc;
       }
 
-  pub loading : {c : Checked} {t : ColumnTrie} → c ≡ checked (parse bytes) → t ≡ vacant → Loading bytes c.body c.rows len t
+  pub loading : {c : Checked} {t : ColumnTrie} → Some c ≡ checked (parse bytes) → t ≡ vacant → Loading bytes c.body c.rows len t
   loading {c} {t} e v =
       subst (λ (u : ColumnTrie). Loading bytes c.body c.rows len u) (sym v)
       (subst (λ (z : Checked). Loading bytes z.body z.rows len vacant) (sym (checked_is e)) loading_file)
@@ -125,10 +117,10 @@ module _ {bytes : List ℕ} {len start capacity : ℕ} (a : Accepted bytes len s
 
   pub filled_table : {pool pool' : List ℕ} {t r : ColumnTrie} → t ≡ vacant → Fills pool t (rows_found (parse bytes)) pool' r → r ≡ table_read (parse bytes) start capacity
   unfolding vacant
-  filled_table v f = f.header ∙ ap₂ refilled v filled_rows ∙ sym (ap (λ (x : Read File). table_read x start capacity) a.found_is)
+  filled_table v f = f.header ∙ ap₂ refilled v filled_rows ∙ sym (ap (λ (x : Option File). table_read x start capacity) a.found_is)
 
   pub filled_pool : {pool pool' : List ℕ} {t r : ColumnTrie} → t ≡ vacant → Fills pool t (rows_found (parse bytes)) pool' r → pool' ≡ pool_read (parse bytes) pool start capacity
   unfolding vacant
   filled_pool {pool} v f =
       f.words ∙ ap₂ (λ (u : ColumnTrie) (rs : List Row). store u.start u.capacity (layers_of u.arity rs) pool) v filled_rows ∙
-      sym (ap (λ (x : Read File). pool_read x pool start capacity) a.found_is)
+      sym (ap (λ (x : Option File). pool_read x pool start capacity) a.found_is)

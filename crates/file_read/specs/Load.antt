@@ -1,25 +1,18 @@
 -- Internal: what the steps of a read answer and ask.
-use Rattle.std.specs.Prelude.{ℕ, ◌+◌, ◌*◌, ◌≤◌, ◌<◌, ◌≡◌, not, List, [], length, drop, get_or, ltb}
-use Rattle.relation.specs.Order.{Row, pick}
+use Rattle.std.specs.Prelude.{ℕ, ◌+◌, ◌*◌, ◌≤◌, ◌<◌, ◌≡◌, List, [], length, drop, get_or, Option, Some, None}
+use Rattle.relation.specs.Order.{Row}
 use Rattle.relation.specs.Rows.{Asc, Width}
 use Rattle.column_trie.specs.Limits.{max_arity}
-use Rattle.column_trie.specs.Table.{capacity_ok, lies_in}
 use Rattle.column_trie.specs.declared.ColumnTrie.{ColumnTrie}
 use Rattle.from_sorted.specs.Push.{Filling}
 use Rattle.table_file.specs.Bytes.{decode}
-use Rattle.table_file.specs.File.{File, Read, nothing, found, parse}
+use Rattle.table_file.specs.File.{File, parse}
 use Rattle.table_file.specs.Places.{place}
-use Rattle.file_check.specs.declared.Checked.{Checked}
-
--- the number, by what the check of the bytes answered
-abbrev pub checked_number : Checked → ℕ → ℕ → ℕ → ℕ
-checked_number c len start capacity =
-    pick (not c.ok) 13 (pick (not (capacity_ok capacity)) 2 (pick (not (lies_in len start c.arity capacity)) 3 (pick (ltb capacity c.rows) 5 0)))
 
 -- the rows of the file that the bytes are, none if they are none
-abbrev pub rows_found : Read File → List Row
-rows_found nothing = []
-rows_found (found f) = f.rows
+abbrev pub rows_found : Option File → List Row
+rows_found None = []
+rows_found (Some f) = f.rows
 
 -- row i lies where it lies in a file whose fields of rows begin at `at`
 pub record RowAt (bytes : List ℕ) (at a i : ℕ) (row : Row) : Type 0 where

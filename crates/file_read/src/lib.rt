@@ -5,37 +5,39 @@
 // of a file ascend. So nothing is sorted, and no other buffer is needed.
 #![tactic(auto)]
 
-ghost use Rattle.std.specs.Prelude.{◌≡◌, true, length};
-ghost use Rattle.column_trie.specs.Table.{arity_ok};
+ghost use Rattle.std.specs.Prelude.{◌≡◌, length, Some, IfOk};
+ghost use Rattle.refusal.specs.Number.{given};
 ghost use Rattle.from_sorted.specs.Answer.{kept_kinds};
 ghost use Rattle.from_sorted.specs.Push.{Fills};
 ghost use Rattle.table_file.specs.File.{kinds_read, parse};
-ghost use Rattle.file_read.specs.Load.{checked_number, rows_found, Loading, HasKinds};
-ghost use Rattle.file_read.specs.Read.{Reads};
+ghost use Rattle.file_check.specs.Checks.{checked};
+ghost use Rattle.file_read.specs.Load.{rows_found, Loading, HasKinds};
+ghost use Rattle.file_read.specs.Read.{read_number, Reads};
 
 use column_trie::{ColumnTrie, capacity_ok, lies_in};
 use file_bytes::read_row;
 use file_check::{Checked, check, row_place};
 use from_sorted::{Built, Lengths, common_prefix_len};
+use refusal::Refusal;
 
-// The number of the first check that refuses, or 0.
-fn file_number(file: Checked, len: usize, start: usize, capacity: usize) -> u64
-    requires { file.ok ≡ true → arity_ok file.arity ≡ true }
-    ensures { result ≡ checked_number file len start capacity }
+// What file the bytes are, if a pool of `len` words has room for a table of it; else the first check that refuses.
+fn readable(bytes: &[u8], len: usize, start: usize, capacity: usize) -> Result<Checked, Refusal>
+    ensures number { given result ≡ read_number (parse bytes.now) len start capacity }
+    ensures file { IfOk result (λ file. Some file ≡ checked (parse bytes.now)) }
 {
-    if !file.ok {
-        return 13;
-    }
+    let Some(file) = check(bytes) else {
+        return Err(Refusal::NotAFile);
+    };
     if !capacity_ok(capacity) {
-        return 2;
+        return Err(Refusal::BadCapacity);
     }
     if !lies_in(len, start, file.arity, capacity) {
-        return 3;
+        return Err(Refusal::OutsidePool);
     }
     if capacity < file.rows {
-        return 5;
+        return Err(Refusal::NoRoom);
     }
-    0
+    Ok(file)
 }
 
 // The kinds of a file's columns, as a header has them: those past the arity, and all where the file has none, are plain.
@@ -47,10 +49,8 @@ fn read_kinds(bytes: &[u8], arity: usize) -> [bool; ColumnTrie::MAX_ARITY]
     if bytes[4] != 4 {
         return grade;
     }
-    let mut d = 0;
-    while d < arity {
+    for d in 0..arity {
         grade[d] = bytes[7 + d] == 1;
-        d += 1;
     }
     grade
 }
@@ -68,14 +68,12 @@ fn load(bytes: &[u8], at: usize, n: usize, pool: &mut [u64], t: ColumnTrie) -> C
     let first = row_place(at, arity, 0);
     let mut last = read_row(bytes, first, arity);
     lengths.append_row(pool, t, &last, 0, 0);
-    let mut i = 1;
-    while i < n {
+    for i in 1..n {
         let place = row_place(at, arity, i);
         let row = read_row(bytes, place, arity);
         let d = common_prefix_len(&last, &row, arity);
         lengths.append_row(pool, t, &row, d, d + 1);
         last = row;
-        i += 1;
     }
     lengths.filled(t)
 }
@@ -84,20 +82,17 @@ fn load(bytes: &[u8], at: usize, n: usize, pool: &mut [u64], t: ColumnTrie) -> C
 pub fn read(bytes: &[u8], pool: &mut [u64], start: usize, capacity: usize) -> Built
     ensures { Reads bytes.now pool.old start capacity pool.new result }
 {
-    let file = check(bytes);
-    let number = file_number(file, pool.len(), start, capacity);
-    if number != 0 {
-        return Built {
-            number,
-            table: ColumnTrie::empty(0, 0, 0),
-        };
-    }
-    let arity = file.arity;
-    let body = file.body;
-    let rows = file.rows;
-    let mut empty = ColumnTrie::empty(start, arity, capacity);
-    let grade = read_kinds(bytes, arity);
-    empty.grade = grade;
-    let table = load(bytes, body, rows, pool, empty);
-    Built { number, table }
+    let file = match readable(bytes, pool.len(), start, capacity) {
+        Ok(file) => file,
+        Err(refused) => {
+            return Built {
+                number: refused.number(),
+                table: ColumnTrie::empty(0, 0, 0),
+            };
+        }
+    };
+    let mut empty = ColumnTrie::empty(start, file.arity, capacity);
+    empty.grade = read_kinds(bytes, file.arity);
+    let table = load(bytes, file.body, file.rows, pool, empty);
+    Built { number: 0, table }
 }

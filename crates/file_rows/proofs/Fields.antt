@@ -1,15 +1,14 @@
 -- Fields of rows laid one behind the other: how long they are, the field that comes next, and the end.
-use Prim.Native.Nat.{ℕ, zero, suc, ◌+◌, ◌*◌, ◌/◌, ◌%◌, ◌-◌, ◌≤◌, ◌<◌}
+use Prim.Native.Nat.{ℕ, zero, suc, ◌+◌, ◌*◌, ◌/◌, ◌%◌, ◌-◌, ◌≤◌, ◌<◌, min}
 use mathlib.Core.Path.{◌≡◌, refl, sym, ap, ap₂, ◌∙◌, subst}
-use mathlib.Core.Bool.{Bool, true, false}
+use mathlib.Core.Bool.{true}
 use mathlib.Core.List.{List, [], ◌∷◌, ◌++◌, append_assoc, append-nil}
 use native.Mathlib.Omega.{arith}
 use native.Mathlib.Decide.{dec_lt}
-use lib.ListN.{length, take, drop, set, length-append, length-drop, drop_of_length-le}
+use lib.ListN.{length, take, drop, length-append, length-drop, drop_of_length-le}
 use lib.Seq.{drop-drop, length-take-le, take_all}
-use lib.Dec.{ltb}
-use borrow.Author.Tests.{ltb-true, ltb-false}
-use Rattle.relation.specs.Order.{Row, pick}
+use borrow.Rule.Slice.PartMut.{put_mid}
+use Rattle.relation.specs.Order.{Row}
 use Rattle.relation.specs.Rows.{flat}
 use Rattle.column_trie.specs.Pool.{lay}
 use Rattle.column_trie.specs.Table.{layers_in, rows_in, Undamaged, undamaged}
@@ -22,46 +21,20 @@ use Rattle.table_file.specs.Bytes.{bytes_of, encode}
 use Rattle.table_file.specs.File.{per_field, rows_field, rows_fields}
 use Rattle.table_file.proofs.Numbers.{length_bytes_of}
 use Rattle.table_file.proofs.Fields.{per_fits, length_field, in_take, in_drop}
-use Rattle.file_rows.specs.Rows.{fields_in, ahead, Putting, RowsPut, Laid}
+use Rattle.file_bytes.proofs.Steps.{written}
+use Rattle.file_rows.specs.Rows.{fields_in, Putting, RowsPut, Laid}
 use Rattle.file_rows.proofs.Pieces.{lay_none, laid_more}
 use Rattle.file_rows.proofs.Tables.{rows_wide, rows_many, next_long}
 
--- a tag and a length, byte by byte
-pub tag_laid : (bytes : List ℕ) (at tag len : ℕ) → len ≤ 65535 → set (set (set bytes at tag) (at + 1) (len / 256)) (at + 2) (len % 256) ≡ lay bytes at (tag ∷ bytes_of 2 len)
-unfolding lay bytes_of
-tag_laid bytes at tag len h =
-    let e : at + 1 ≡ suc at = omega arith in
-    let f : at + 2 ≡ suc (suc at) = omega arith in
-    let g : len / 256 ≡ len / 256 % 256 = omega arith in
-    ap₂ (λ (m n : ℕ). set (set (set bytes at tag) m (len / 256)) n (len % 256)) e f ∙ ap (λ (x : ℕ). set (set (set bytes at tag) (suc at) x) (suc (suc at)) (len % 256)) g
+-- a tag and a length, written over three bytes
+pub tag_laid : (bytes : List ℕ) (at k tag len : ℕ) {ys : List ℕ} → ys ≡ tag ∷ (len / 256 % 256 ∷ (len % 256 ∷ [])) → k ≡ 3 → at + 3 ≤ length bytes → put_mid at k bytes ys ≡ lay bytes at (tag ∷ bytes_of 2 len)
+unfolding bytes_of
+tag_laid bytes at k tag len {ys} e n h = written bytes at k ys (tag ∷ (len / 256 % 256 ∷ (len % 256 ∷ []))) e (omega arith) (omega arith)
 
 -- a field is its tag and length, and its rows
 field_is : (rows : List Row) → rows_field rows ≡ (2 ∷ bytes_of 2 (length (encode (flat rows)))) ++ encode (flat rows)
 unfolding rows_field
 field_is rows = refl
-
--- ---- which rows the next field has
-
-pub ahead_few : (left full : ℕ) → ahead left full ≤ left
-ahead_few left full = go (ltb left full) refl
-  where
-    go : (b : Bool) → ltb left full ≡ b → ahead left full ≤ left
-    go true e = rw e (omega arith)
-    go false e = rw e (ltb-false left full e)
-
-pub ahead_fits : (left full : ℕ) → ahead left full ≤ full
-ahead_fits left full = go (ltb left full) refl
-  where
-    go : (b : Bool) → ltb left full ≡ b → ahead left full ≤ full
-    go true e = rw e (let h = ltb-true left full e in omega arith)
-    go false e = rw e (omega arith)
-
-pub ahead_some : (left full : ℕ) → 0 < left → 0 < full → 0 < ahead left full
-ahead_some left full h k = go (ltb left full)
-  where
-    go : (b : Bool) → 0 < pick b left full
-    go true = h
-    go false = k
 
 -- ---- one field
 
@@ -105,20 +78,20 @@ enough (suc f) (suc g) m rows k h j = go (dec_lt 0 (length rows)) (λ x y. enoug
         let d = length-drop m rows in
         fields_more f m rows p ∙ ap (λ (l : List ℕ). rows_field (take m rows) ++ l) (ih (omega arith) (omega arith)) ∙ sym (fields_more g m rows p)
 
--- the next field holds as many rows as are ahead
-next_field : (m : ℕ) (rows : List Row) (f : ℕ) → 0 < m → 0 < length rows → length rows ≤ f → rows_fields f m rows ≡ rows_field (take (ahead (length rows) m) rows) ++ rows_fields f m (drop (ahead (length rows) m) rows)
+-- the next field holds as many rows as fit, of those that are left
+next_field : (m : ℕ) (rows : List Row) (f : ℕ) → 0 < m → 0 < length rows → length rows ≤ f → rows_fields f m rows ≡ rows_field (take (min m (length rows)) rows) ++ rows_fields f m (drop (min m (length rows)) rows)
 next_field m rows f k h j =
     enough f (suc f) m rows k j (omega arith)
     ∙ fields_more f m rows h
-    ∙ go (ltb (length rows) m) refl
+    ∙ go (dec_lt (length rows) m)
   where
-    go : (b : Bool) → ltb (length rows) m ≡ b → rows_field (take m rows) ++ rows_fields f m (drop m rows) ≡ rows_field (take (ahead (length rows) m) rows) ++ rows_fields f m (drop (ahead (length rows) m) rows)
-    go false e = ap (λ (n : ℕ). rows_field (take n rows) ++ rows_fields f m (drop n rows)) (sym (ap (λ (b : Bool). pick b (length rows) m) e))
-    go true e =
-        let l = ltb-true (length rows) m e in
+    go : Dec (length rows < m) → rows_field (take m rows) ++ rows_fields f m (drop m rows) ≡ rows_field (take (min m (length rows)) rows) ++ rows_fields f m (drop (min m (length rows)) rows)
+    go (no n) = ap (λ (n : ℕ). rows_field (take n rows) ++ rows_fields f m (drop n rows)) (let e : m ≡ min m (length rows) = omega arith in e)
+    go (yes l) =
+        let e : length rows ≡ min m (length rows) = omega arith in
         let p : take m rows ≡ take (length rows) rows = take_all m rows (omega arith) ∙ sym (take_all (length rows) rows (omega arith)) in
         let q : drop m rows ≡ drop (length rows) rows = drop_of_length-le rows {i = m} (omega arith) ∙ sym (drop_of_length-le rows {i = length rows} (omega arith)) in
-        ap₂ (λ (x y : List Row). rows_field x ++ rows_fields f m y) p q ∙ ap (λ (n : ℕ). rows_field (take n rows) ++ rows_fields f m (drop n rows)) (sym (ap (λ (b : Bool). pick b (length rows) m) e))
+        ap₂ (λ (x y : List Row). rows_field x ++ rows_fields f m y) p q ∙ ap (λ (n : ℕ). rows_field (take n rows) ++ rows_fields f m (drop n rows)) e
 
 -- the fields of the rows before row i are laid, up to p
 pub record FieldsLaid (pool : List ℕ) (t : ColumnTrie) (bytes : List ℕ) (at : ℕ) (bytes' path : List ℕ) (p i : ℕ) : Type 0 where
@@ -159,27 +132,27 @@ module _ {pool : List ℕ} {t : ColumnTrie} (o : Whole t) (s : undamaged pool t 
 
   module _ (h : i < t.tuple_count) (f : 0 < m) where
     abbrev n : ℕ
-    n = ahead (t.tuple_count - i) m
+    n = min m (t.tuple_count - i)
 
     left : length (drop i rows) ≡ t.tuple_count - i
     left = length-drop i rows ∙ ap (λ (k : ℕ). k - i) (rows_many o u)
 
     pub next_some : 0 < n
-    next_some = ahead_some (t.tuple_count - i) m (omega arith) f
+    next_some = omega arith
 
     pub next_there : i + n ≤ t.tuple_count
-    next_there = omega (arith, ahead_few (t.tuple_count - i) m)
+    next_there = omega arith
 
     next : rows_fields (length rows) m (drop i rows) ≡ rows_field (take n (drop i rows)) ++ rows_fields (length rows) m (drop (i + n) rows)
     next =
         next_field m (drop i rows) (length rows) f (omega (arith, left)) (omega (arith, length-drop i rows))
-        ∙ ap (λ (k : ℕ). rows_field (take (ahead k m) (drop i rows)) ++ rows_fields (length rows) m (drop (ahead k m) (drop i rows))) left
+        ∙ ap (λ (k : ℕ). rows_field (take (min m k) (drop i rows)) ++ rows_fields (length rows) m (drop (min m k) (drop i rows))) left
         ∙ ap (λ (qs : List Row). rows_field (take n (drop i rows)) ++ rows_fields (length rows) m qs) (drop-drop n i rows)
 
     long : length (rows_field (take n (drop i rows))) ≡ 3 + 8 * (n * t.arity)
     long =
         length_field (take n (drop i rows)) (λ x j. rows_wide o u x (in_drop i rows (in_take n (drop i rows) j)))
-        ∙ ap (λ (k : ℕ). 3 + 8 * (k * t.arity)) (length-take-le n (drop i rows) (omega (arith, left, ahead_few (t.tuple_count - i) m)))
+        ∙ ap (λ (k : ℕ). 3 + 8 * (k * t.arity)) (length-take-le n (drop i rows) (omega (arith, left)))
 
     whole : fields_in pool t ≡ (l.piece ++ rows_field (take n (drop i rows))) ++ rows_fields (length rows) m (drop (i + n) rows)
     whole = l.rest ∙ ap (λ (z : List ℕ). l.piece ++ z) next ∙ sym (append_assoc l.piece (rows_field (take n (drop i rows))) (rows_fields (length rows) m (drop (i + n) rows)))
@@ -192,7 +165,7 @@ module _ {pool : List ℕ} {t : ColumnTrie} (o : Whole t) (s : undamaged pool t 
 
     -- the rows are few enough
     pub next_few : 8 * (n * t.arity) ≤ 65535
-    next_few = per_fits t.arity u.arity.0 n (ahead_fits (t.tuple_count - i) m)
+    next_few = per_fits t.arity u.arity.0 n (omega arith)
 
     pub next_asked : at + length (fields_in pool t) ≤ length bytes → Putting pool t path i n (p + 3) (length bytes')
     next_asked r = record { sound = s; there = next_there; before = l.before; fits = omega (arith, next_room r, fields_kept) }

@@ -1,6 +1,5 @@
 -- Internal: what is asked by the functions that write fields of rows, and what they leave.
-use Rattle.std.specs.Prelude.{ℕ, ◌+◌, ◌*◌, ◌-◌, ◌≤◌, ◌≡◌, true, List, length, ltb}
-use Rattle.relation.specs.Order.{pick}
+use Rattle.std.specs.Prelude.{ℕ, ◌+◌, ◌*◌, ◌-◌, ◌≤◌, ◌≡◌, true, List, length}
 use Rattle.column_trie.specs.Pool.{lay}
 use Rattle.column_trie.specs.Table.{layers_in, rows_in, undamaged}
 use Rattle.column_trie.specs.declared.ColumnTrie.{ColumnTrie}
@@ -22,10 +21,6 @@ pub record RowsPut (pool : List ℕ) (t : ColumnTrie) (i : ℕ) (bytes : List �
 -- the table's fields of rows
 abbrev pub fields_in : List ℕ → ColumnTrie → List ℕ
 fields_in pool t = rows_fields (length (rows_in pool t)) (per_field t.arity) (rows_in pool t)
-
--- how many rows the next field has, of those that are left
-abbrev pub ahead : ℕ → ℕ → ℕ
-ahead left full = pick (ltb left full) left full
 
 -- a piece is laid from `at` on, up to `end`
 pub record Laid (bytes : List ℕ) (at : ℕ) (piece bytes' : List ℕ) (end : ℕ) : Type 0 where

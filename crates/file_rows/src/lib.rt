@@ -9,7 +9,7 @@ ghost use Rattle.column_trie.specs.Pool.{lay};
 ghost use Rattle.column_trie.specs.Table.{rows_in, undamaged};
 ghost use Rattle.table_file.specs.Bytes.{bytes_of, encode};
 ghost use Rattle.table_file.specs.File.{per_field, rows_field};
-ghost use Rattle.file_rows.specs.Rows.{fields_in, Putting, RowsPut, Laid, ahead};
+ghost use Rattle.file_rows.specs.Rows.{fields_in, Putting, RowsPut, Laid};
 
 use column_trie::{ColumnTrie, layer_at};
 use file_bytes::put_word;
@@ -28,11 +28,9 @@ fn put_row(
     ensures { RowsPut pool.now t i bytes.old at (encode (get_or (rows_in pool.now t) i [])) bytes.new path.new }
 {
     next_path(pool, t, path, i);
-    let mut d = 0;
-    while d < t.arity {
+    for d in 0..t.arity {
         let place = layer_at(t, d) + path[d];
         put_word(bytes, at + 8 * d, pool[place]);
-        d += 1;
     }
 }
 
@@ -50,11 +48,9 @@ pub fn put_rows(
     ensures { RowsPut pool.now t (i + n - 1) bytes.old at (encode (flat (take n (drop i (rows_in pool.now t))))) bytes.new path.new }
 {
     let mut p = at;
-    let mut k = 0;
-    while k < n {
+    for k in 0..n {
         put_row(bytes, p, pool, t, path, i + k);
         p += 8 * t.arity;
-        k += 1;
     }
 }
 
@@ -63,9 +59,8 @@ pub fn put_tag(bytes: &mut [u8], at: usize, tag: u8, len: usize)
     requires { (at + 3 ≤ length bytes.old) × (len ≤ 65535) }
     ensures { bytes.new ≡ lay bytes.old at (tag ∷ bytes_of 2 len) }
 {
-    bytes[at] = tag;
-    bytes[at + 1] = (len / 256) as u8;
-    bytes[at + 2] = (len % 256) as u8;
+    let [high, low] = (len as u16).to_be_bytes();
+    bytes[at..at + 3].copy_from_slice(&[tag, high, low]);
 }
 
 // How many rows fill a field.
@@ -75,13 +70,6 @@ pub fn per_field(arity: usize) -> usize
 {
     let size = 8 * arity;
     65535 / size
-}
-
-// How many rows the next field has, of those that are left.
-fn next_rows(left: usize, full: usize) -> usize
-    ensures { result ≡ ahead left full }
-{
-    if left < full { left } else { full }
 }
 
 // Writes the field of n rows, the first of them row i, from `at` on.
@@ -110,8 +98,9 @@ pub fn put_fields(bytes: &mut [u8], at: usize, pool: &[u64], t: ColumnTrie) -> u
     let full = per_field(t.arity);
     let mut p = at;
     let mut i = 0;
+    // A field's rows at a time: `step_by` would count i alone, and n and p would stand beside it as they do here.
     while i < t.tuple_count {
-        let n = next_rows(t.tuple_count - i, full);
+        let n = full.min(t.tuple_count - i);
         put_rows_field(bytes, p, pool, t, &mut path, i, n);
         p += 3 + 8 * (n * t.arity);
         i += n;

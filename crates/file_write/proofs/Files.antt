@@ -1,11 +1,11 @@
 -- The whole file: how long it is by the header, its three parts laid, and the ways out of a write.
-use Prim.Native.Nat.{ℕ, zero, suc, ◌+◌, ◌*◌, ◌/◌, ◌-◌, ◌≤◌, ◌<◌}
+use Prim.Native.Nat.{ℕ, zero, suc, ◌+◌, ◌*◌, ◌/◌, ◌%◌, ◌-◌, ◌≤◌, ◌<◌}
 use mathlib.Core.Path.{◌≡◌, refl, sym, ap, ap₂, ◌∙◌}
 use mathlib.Core.Bool.{true, false}
 use mathlib.Core.List.{List, [], ◌∷◌, ◌++◌, append_assoc, append-nil}
 use native.Mathlib.Omega.{arith}
 use native.Mathlib.Decide.{dec_lt}
-use native.Mathlib.Nat.{div-eq_of_lt, div-eq-sub-div, add-mul, zero-mul}
+use native.Mathlib.Nat.{div-eq_of_lt, div-eq-sub-div, mod-eq_of_lt, mod-eq-sub-mod, add-mul, zero-mul}
 use lib.ListN.{length, take, drop, length-append, length-drop}
 use lib.Seq.{length-take-le, take_all, sets-eq}
 use borrow.Author.Tests.{le-leb, lt-leb}
@@ -30,21 +30,23 @@ use Rattle.file_write.specs.Head.{head_of, rows_len, file_len}
 -- a field more
 rows_more : (a m n : ℕ) → 0 < m → m ≤ n → rows_len a m n ≡ 3 + 8 * (m * a) + rows_len a m (n - m)
 rows_more a m n f h =
-    let d : (n + m - 1) / m ≡ (n + m - 1 - m) / m + 1 = div-eq-sub-div {m = m} {n = n + m - 1} f (omega arith) in
-    let e : n + m - 1 - m ≡ n - m + m - 1 = omega arith in
-    let g = ap (λ (k : ℕ). k / m) e in
+    let d : n / m ≡ (n - m) / m + 1 = div-eq-sub-div {m = m} {n = n} f h in
+    let r : n % m ≡ (n - m) % m = mod-eq-sub-mod h in
     let k : n * a ≡ m * a + (n - m) * a = ap (λ (x : ℕ). x * a) (let z : n ≡ m + (n - m) = omega arith in z) ∙ add-mul m (n - m) a in
     omega arith
 
 -- the last field
 rows_last : (a m n : ℕ) → 0 < n → n < m → rows_len a m n ≡ 3 + 8 * (n * a)
 rows_last a m n f h =
-    let d : (n + m - 1) / m ≡ (n + m - 1 - m) / m + 1 = div-eq-sub-div {m = m} {n = n + m - 1} (omega arith) (omega arith) in
-    let g : (n + m - 1 - m) / m ≡ 0 = div-eq_of_lt (omega arith) in
+    let d : n / m ≡ 0 = div-eq_of_lt h in
+    let r : n % m ≡ n = mod-eq_of_lt h in
     omega arith
 
 rows_none : (a m : ℕ) → 0 < m → rows_len a m 0 ≡ 0
-rows_none a m f = let g : (0 + m - 1) / m ≡ 0 = div-eq_of_lt (omega arith) in omega (arith, zero-mul a)
+rows_none a m f =
+    let d : 0 / m ≡ 0 = div-eq_of_lt f in
+    let r : 0 % m ≡ 0 = mod-eq_of_lt f in
+    omega (arith, zero-mul a)
 
 fields_long : {a : ℕ} (m : ℕ) → 0 < m → (f : ℕ) (rows : List Row) → Width a rows → length rows ≤ f → length (rows_fields f m rows) ≡ rows_len a m (length rows)
 unfolding rows_fields
@@ -103,33 +105,23 @@ lay_front : (bytes xs : List ℕ) → length xs ≤ length bytes → lay bytes 0
 unfolding lay
 lay_front bytes xs h = sets-eq xs bytes 0 (omega arith) ∙ ap (λ (n : ℕ). xs ++ drop n bytes) (let e : 0 + length xs ≡ length xs = omega arith in e)
 
-module _ (pool : List ℕ) (t : ColumnTrie) (bytes : List ℕ) where
-  abbrev file : List ℕ
-  file = file_in pool t
-
-  pub number_6 : undamaged pool t ≡ false → write_number pool t (length bytes) ≡ 6
+module _ (pool : List ℕ) (t : ColumnTrie) (room : ℕ) where
+  pub number_6 : undamaged pool t ≡ false → write_number pool t room ≡ 6
   unfolding write_number
   number_6 e = simp e
 
-  pub damaged : undamaged pool t ≡ false → Writes pool t bytes bytes (record { number = 6; len = 0 })
-  damaged e = let n = number_6 e in record { number = sym n; len = rw n refl; written = rw n refl }
-
   module _ (sound : undamaged pool t ≡ true) where
-    pub number_14 : length bytes < length file → write_number pool t (length bytes) ≡ 14
+    pub number_14 : room < length (file_in pool t) → write_number pool t room ≡ 14
     unfolding write_number
-    number_14 h = simp (sound, lt-leb (length file) (length bytes) h)
+    number_14 h = simp (sound, lt-leb (length (file_in pool t)) room h)
 
-    pub too_long : length bytes < length file → Writes pool t bytes bytes (record { number = 14; len = 0 })
-    too_long h = let n = number_14 h in record { number = sym n; len = rw n refl; written = rw n refl }
-
-    pub number_0 : length file ≤ length bytes → write_number pool t (length bytes) ≡ 0
+    pub number_0 : length (file_in pool t) ≤ room → write_number pool t room ≡ 0
     unfolding write_number
-    number_0 h = simp (sound, le-leb (length file) (length bytes) h)
+    number_0 h = simp (sound, le-leb (length (file_in pool t)) room h)
 
-    pub accepted : length file ≤ length bytes → (bytes' : List ℕ) → bytes' ≡ lay bytes 0 file → (n : ℕ) → n ≡ length file → Writes pool t bytes bytes' (record { number = 0; len = n })
-    accepted h bytes' w n e =
-        let z = number_0 h in
-        record { number = sym z; len = rw z e; written = rw z (w ∙ lay_front bytes file h) }
+-- a file that is laid at the front is written
+pub accepted : (pool : List ℕ) (t : ColumnTrie) (bytes : List ℕ) {bytes' : List ℕ} {n : ℕ} → 0 ≡ write_number pool t (length bytes) → n ≡ length (file_in pool t) → n ≤ length bytes → bytes' ≡ lay bytes 0 (file_in pool t) → Writes pool t bytes bytes' (record { number = 0; len = n })
+accepted pool t bytes z e h w = let y = sym z in record { number = z; len = rw y e; written = rw y (w ∙ lay_front bytes (file_in pool t) (omega arith)) }
 
 -- any two outcomes that the contract allows are equal
 pub determined : {pool bytes x y : List ℕ} {t : ColumnTrie} {r s : FileWritten} → Writes pool t bytes x r → Writes pool t bytes y s → (r ≡ s) × (x ≡ y)

@@ -1,5 +1,5 @@
 -- Kinds and heads: whether some column is a grade, and the bytes up to the rows.
-use Prim.Native.Nat.{ℕ, zero, suc, ◌+◌, ◌≤◌, ◌<◌}
+use Prim.Native.Nat.{ℕ, ◌+◌, ◌≤◌, ◌<◌}
 use mathlib.Core.Path.{◌≡◌, refl, sym, ap, ◌∙◌}
 use mathlib.Core.Bool.{Bool, true, false, ◌||◌}
 use mathlib.Core.List.{List, [], ◌∷◌, ◌++◌, map}
@@ -7,6 +7,8 @@ use native.Mathlib.Omega.{arith}
 use native.Mathlib.Numerals.{add-one}
 use lib.ListN.{length, take, get_or, set, length-map, length-append}
 use lib.Seq.{take-suc, length-take-le}
+use Rattle.std.specs.Int.{from_bool}
+use Rattle.std.specs.List.{list_any}
 use Rattle.column_trie.specs.Pool.{lay}
 use Rattle.column_trie.specs.declared.ColumnTrie.{ColumnTrie}
 use Rattle.column_trie.proofs.Pool.{lay_snoc}
@@ -21,40 +23,22 @@ use Rattle.file_write.specs.Head.{head_of}
 
 -- ---- some column is a grade
 
-pub none_graded : graded [] ≡ false
+-- as the library tests it
+pub any_graded : (ks : List Bool) → list_any (λ k. k) ks ≡ graded ks
 unfolding graded
-none_graded = refl
-
-graded_snoc : (ks : List Bool) (k : Bool) → graded (ks ++ (k ∷ [])) ≡ (graded ks || k)
-unfolding graded
-graded_snoc [] true = refl
-graded_snoc [] false = refl
-graded_snoc (true ∷ ks) k = refl
-graded_snoc (false ∷ ks) k = graded_snoc ks k
-
-pub plain_more : (ks : List Bool) (d : ℕ) → d < length ks → graded (take d ks) ≡ false → get_or ks d false ≡ false → graded (take (d + 1) ks) ≡ false
-plain_more ks d h e f =
-    ap (λ (n : ℕ). graded (take n ks)) (add-one d) ∙ ap graded (take-suc ks d false h) ∙ graded_snoc (take d ks) (get_or ks d false) ∙ ap (λ (b : Bool). b || get_or ks d false) e ∙ f
-
-pub grade_at : (ks : List Bool) (n d : ℕ) → d < n → get_or ks d false ≡ true → graded (take n ks) ≡ true
-unfolding graded
-grade_at [] n d h e = absurd (no e)
-  where
-    no : false ≡ true → ⊥
-    no p = let z : ◌≡◌ {A = ℕ} 0 1 = cc in omega arith
-grade_at (k ∷ ks) zero d h e = absurd (omega arith)
-grade_at (k ∷ ks) (suc n) zero h e = ap (λ (b : Bool). b || graded (take n ks)) e
-grade_at (k ∷ ks) (suc n) (suc d) h e = ap (λ (b : Bool). k || b) (grade_at ks n d (omega arith) e) ∙ or_true k
-  where
-    or_true : (k : Bool) → (k || true) ≡ true
-    or_true true = refl
-    or_true false = refl
+any_graded [] = refl
+any_graded (k ∷ ks) = ap (λ (b : Bool). k || b) (any_graded ks)
 
 -- ---- the kinds' bytes
 
 map_snoc : (ks : List Bool) (k : Bool) → map kind_byte (ks ++ (k ∷ [])) ≡ map kind_byte ks ++ (kind_byte k ∷ [])
 map_snoc [] k = refl
 map_snoc (x ∷ ks) k = ap (λ (l : List ℕ). kind_byte x ∷ l) (map_snoc ks k)
+
+-- the library's byte of a bool is ours
+pub byte_of : (k : Bool) → from_bool k ≡ kind_byte k
+byte_of true = refl
+byte_of false = refl
 
 pub no_kinds : (bytes : List ℕ) (at : ℕ) (ks : List Bool) → bytes ≡ lay bytes at (map kind_byte (take 0 ks))
 no_kinds bytes at ks = lay_none bytes at

@@ -5,37 +5,26 @@
 // a refusal leaves the bytes as they were. One pass over the rows, no second buffer.
 #![tactic(auto)]
 
-ghost use Rattle.std.specs.Prelude.{◌≡◌, true, map, ◌+◌, ◌≤◌, ◌<◌, length};
+ghost use Rattle.std.specs.Prelude.{◌≡◌, true, map, ◌+◌, ◌≤◌, ◌<◌, length, IfOk};
+ghost use Rattle.refusal.specs.Number.{given};
 ghost use Rattle.column_trie.specs.Limits.{max_arity, max_capacity};
 ghost use Rattle.column_trie.specs.Pool.{lay};
 ghost use Rattle.column_trie.specs.Table.{undamaged};
 ghost use Rattle.table_file.specs.File.{kind_byte, graded};
 ghost use Rattle.file_rows.specs.Rows.{Laid};
-ghost use Rattle.file_write.specs.Write.{kinds_of, file_in, Writes};
+ghost use Rattle.file_write.specs.Write.{kinds_of, file_in, write_number, Writes};
 ghost use Rattle.file_write.specs.Head.{head_of, file_len};
 
 use column_trie::{ColumnTrie, undamaged};
 use file_rows::{per_field, put_fields, put_tag};
+use refusal::Refusal;
 
 // Whether some column is a grade.
 fn some_grade(t: ColumnTrie) -> bool
     requires { t.arity ≤ max_arity }
     ensures { result ≡ graded (kinds_of t) }
 {
-    let mut d = 0;
-    while d < t.arity {
-        if t.grade[d] {
-            return true;
-        }
-        d += 1;
-    }
-    false
-}
-
-fn kind_byte(grade: bool) -> u8
-    ensures { result ≡ kind_byte grade }
-{
-    if grade { 1 } else { 0 }
+    t.grade[..t.arity].iter().any(|&grade| grade)
 }
 
 // Writes the kinds from `at` on, a byte a column.
@@ -43,11 +32,8 @@ fn put_kinds(bytes: &mut [u8], at: usize, t: ColumnTrie)
     requires { (t.arity ≤ max_arity) × (at + t.arity ≤ length bytes.old) }
     ensures { bytes.new ≡ lay bytes.old at (map kind_byte (kinds_of t)) }
 {
-    let mut d = 0;
-    while d < t.arity {
-        let kind = kind_byte(t.grade[d]);
-        bytes[at + d] = kind;
-        d += 1;
+    for d in 0..t.arity {
+        bytes[at + d] = u8::from(t.grade[d]);
     }
 }
 
@@ -55,10 +41,7 @@ fn head_len(t: ColumnTrie) -> usize
     requires { t.arity ≤ max_arity }
     ensures { (result ≡ length (head_of t)) × (result ≤ 15) }
 {
-    if some_grade(t) {
-        return 7 + t.arity;
-    }
-    4
+    if some_grade(t) { 7 + t.arity } else { 4 }
 }
 
 // Writes the head at the front, kinds only if some column is a grade; answers where it ends.
@@ -83,7 +66,7 @@ fn file_len(t: ColumnTrie) -> usize
 {
     let head = head_len(t);
     let full = per_field(t.arity);
-    let fields = (t.tuple_count + full - 1) / full;
+    let fields = t.tuple_count.div_ceil(full);
     head + (3 * fields + 8 * (t.tuple_count * t.arity)) + 3
 }
 
@@ -105,17 +88,33 @@ pub struct FileWritten {
     pub len: usize,
 }
 
+// How long the table's file is, if `room` bytes have room for it; else the first check that refuses.
+fn writable(pool: &[u64], table: ColumnTrie, room: usize) -> Result<usize, Refusal>
+    ensures number { given result ≡ write_number pool.now table room }
+    ensures len { IfOk result (λ len. (undamaged pool.now table ≡ true) × (len ≡ length (file_in pool.now table)) × (len ≤ room)) }
+{
+    if !undamaged(pool, table) {
+        return Err(Refusal::Damaged);
+    }
+    let len = file_len(table);
+    if room < len {
+        return Err(Refusal::LongText);
+    }
+    Ok(len)
+}
+
 // Writes the table's file at the front of `bytes`. Refused, with nothing written: 6, a damaged table; 14, a file that is longer than the bytes.
 pub fn write(pool: &[u64], table: ColumnTrie, bytes: &mut [u8]) -> FileWritten
     ensures { Writes pool.now table bytes.old bytes.new result }
 {
-    if !undamaged(pool, table) {
-        return FileWritten { number: 6, len: 0 };
+    match writable(pool, table, bytes.len()) {
+        Ok(len) => {
+            put_file(bytes, pool, table);
+            FileWritten { number: 0, len }
+        }
+        Err(refused) => FileWritten {
+            number: refused.number(),
+            len: 0,
+        },
     }
-    let len = file_len(table);
-    if bytes.len() < len {
-        return FileWritten { number: 14, len: 0 };
-    }
-    put_file(bytes, pool, table);
-    FileWritten { number: 0, len }
 }

@@ -11,6 +11,8 @@ use lib.ListN.{length, take, drop, length-append, length-drop, length-take, take
 use lib.Dec.{eqb, leb}
 use lib.Seq.{drop_at, take_at, take_all, length-take-le}
 use borrow.Author.Tests.{eqb-true, eq-eqb, leb-true, leb-false}
+use Rattle.std.proofs.lemmas.Option.{none-some}
+use Rattle.std.specs.Prelude.{Option, Some, None}
 use Rattle.relation.specs.Order.{Row}
 use Rattle.relation.specs.Lists.{◌∈◌, hd, tl, not_in_nil}
 use Rattle.relation.specs.Rows.{Width, cut, flat, same}
@@ -18,7 +20,7 @@ use Rattle.relation.proofs.Tests.{and_left, and_right, and_true, or_right, T_tru
 use Rattle.relation.proofs.Sorting.{same→eq, same_refl}
 use Rattle.relation.proofs.Words.{cut_flat, cut_width, length_cut}
 use Rattle.table_file.specs.Bytes.{bytes_of, number, encode, decode, begins, Bytes}
-use Rattle.table_file.specs.File.{per_field, rows_field, rows_fields, end, Read, nothing, found, rows_here, behind, not_empty, field_ok, after, rows_read}
+use Rattle.table_file.specs.File.{per_field, rows_field, rows_fields, end, rows_here, behind, not_empty, field_ok, after, rows_read}
 use Rattle.table_file.proofs.Numbers.{top, length_bytes_of, number_bytes, number_top, Words, length_encode, length_decode, decode_encode, decode_words, bytes_drop, begins_append, begins_true}
 
 -- every word of every row
@@ -94,7 +96,7 @@ not_empty_rows (r ∷ rs) h = omega arith
 -- ---- the steps of reading
 
 module _ (n a : ℕ) (bs : List ℕ) where
-  pub read_end : same bs end ≡ true → rows_read (suc n) a bs ≡ found []
+  pub read_end : same bs end ≡ true → rows_read (suc n) a bs ≡ Some []
   unfolding rows_read
   read_end h = simp (rows_read, h)
 
@@ -102,7 +104,7 @@ module _ (n a : ℕ) (bs : List ℕ) where
   unfolding rows_read
   read_more h k = simp (rows_read, h, k)
 
-  pub read_bad : same bs end ≡ false → field_ok a bs ≡ false → rows_read (suc n) a bs ≡ nothing
+  pub read_bad : same bs end ≡ false → field_ok a bs ≡ false → rows_read (suc n) a bs ≡ None
   unfolding rows_read
   read_bad h k = simp (rows_read, h, k)
 
@@ -163,21 +165,21 @@ module _ (a : ℕ) (pos : 0 < a) (few : a ≤ 8) where
       last (inl q) = rw (eq-eqb (length rows) (per_field a) q) refl
       last (inr q) = or_right (eqb (length rows) (per_field a)) (same (drop (length (rows_field rows)) (rows_field rows ++ rest)) end) (rw (drop_at (rows_field rows) rest (length (rows_field rows)) refl) (same_true q))
 
-  read_ends : (f : ℕ) → length end ≤ f → rows_read f a end ≡ found []
+  read_ends : (f : ℕ) → length end ≤ f → rows_read f a end ≡ Some []
   unfolding end
   read_ends zero h = absurd (omega arith)
   read_ends (suc f) h = read_end f a end (same_true refl)
 
   -- a field of rows in front of what reads as rows
   pub read_field : (f : ℕ) (rows qs : List Row) (rest : List ℕ) → Width a rows → RowWords rows → 0 < length rows → length rows ≤ per_field a → (length rows ≡ per_field a) ⊎ (rest ≡ end) →
-      rows_read f a rest ≡ found qs → rows_read (suc f) a (rows_field rows ++ rest) ≡ found (rows ++ qs)
+      rows_read f a rest ≡ Some qs → rows_read (suc f) a (rows_field rows ++ rest) ≡ Some (rows ++ qs)
   read_field f rows qs rest w ws p h o g =
       let e = here_field rows rest pos w ws h in
       let d : behind a (rows_field rows ++ rest) ≡ rest = rw e (drop_at (rows_field rows) rest (length (rows_field rows)) refl) in
       read_more f a (rows_field rows ++ rest) (field_no_end rows rest) (field_ok_lem rows rest w ws p h o) ∙ ap₂ after e (ap (rows_read f a) d ∙ g)
 
   pub read_fields : (f n : ℕ) (rows : List Row) → Width a rows → RowWords rows → length rows ≤ n → length (rows_fields n (per_field a) rows ++ end) ≤ f →
-      rows_read f a (rows_fields n (per_field a) rows ++ end) ≡ found rows
+      rows_read f a (rows_fields n (per_field a) rows ++ end) ≡ Some rows
   unfolding rows_fields
   read_fields f zero [] w ws h k = read_ends f k
   read_fields f zero (r ∷ rs) w ws h k = absurd (omega arith)
@@ -191,17 +193,14 @@ module _ (a : ℕ) (pos : 0 < a) (few : a ≤ 8) where
       let l = length-take m rows in
       let b = per_some a pos few in
       let e : (rows_field (take m rows) ++ F) ++ end ≡ rows_field (take m rows) ++ (F ++ end) = append_assoc (rows_field (take m rows)) F end in
-      let ih : rows_read f a (F ++ end) ≡ found (drop m rows) =
+      let ih : rows_read f a (F ++ end) ≡ Some (drop m rows) =
       read_fields f n (drop m rows) (λ q i. w q (in_drop m rows i)) (λ q i. ws q (in_drop m rows i)) (omega (arith, length-drop m rows))
       (omega (arith, ap length e, length-append (rows_field (take m rows)) (F ++ end), length_field (take m rows) t)) in
       ap (rows_read (suc f) a) e ∙
       read_field f (take m rows) (drop m rows) (F ++ end) t (λ q i. ws q (in_take m rows i)) (omega arith) (omega arith) (full_or_last_lem n m rows) ih ∙
-      ap found (take-append-drop m rows)
+      ap Some (take-append-drop m rows)
 
 -- ---- what is read was written
-
-pub never : {A : Type 0} {x : A} → ◌≡◌ {A = Read A} nothing (found x) → ⊥
-never h = let z : ◌≡◌ {A = ℕ} 0 1 = cc in omega arith
 
 two_top : {x : ℕ} → x < top 2 → x ≤ 65535
 unfolding top
@@ -307,24 +306,24 @@ module _ (a : ℕ) (pos : 0 < a) where
           front ∙ ap (λ (l : List ℕ). rows_field rs ++ l) r ∙ sym (append_assoc (rows_field rs) (rows_fields n (per_field a) qs) end) ∙
           ap (λ (l : List ℕ). l ++ end) (sym (fields_more n (per_field a) rs qs some c.0 c.1))
 
-  only_end : (f : ℕ) (bs : List ℕ) (qs : List Row) → rows_read f a bs ≡ found qs → bs ≡ end → qs ≡ []
+  only_end : (f : ℕ) (bs : List ℕ) (qs : List Row) → rows_read f a bs ≡ Some qs → bs ≡ end → qs ≡ []
   unfolding rows_read
-  only_end zero bs qs h e = let z : ◌≡◌ {A = Read (List Row)} nothing (found qs) = h in cc
-  only_end (suc f) bs qs h e = let k : rows_read (suc f) a bs ≡ found [] = read_end f a bs (same_true e) in cc
+  only_end zero bs qs h e = let z : ◌≡◌ {A = Option (List Row)} None (Some qs) = h in cc
+  only_end (suc f) bs qs h e = let k : rows_read (suc f) a bs ≡ Some [] = read_end f a bs (same_true e) in cc
 
-  pub written : (f : ℕ) (bs : List ℕ) (rows : List Row) → Bytes bs → rows_read f a bs ≡ found rows → Written a bs rows
+  pub written : (f : ℕ) (bs : List ℕ) (rows : List Row) → Bytes bs → rows_read f a bs ≡ Some rows → Written a bs rows
   unfolding rows_read
-  written zero bs rows b h = absurd (let z : ◌≡◌ {A = Read (List Row)} nothing (found rows) = h in never z)
+  written zero bs rows b h = absurd (none-some rows h)
   written (suc f) bs rows b h = go (written f (behind a bs)) (same bs end) refl (field_ok a bs) refl
     where
-      step : (x : Read (List Row)) → rows_read f a (behind a bs) ≡ x → ((qs : List Row) → Bytes (behind a bs) → rows_read f a (behind a bs) ≡ found qs → Written a (behind a bs) qs) →
-          field_ok a bs ≡ true → after (rows_here a bs) x ≡ found rows → Written a bs rows
-      step nothing e ih k q = absurd (never q)
-      step (found qs) e ih k q =
+      step : (x : Option (List Row)) → rows_read f a (behind a bs) ≡ x → ((qs : List Row) → Bytes (behind a bs) → rows_read f a (behind a bs) ≡ Some qs → Written a (behind a bs) qs) →
+          field_ok a bs ≡ true → after (rows_here a bs) x ≡ Some rows → Written a bs rows
+      step None e ih k q = absurd (none-some _ q)
+      step (Some qs) e ih k q =
           let z : rows_here a bs ++ qs ≡ rows = cc in
           subst (Written a bs) z (written_more bs qs b k (only_end f (behind a bs) qs e) (ih qs (bytes_drop (length (rows_field (rows_here a bs))) bs b) e))
 
-      go : ((qs : List Row) → Bytes (behind a bs) → rows_read f a (behind a bs) ≡ found qs → Written a (behind a bs) qs) → (x : Bool) → same bs end ≡ x → (y : Bool) → field_ok a bs ≡ y → Written a bs rows
-      go ih true p y q = let k : rows_read (suc f) a bs ≡ found [] = read_end f a bs p in written_end (same_is bs end p) (let z : rows ≡ [] = cc in z)
+      go : ((qs : List Row) → Bytes (behind a bs) → rows_read f a (behind a bs) ≡ Some qs → Written a (behind a bs) qs) → (x : Bool) → same bs end ≡ x → (y : Bool) → field_ok a bs ≡ y → Written a bs rows
+      go ih true p y q = let k : rows_read (suc f) a bs ≡ Some [] = read_end f a bs p in written_end (same_is bs end p) (let z : rows ≡ [] = cc in z)
       go ih false p true q = step (rows_read f a (behind a bs)) refl ih q (sym (read_more f a bs p q) ∙ h)
-      go ih false p false q = absurd (never (sym (read_bad f a bs p q) ∙ h))
+      go ih false p false q = absurd (none-some _ (sym (read_bad f a bs p q) ∙ h))

@@ -8,6 +8,8 @@ use lib.ListN.{length, take, drop, get_or, replicate, length-append, length-map}
 use lib.Dec.{eqb, ltb, leb}
 use lib.Seq.{drop_at, take_at}
 use borrow.Author.Tests.{eqb-true, eq-eqb, ne_eqb, ltb-true, lt-ltb, leb-true, le-leb}
+use Rattle.std.proofs.lemmas.Option.{none-some}
+use Rattle.std.specs.Prelude.{Option, Some, None}
 use Rattle.relation.specs.Order.{Row, before, ◌≺◌}
 use Rattle.relation.specs.Lists.{◌∈◌, hd, tl, not_in_nil, anone, amore}
 use Rattle.relation.specs.Rows.{Asc}
@@ -15,9 +17,9 @@ use Rattle.relation.proofs.Tests.{and_left, and_right, and_true, or_right, T_tru
 use Rattle.relation.proofs.Order.{≺→before, before→≺, trans}
 use Rattle.column_trie.specs.Table.{arity_ok}
 use Rattle.table_file.specs.Bytes.{bytes_of, begins, Bytes}
-use Rattle.table_file.specs.File.{field, kind_byte, graded, kinds_field, head, per_field, rows_field, rows_fields, end, file_of, File, Read, nothing, found, rows_read, kinds_read, ascending, if_ascending, head_ok, parse_as, parse, Table}
+use Rattle.table_file.specs.File.{field, kind_byte, graded, kinds_field, head, per_field, rows_field, rows_fields, end, file_of, File, rows_read, kinds_read, ascending, if_ascending, head_ok, parse_as, parse, Table}
 use Rattle.table_file.proofs.Numbers.{length_bytes_of, bytes_drop, begins_append, begins_true}
-use Rattle.table_file.proofs.Fields.{read_fields, Written, written, never, end_length}
+use Rattle.table_file.proofs.Fields.{read_fields, Written, written, end_length}
 
 -- ---- rows that ascend
 
@@ -115,15 +117,15 @@ module _ (a : ℕ) (ks : List Bool) (bs : List ℕ) where
   unfolding parse_as
   parse_open h = simp (parse_as, h)
 
-  pub parse_shut : head_ok a ks bs ≡ false → parse_as a ks bs ≡ nothing
+  pub parse_shut : head_ok a ks bs ≡ false → parse_as a ks bs ≡ None
   unfolding parse_as
   parse_shut h = simp (parse_as, h)
 
 module _ (a : ℕ) (ks : List Bool) (rows : List Row) where
-  pub keeps : ascending rows ≡ true → if_ascending a ks (found rows) ≡ found (record { arity = a; kinds = ks; rows = rows })
+  pub keeps : ascending rows ≡ true → if_ascending a ks (Some rows) ≡ Some (record { arity = a; kinds = ks; rows = rows })
   keeps h = simp (if_ascending, h)
 
-  pub drops : ascending rows ≡ false → if_ascending a ks (found rows) ≡ nothing
+  pub drops : ascending rows ≡ false → if_ascending a ks (Some rows) ≡ None
   drops h = simp (if_ascending, h)
 
 pub arity_ok_lem : (a : ℕ) → 0 < a → a ≤ 8 → arity_ok a ≡ true
@@ -164,13 +166,13 @@ pub file_is : (a : ℕ) (ks : List Bool) (rows : List Row) → file_of a ks rows
 unfolding file_of
 file_is a ks rows = refl
 
-pub what_is_written_is_read : (a : ℕ) (ks : List Bool) (rows : List Row) → Table a ks rows → parse (file_of a ks rows) ≡ found (record { arity = a; kinds = ks; rows = rows })
+pub what_is_written_is_read : (a : ℕ) (ks : List Bool) (rows : List Row) → Table a ks rows → parse (file_of a ks rows) ≡ Some (record { arity = a; kinds = ks; rows = rows })
 what_is_written_is_read a ks rows t =
     let body : List ℕ = rows_fields (length rows) (per_field a) rows ++ end in
     let bs : List ℕ = head a ks ++ body in
     let y : kinds_read a bs ≡ ks = head_kinds a ks body t.kinds (body_first (length rows) (per_field a) rows) in
     let d : drop (length (head a ks)) bs ≡ body = drop_at (head a ks) body (length (head a ks)) refl in
-    let r : rows_read (length bs) a body ≡ found rows = read_fields a t.some t.few (length bs) (length rows) rows t.width t.words (omega arith) (omega (arith, length-append (head a ks) body)) in
+    let r : rows_read (length bs) a body ≡ Some rows = read_fields a t.some t.few (length bs) (length rows) rows t.width t.words (omega arith) (omega (arith, length-append (head a ks) body)) in
     ap parse (file_is a ks rows) ∙
     parse_as_lem bs a ks (head_arity a ks body) y ∙
     parse_open a ks bs (head_ok_lem a ks bs (arity_ok_lem a t.some t.few) t.kinds (head_four a ks body (body_first (length rows) (per_field a) rows)) (begins_append (head a ks) body)) ∙
@@ -212,13 +214,13 @@ headed a ks bs h =
     record { some = ltb-true 0 a (and_left (ltb 0 a) (leb a 8) t.0); few = leb-true a 8 (and_right (ltb 0 a) (leb a 8) t.0); kinds = t.1; front = begins_true (head a ks) bs t.3 }
 
 module _ (a : ℕ) (ks : List Bool) (bs : List ℕ) (b : Bytes bs) where
-  read_as : (t : File) → parse_as a ks bs ≡ found t → (bs ≡ file_of t.arity t.kinds t.rows) × Table t.arity t.kinds t.rows
+  read_as : (t : File) → parse_as a ks bs ≡ Some t → (bs ≡ file_of t.arity t.kinds t.rows) × Table t.arity t.kinds t.rows
   read_as t h = go (head_ok a ks bs) refl
     where
       body : List ℕ
       body = drop (length (head a ks)) bs
 
-      is : (rows : List Row) → Headed a ks bs → rows_read (length bs) a body ≡ found rows → ascending rows ≡ true → t ≡ record { arity = a; kinds = ks; rows = rows } →
+      is : (rows : List Row) → Headed a ks bs → rows_read (length bs) a body ≡ Some rows → ascending rows ≡ true → t ≡ record { arity = a; kinds = ks; rows = rows } →
           (bs ≡ file_of t.arity t.kinds t.rows) × Table t.arity t.kinds t.rows
       is rows k r s e =
           let w : Written a body rows = written a k.some (length bs) body rows (bytes_drop (length (head a ks)) bs b) r in
@@ -227,23 +229,23 @@ module _ (a : ℕ) (ks : List Bool) (bs : List ℕ) (b : Bytes bs) where
             record { some = k.some; few = k.few; kinds = k.kinds; width = w.width; words = w.words; asc = ascending_asc rows s },
           )
 
-      rise : (rows : List Row) → Headed a ks bs → rows_read (length bs) a body ≡ found rows → if_ascending a ks (found rows) ≡ found t → (x : Bool) → ascending rows ≡ x →
+      rise : (rows : List Row) → Headed a ks bs → rows_read (length bs) a body ≡ Some rows → if_ascending a ks (Some rows) ≡ Some t → (x : Bool) → ascending rows ≡ x →
           (bs ≡ file_of t.arity t.kinds t.rows) × Table t.arity t.kinds t.rows
-      rise rows k r q true s = is rows k r s (let z : if_ascending a ks (found rows) ≡ found (record { arity = a; kinds = ks; rows = rows }) = keeps a ks rows s in let y : t ≡ record { arity = a; kinds = ks; rows = rows } = cc in y)
-      rise rows k r q false s = absurd (never (sym (drops a ks rows s) ∙ q))
+      rise rows k r q true s = is rows k r s (let z : if_ascending a ks (Some rows) ≡ Some (record { arity = a; kinds = ks; rows = rows }) = keeps a ks rows s in let y : t ≡ record { arity = a; kinds = ks; rows = rows } = cc in y)
+      rise rows k r q false s = absurd (none-some _ (sym (drops a ks rows s) ∙ q))
 
-      some_rows : (x : Read (List Row)) → Headed a ks bs → rows_read (length bs) a body ≡ x → if_ascending a ks x ≡ found t → (bs ≡ file_of t.arity t.kinds t.rows) × Table t.arity t.kinds t.rows
-      some_rows nothing k r q = absurd (never q)
-      some_rows (found rows) k r q = rise rows k r q (ascending rows) refl
+      some_rows : (x : Option (List Row)) → Headed a ks bs → rows_read (length bs) a body ≡ x → if_ascending a ks x ≡ Some t → (bs ≡ file_of t.arity t.kinds t.rows) × Table t.arity t.kinds t.rows
+      some_rows None k r q = absurd (none-some _ q)
+      some_rows (Some rows) k r q = rise rows k r q (ascending rows) refl
 
       go : (x : Bool) → head_ok a ks bs ≡ x → (bs ≡ file_of t.arity t.kinds t.rows) × Table t.arity t.kinds t.rows
       go true k = some_rows (rows_read (length bs) a body) (headed a ks bs k) refl (sym (parse_open a ks bs k) ∙ h)
-      go false k = absurd (never (sym (parse_shut a ks bs k) ∙ h))
+      go false k = absurd (none-some _ (sym (parse_shut a ks bs k) ∙ h))
 
-pub what_is_read_was_written : (bs : List ℕ) (t : File) → Bytes bs → parse bs ≡ found t → (bs ≡ file_of t.arity t.kinds t.rows) × Table t.arity t.kinds t.rows
+pub what_is_read_was_written : (bs : List ℕ) (t : File) → Bytes bs → parse bs ≡ Some t → (bs ≡ file_of t.arity t.kinds t.rows) × Table t.arity t.kinds t.rows
 unfolding parse
 what_is_read_was_written bs t b h = read_as (get_or bs 3 0) (kinds_read (get_or bs 3 0) bs) bs b t h
 
 -- so one table has one file: two files of which the same is read are the same bytes
-pub one_table_one_file : (bs cs : List ℕ) (t : File) → Bytes bs → Bytes cs → parse bs ≡ found t → parse cs ≡ found t → bs ≡ cs
+pub one_table_one_file : (bs cs : List ℕ) (t : File) → Bytes bs → Bytes cs → parse bs ≡ Some t → parse cs ≡ Some t → bs ≡ cs
 one_table_one_file bs cs t b c h k = (what_is_read_was_written bs t b h).0 ∙ sym (what_is_read_was_written cs t c k).0

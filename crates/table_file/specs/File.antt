@@ -1,5 +1,5 @@
 -- Public: table files: the bytes of a table, and the table that bytes are.
-use Rattle.std.specs.Prelude.{ℕ, zero, suc, ◌*◌, ◌/◌, ◌-◌, ◌<◌, ◌≤◌, ◌≡◌, Bool, true, false, ◌&&◌, ◌||◌, not, List, [], ◌∷◌, ◌++◌, map, length, take, drop, get_or, replicate, eqb}
+use Rattle.std.specs.Prelude.{ℕ, zero, suc, ◌*◌, ◌/◌, ◌-◌, ◌<◌, ◌≤◌, ◌≡◌, Bool, true, false, ◌&&◌, ◌||◌, not, List, [], ◌∷◌, ◌++◌, map, length, take, drop, get_or, replicate, eqb, Option, Some, None}
 use Rattle.relation.specs.Tests.{every}
 use Rattle.relation.specs.Order.{Row, before}
 use Rattle.relation.specs.Lists.{◌∈◌}
@@ -58,10 +58,6 @@ pub record File : Type 0 where
   pub kinds : List Bool
   pub rows : List Row
 
-pub data Read (A : Type 0) : Type 0 where
-  nothing : Read A
-  found : A → Read A
-
 -- the rows of a field of rows at the front, by its length
 unfoldable pub rows_here : ℕ → List ℕ → List Row
 rows_here a bs = let n = number 2 (drop 1 bs) / (8 * a) in cut n a (decode (n * a) (drop 3 bs))
@@ -80,17 +76,17 @@ field_ok a bs =
     begins (rows_field (rows_here a bs)) bs &&
     (not_empty (rows_here a bs) && (eqb (length (rows_here a bs)) (per_field a) || same (behind a bs) end))
 
-abbrev pub after : List Row → Read (List Row) → Read (List Row)
-after rs nothing = nothing
-after rs (found qs) = found (rs ++ qs)
+abbrev pub after : List Row → Option (List Row) → Option (List Row)
+after rs None = None
+after rs (Some qs) = Some (rs ++ qs)
 
 -- the rows of the fields up to the end
-unfoldable pub rows_read : ℕ → ℕ → List ℕ → Read (List Row)
-rows_read zero a bs = nothing
+unfoldable pub rows_read : ℕ → ℕ → List ℕ → Option (List Row)
+rows_read zero a bs = None
 rows_read (suc n) a bs =
     elim (same bs end) [
-      | true ↦ found []
-      | false ↦ elim (field_ok a bs) [ true ↦ after (rows_here a bs) (rows_read n a (behind a bs)) | false ↦ nothing ]
+      | true ↦ Some []
+      | false ↦ elim (field_ok a bs) [ true ↦ after (rows_here a bs) (rows_read n a (behind a bs)) | false ↦ None ]
     ]
 
 -- the kinds, if the bytes begin with a head of that arity
@@ -101,19 +97,19 @@ kinds_read a bs = elim (eqb (get_or bs 4 0) 4) [ true ↦ map (λ b. eqb b 1) (t
 unfoldable pub ascending : List Row → Bool
 ascending rows = every (length rows - 1) (λ i. before (get_or rows i []) (get_or rows (suc i) []))
 
-abbrev pub if_ascending : ℕ → List Bool → Read (List Row) → Read File
-if_ascending a ks nothing = nothing
-if_ascending a ks (found rows) = elim (ascending rows) [ true ↦ found (record { arity = a; kinds = ks; rows = rows }) | false ↦ nothing ]
+abbrev pub if_ascending : ℕ → List Bool → Option (List Row) → Option File
+if_ascending a ks None = None
+if_ascending a ks (Some rows) = elim (ascending rows) [ true ↦ Some (record { arity = a; kinds = ks; rows = rows }) | false ↦ None ]
 
 -- the head is there, and tag 4 only if some column is a grade
 unfoldable pub head_ok : ℕ → List Bool → List ℕ → Bool
 head_ok a ks bs = arity_ok a && (eqb (length ks) a && ((graded ks || not (eqb (get_or bs 4 0) 4)) && begins (head a ks) bs))
 
 -- with a head of this arity and these kinds
-unfoldable pub parse_as : ℕ → List Bool → List ℕ → Read File
-parse_as a ks bs = elim (head_ok a ks bs) [ true ↦ if_ascending a ks (rows_read (length bs) a (drop (length (head a ks)) bs)) | false ↦ nothing ]
+unfoldable pub parse_as : ℕ → List Bool → List ℕ → Option File
+parse_as a ks bs = elim (head_ok a ks bs) [ true ↦ if_ascending a ks (rows_read (length bs) a (drop (length (head a ks)) bs)) | false ↦ None ]
 
-unfoldable pub parse : List ℕ → Read File
+unfoldable pub parse : List ℕ → Option File
 parse bs = parse_as (get_or bs 3 0) (kinds_read (get_or bs 3 0) bs) bs
 
 -- a table that a file can hold

@@ -1,12 +1,7 @@
 -- `file_bytes::read_number` meets its contract. The loop's invariant: w is the number of the bytes passed.
-use Prim.Native.Nat.{◌-◌, ◌≤◌}
 use mathlib.Core.Path.{◌≡◌}
-use lib.ListN.{drop}
 use Rattle.table_file.specs.Bytes.{number}
 use Rattle.file_bytes.proofs.read_number.Given as goal
 
-abbrev pub invariant-loop-i : goal.invariant-loop-i
-invariant-loop-i l = (l.i ≤ l.n) × (l.w ≡ number l.i (drop l.at l.bytes))
-
-abbrev pub decreases-loop-i : goal.decreases-loop-i
-decreases-loop-i l = l.n - l.i
+abbrev pub invariant-loop-byte : goal.invariant-loop-byte
+invariant-loop-byte l = l.w ≡ number l.byte-index l.byte-items

@@ -1,37 +1,42 @@
 -- `file_check::check` meets its contract.
-use mathlib.Core.Path.{sym, ◌∙◌}
+use Prim.Native.Nat.{ℕ}
+use mathlib.Core.Path.{◌≡◌, sym, ap, ◌∙◌}
 use native.Mathlib.Omega.{arith}
-use borrow.Author.Tests.{not-true, not-false}
-use Rattle.file_check.proofs.Whole.{Begun, begun, not_begun, check_rows, has_rows, check_falls, check_good}
-use mathlib.Core.Path.{ap}
-use mathlib.Core.Bool.{not}
+use lib.ListN.{get_or}
+use Rattle.std.specs.Prelude.{Some}
+use Rattle.table_file.specs.File.{ascending}
+use Rattle.file_check.specs.Checks.{counted, given, rows_from}
+use Rattle.file_check.proofs.Whole.{begun, not_begun, check_rows, has_rows, check_falls, check_good}
 use Rattle.file_check.proofs.check.Goals as goal
-use Rattle.file_check.proofs.check.Goals.{Else-body-eq0}
+use Rattle.file_check.proofs.check.Goals.{In_ok-rows}
 
--- past the first test the head is there
-front : (e : Else-body-eq0) → Begun e.args.bytes.now e.head_len-body.result
-front e = begun e.args.bytes.now e.head_len-body.ensures e.if-body-eq0.false
-
-pub returns-then-body-eq0 : goal.returns-then-body-eq0
-returns-then-body-eq0 c = sym (not_begun c.args.bytes.now (sym c.head_len-body.ensures ∙ c.if-body-eq0.true))
+pub returns-in_err-body : goal.returns-in_err-body
+returns-in_err-body c = c.from_residual.ensures ∙ sym (not_begun c.args.bytes.now c.in_err-body.ensures)
 
 pub bounds-bytes-3 : goal.bounds-bytes-3
-bounds-bytes-3 c = omega (arith, (front (goal.at.bounds-bytes-3 c).Else-body-eq0).long)
+bounds-bytes-3 c = omega (arith, (begun c.args.bytes.now c.in_ok-body.ensures).long)
 
-pub overflow_cast-arity : goal.overflow_cast-arity
-overflow_cast-arity c = omega (arith, c.type_inv.bytes 3)
+pub count_rows-requires : goal.count_rows-requires
+count_rows-requires c = let g = begun c.args.bytes.now c.in_ok-body.ensures in (g.inside, omega (arith, g.some, c.from-arity.ensures), omega (arith, g.few, c.from-arity.ensures))
 
-pub count_rows-c-requires : goal.count_rows-c-requires
-count_rows-c-requires c = let g = front (goal.at.count_rows-c-requires c).Else-body-eq0 in (g.inside, g.some, g.few)
+-- the arity is the head's
+module _ (c : In_ok-rows) where
+  counted_rows : Some c.in_ok-rows.rows ≡ counted (rows_from c.args.bytes.now c.in_ok-body.body (get_or c.args.bytes.now 3 0))
+  counted_rows = c.in_ok-rows.ensures ∙ ap (λ (a : ℕ). counted (rows_from c.args.bytes.now c.in_ok-body.body a)) c.from-arity.ensures
 
-pub returns-then-not-c : goal.returns-then-not-c
-returns-then-not-c c = sym (check_rows c.args.bytes.now (front (goal.at.returns-then-not-c c).Else-body-eq0) c.count_rows-c.ensures (not-true _ c.if-not-c.true))
+pub returns-in_err-rows : goal.returns-in_err-rows
+returns-in_err-rows c =
+    c.from_residual-in_err-rows.ensures ∙ sym (check_rows c.args.bytes.now (begun c.args.bytes.now c.in_ok-body.ensures) (c.in_err-rows.ensures ∙ ap (λ (a : ℕ). counted (rows_from c.args.bytes.now c.in_ok-body.body a)) c.from-arity.ensures))
 
 pub rows_ascend-requires : goal.rows_ascend-requires
-rows_ascend-requires c = has_rows c.args.bytes.now (front (goal.at.rows_ascend-requires c).Else-body-eq0) c.count_rows-c.ensures (not-false _ c.if-not-c.false)
+rows_ascend-requires c = rw c.from-arity.ensures (has_rows c.args.bytes.now (begun c.args.bytes.now c.in_ok-body.ensures) (counted_rows c))
 
-pub returns-then-not-rows_ascend : goal.returns-then-not-rows_ascend
-returns-then-not-rows_ascend c = sym (check_falls c.args.bytes.now (front (goal.at.returns-then-not-rows_ascend c).Else-body-eq0) c.count_rows-c.ensures (not-false _ c.if-not-c.false) (sym c.rows_ascend.ensures ∙ not-true _ (ap not c.if-not-rows_ascend.true)))
+pub returns-then-rows_ascend : goal.returns-then-rows_ascend
+returns-then-rows_ascend c =
+    let rise = ap (λ (a : ℕ). ascending (given (rows_from c.args.bytes.now c.in_ok-body.body a))) (sym c.from-arity.ensures) ∙ sym c.rows_ascend.ensures ∙ c.if-rows_ascend.true in
+    rw c.from-arity.ensures (sym (check_good c.args.bytes.now (begun c.args.bytes.now c.in_ok-body.ensures) (counted_rows (goal.at.returns-then-rows_ascend c).In_ok-rows) rise))
 
-pub returns : goal.returns
-returns c = sym (check_good c.args.bytes.now (front (goal.at.returns c).Else-body-eq0) c.count_rows-c.ensures (not-false _ c.if-not-c.false) (sym c.rows_ascend.ensures ∙ not-false _ (ap not c.if-not-rows_ascend.false)))
+pub returns-else-rows_ascend : goal.returns-else-rows_ascend
+returns-else-rows_ascend c =
+    let fall = ap (λ (a : ℕ). ascending (given (rows_from c.args.bytes.now c.in_ok-body.body a))) (sym c.from-arity.ensures) ∙ sym c.rows_ascend.ensures ∙ c.if-rows_ascend.false in
+    sym (check_falls c.args.bytes.now (begun c.args.bytes.now c.in_ok-body.ensures) (counted_rows (goal.at.returns-else-rows_ascend c).In_ok-rows) fall)

@@ -9,6 +9,7 @@ use Rattle.column_trie.specs.Limits.{max_arity}
 use Rattle.table_file.specs.Bytes.{decode, Bytes}
 use Rattle.table_file.specs.Places.{place}
 use Rattle.file_check.specs.Checks.{given, rows_from}
+use Rattle.file_check.proofs.Compares.{is_before}
 use Rattle.file_check.proofs.Whole.{ascended_none, ascended_next, ascended_falls, ascended_no_rows, ascended_all, row_inside, row_is}
 use borrow.Author.Rules.{rules}
 use Rattle.file_check.proofs.rows_ascend.Goals as goal
@@ -43,9 +44,6 @@ row_long c = search rules
 pub returns-then-n-eq0 : goal.returns-then-n-eq0
 returns-then-n-eq0 c = sym (ascended_no_rows (λ i. omega (arith, c.type_inv.bytes i)) c.requires c.if-n-eq0.true)
 
-pub row_place-first-requires : goal.row_place-first-requires
-row_place-first-requires c = placed (goal.at.row_place-first-requires c).Else-n-eq0 0 (omega (arith, c.if-n-eq0.false))
-
 pub read_row-last-requires : goal.read_row-last-requires
 read_row-last-requires c = seated (goal.at.read_row-last-requires c).Else-n-eq0 0 (omega (arith, c.if-n-eq0.false)) c.row_place-first.result c.row_place-first.ensures
 
@@ -60,22 +58,18 @@ row_place-place-requires c = placed (goal.at.row_place-place-requires c).Else-n-
 pub read_row-row-requires : goal.read_row-row-requires
 read_row-row-requires c = seated (goal.at.read_row-row-requires c).Else-n-eq0 c.loop-i.i c.loop-i-test.true c.row_place-place.result c.row_place-place.ensures
 
-pub row_before-requires : goal.row_before-requires
-row_before-requires c =
-    (omega (arith, c.requires.few, c.loop-i.invariant.1), omega (arith, c.requires.few, row_long (goal.at.row_before-requires c).After-read_row-row))
-
-pub returns-then-not-row_before : goal.returns-then-not-row_before
-returns-then-not-row_before c =
-    let k = (goal.at.returns-then-not-row_before c).Else-n-eq0 in
+pub returns-then-not-rises : goal.returns-then-not-rises
+returns-then-not-rises c =
+    let k = (goal.at.returns-then-not-rises c).Else-n-eq0 in
     let now = there k c.loop-i.i c.loop-i-test.true c.row_place-place.result c.read_row-row.result c.row_place-place.ensures c.read_row-row.ensures in
-    sym (ascended_falls (byte k) c.requires c.loop-i.invariant.0 c.loop-i-test.true c.loop-i.invariant.2 now c.row_before.ensures c.if-not-row_before.true)
+    sym (ascended_falls (byte k) c.requires c.loop-i.invariant.0 c.loop-i-test.true c.loop-i.invariant.2 now (is_before _ _ c.lt-rises.result c.lt-rises.ensures) c.if-not-rises.true)
 
 pub loop-i-preserved : goal.loop-i-preserved
 loop-i-preserved c =
     let k = (goal.at.loop-i-preserved c).Else-n-eq0 in
     let now = there k c.loop-i.i c.loop-i-test.true c.row_place-place.result c.read_row-row.result c.row_place-place.ensures c.read_row-row.ensures in
     let q : c.loop-i.i + 1 - 1 ≡ c.loop-i.i = omega arith in (
-      ascended_next (byte k) c.requires c.loop-i.invariant.0 c.loop-i-test.true c.loop-i.invariant.2 now c.row_before.ensures c.if-not-row_before.false,
+      ascended_next (byte k) c.requires c.loop-i.invariant.0 c.loop-i-test.true c.loop-i.invariant.2 now (is_before _ _ c.lt-rises.result c.lt-rises.ensures) c.if-not-rises.false,
       row_long (goal.at.loop-i-preserved c).After-read_row-row,
       now ∙ ap (λ (n : ℕ). get_or (rows k) n []) (sym q),
     )

@@ -10,6 +10,3 @@ use Rattle.file_check.proofs.rows_ascend.Given as goal
 
 abbrev pub invariant-loop-i : goal.invariant-loop-i
 invariant-loop-i l = Ascended (given (rows_from l.bytes l.at l.arity)) l.i × (length l.last ≡ max_arity) × (take l.arity l.last ≡ get_or (given (rows_from l.bytes l.at l.arity)) (l.i - 1) [])
-
-abbrev pub decreases-loop-i : goal.decreases-loop-i
-decreases-loop-i l = l.n - l.i

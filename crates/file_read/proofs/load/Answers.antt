@@ -109,9 +109,6 @@ append_row-requires-in-loop-i c =
     let k = (goal.at.append_row-requires-in-loop-i c).After-common_prefix_len-d in
     can_push (row_read k) (next k)
 
-pub overflow_add-i : goal.overflow_add-i
-overflow_add-i c = omega (arith, c.loop-i-test.true, c.requires.many, c.requires.fill.room, c.requires.fill.small)
-
 pub loop-i-preserved : goal.loop-i-preserved
 loop-i-preserved c =
     let k = (goal.at.loop-i-preserved c).After-common_prefix_len-d in

@@ -1,4 +1,4 @@
--- `file_read::load` meets its contract. The loop's invariant: the table holds the first i rows, and the last of them is kept. The measure is the rows left.
+-- `file_read::load` meets its contract. The loop's invariant: the table holds the first i rows, and the last of them is kept.
 use Prim.Native.Nat.{◌-◌}
 use mathlib.Core.Path.{◌≡◌}
 use mathlib.Core.List.{[]}
@@ -11,6 +11,3 @@ use Rattle.file_read.proofs.load.Given as goal
 
 abbrev pub invariant-loop-i : goal.invariant-loop-i
 invariant-loop-i l = Filled l.t (rows_found (parse l.bytes)) l.initial.pool l.pool l.lengths.data l.lengths.intervals l.i × (length l.last ≡ max_arity) × (take l.t.arity l.last ≡ get_or (rows_found (parse l.bytes)) (l.i - 1) [])
-
-abbrev pub decreases-loop-i : goal.decreases-loop-i
-decreases-loop-i l = l.n - l.i

@@ -1,21 +1,16 @@
 -- The goals of `read_kinds` that the check leaves.
-use Prim.Native.Nat.{ℕ, ◌+◌}
-use mathlib.Core.Path.{◌≡◌, refl, ap, ◌∙◌}
+use Prim.Native.Nat.{◌+◌}
+use mathlib.Core.Path.{ap, ◌∙◌}
 use mathlib.Core.Bool.{Bool}
 use mathlib.Core.List.{List}
 use native.Mathlib.Omega.{arith}
 use lib.ListN.{get_or, set}
 use lib.Dec.{eqb}
-use Rattle.from_sorted.specs.Answer.{kept_kinds}
-use Rattle.table_file.specs.File.{kinds_read}
 use Rattle.file_read.proofs.Grades.{kept_none, kept_more}
 use Rattle.file_read.proofs.read_kinds.Goals as goal
 
 pub returns-then-bytes-ne4 : goal.returns-then-bytes-ne4
 returns-then-bytes-ne4 c = kept_none c.args.arity c.args.bytes.now c.requires.few c.if-bytes-ne4.true
-
-pub loop-d-init : goal.loop-d-init
-loop-d-init c = (omega arith, refl)
 
 pub bounds-bytes-d : goal.bounds-bytes-d
 bounds-bytes-d c = omega (arith, c.requires.there c.if-bytes-ne4.false, c.loop-d-test.true)
@@ -27,11 +22,4 @@ pub loop-d-preserved : goal.loop-d-preserved
 loop-d-preserved c =
     let l = c.loop-d in
     let t = c.if-bytes-ne4.false in
-    let h = c.loop-d-test.true in
-    (omega arith, ap (λ (g : List Bool). set g l.d (eqb (get_or c.args.bytes.now (7 + l.d) 0) 1)) l.invariant.1 ∙ kept_more c.args.arity c.args.bytes.now l.d c.requires.few t (c.requires.there t) h)
-
-pub returns : goal.returns
-returns c =
-    let l = c.loop-d in
-    let e : l.d ≡ c.args.arity = omega arith in
-    l.invariant.1 ∙ ap (λ (n : ℕ). kept_kinds n (kinds_read c.args.arity c.args.bytes.now)) e
+    ap (λ (g : List Bool). set g l.d (eqb (get_or c.args.bytes.now (7 + l.d) 0) 1)) l.invariant ∙ kept_more c.args.arity c.args.bytes.now l.d c.requires.few t (c.requires.there t) c.loop-d-test.true

@@ -1,5 +1,5 @@
 -- The goals of `put_fields` that the check leaves.
-use Prim.Native.Nat.{ℕ, ◌+◌, ◌*◌, ◌-◌, ◌<◌, ◌≤◌}
+use Prim.Native.Nat.{ℕ, ◌+◌, ◌*◌, ◌-◌, ◌<◌, ◌≤◌, min}
 use mathlib.Core.Path.{◌≡◌, sym, ap, ◌∙◌, subst}
 use native.Mathlib.Omega.{arith}
 use lib.ListN.{length, take, drop}
@@ -9,11 +9,11 @@ use Rattle.column_trie.proofs.Damage.{undamaged_told}
 use Rattle.table_file.specs.File.{per_field, rows_field}
 use Rattle.table_file.proofs.Fields.{per_some}
 use Rattle.row_path.proofs.Keys.{start_path}
-use Rattle.file_rows.specs.Rows.{ahead, Putting, RowsPut}
+use Rattle.file_rows.specs.Rows.{Putting, RowsPut}
 use Rattle.file_rows.proofs.Fields.{FieldsLaid, no_fields, fields_kept, fields_end, next_some, next_there, next_room, next_few, next_asked, next_laid}
 use borrow.Author.Rules.{rules}
 use Rattle.file_rows.proofs.put_fields.Goals as goal
-use Rattle.file_rows.proofs.put_fields.Goals.{After-next_rows-n, Start}
+use Rattle.file_rows.proofs.put_fields.Goals.{After-min-n, Start}
 
 whole : (s : Start) → Whole s.args.t
 whole s = record { data_long = search rules; interval_long = search rules }
@@ -22,7 +22,7 @@ sound : (s : Start) → Undamaged s.args.pool.now s.args.t
 sound s = undamaged_told s.args.pool.now s.args.t s.requires.0
 
 -- in a turn of the loop: the next field's rows, by the full field that the code computed
-module _ (k : After-next_rows-n) where
+module _ (k : After-min-n) where
   whole_here : Whole k.args.t
   whole_here = record { data_long = search rules; interval_long = search rules }
 
@@ -30,15 +30,15 @@ module _ (k : After-next_rows-n) where
   some = let u = undamaged_told k.args.pool.now k.args.t k.requires.0 in per_some k.args.t.arity u.arity.0 u.arity.1
 
   abbrev rows : ℕ
-  rows = ahead (k.args.t.tuple_count - k.loop-i.i) (per_field k.args.t.arity)
+  rows = min (per_field k.args.t.arity) (k.args.t.tuple_count - k.loop-i.i)
 
-  rows_are : k.next_rows-n.result ≡ rows
-  rows_are = k.next_rows-n.ensures ∙ ap (ahead (k.args.t.tuple_count - k.loop-i.i)) k.per_field-full.ensures.0
+  rows_are : k.min-n.result ≡ rows
+  rows_are = k.min-n.ensures ∙ ap (λ (m : ℕ). min m (k.args.t.tuple_count - k.loop-i.i)) k.per_field-full.ensures.0
 
-  within : k.loop-i.p + 3 + 8 * (k.next_rows-n.result * k.args.t.arity) ≤ length k.args.bytes.now
+  within : k.loop-i.p + 3 + 8 * (k.min-n.result * k.args.t.arity) ≤ length k.args.bytes.now
   within = subst (λ (n : ℕ). k.loop-i.p + 3 + 8 * (n * k.args.t.arity) ≤ length k.args.bytes.now) (sym rows_are) (next_room whole_here k.requires.0 k.loop-i.invariant k.loop-i-test.true some k.requires.1)
 
-  few : 8 * (k.next_rows-n.result * k.args.t.arity) ≤ 65535
+  few : 8 * (k.min-n.result * k.args.t.arity) ≤ 65535
   few = subst (λ (n : ℕ). 8 * (n * k.args.t.arity) ≤ 65535) (sym rows_are) (next_few whole_here k.requires.0 k.loop-i.invariant k.loop-i-test.true some)
 
 pub per_field-full-requires : goal.per_field-full-requires
@@ -49,34 +49,34 @@ loop-i-init c = no_fields c.args.bytes.now c.args.at (start_path (whole (goal.at
 
 pub put_rows_field-requires : goal.put_rows_field-requires
 put_rows_field-requires c =
-    let k = (goal.at.put_rows_field-requires c).After-next_rows-n in
+    let k = (goal.at.put_rows_field-requires c).After-min-n in
     (subst (λ (n : ℕ). Putting c.args.pool.now c.args.t c.loop-i.path c.loop-i.i n (c.loop-i.p + 3) (length c.loop-i.bytes)) (sym (rows_are k)) (next_asked (whole_here k) c.requires.0 c.loop-i.invariant c.loop-i-test.true (some k) c.requires.1), few k)
 
 pub overflow_mul-p : goal.overflow_mul-p
-overflow_mul-p c = omega (arith, few (goal.at.overflow_mul-p c).After-next_rows-n, within (goal.at.overflow_mul-p c).After-next_rows-n, c.well_formed)
+overflow_mul-p c = omega (arith, few (goal.at.overflow_mul-p c).After-min-n, within (goal.at.overflow_mul-p c).After-min-n, c.well_formed)
 
 pub overflow_mul-p-in-loop-i : goal.overflow_mul-p-in-loop-i
-overflow_mul-p-in-loop-i c = omega (arith, few (goal.at.overflow_mul-p-in-loop-i c).After-next_rows-n, within (goal.at.overflow_mul-p-in-loop-i c).After-next_rows-n, c.well_formed)
+overflow_mul-p-in-loop-i c = omega (arith, few (goal.at.overflow_mul-p-in-loop-i c).After-min-n, within (goal.at.overflow_mul-p-in-loop-i c).After-min-n, c.well_formed)
 
 pub overflow_add-p : goal.overflow_add-p
-overflow_add-p c = omega (arith, few (goal.at.overflow_add-p c).After-next_rows-n, within (goal.at.overflow_add-p c).After-next_rows-n, c.well_formed)
+overflow_add-p c = omega (arith, few (goal.at.overflow_add-p c).After-min-n, within (goal.at.overflow_add-p c).After-min-n, c.well_formed)
 
 pub overflow_add-p-in-loop-i : goal.overflow_add-p-in-loop-i
-overflow_add-p-in-loop-i c = omega (arith, few (goal.at.overflow_add-p-in-loop-i c).After-next_rows-n, within (goal.at.overflow_add-p-in-loop-i c).After-next_rows-n, c.well_formed)
+overflow_add-p-in-loop-i c = omega (arith, few (goal.at.overflow_add-p-in-loop-i c).After-min-n, within (goal.at.overflow_add-p-in-loop-i c).After-min-n, c.well_formed)
 
 pub overflow_add-i : goal.overflow_add-i
 overflow_add-i c =
-    let k = (goal.at.overflow_add-i c).After-next_rows-n in
+    let k = (goal.at.overflow_add-i c).After-min-n in
     omega (arith, rows_are k, next_there (whole_here k) c.requires.0 c.loop-i.invariant c.loop-i-test.true (some k), c.well_formed)
 
 pub loop-i-smaller : goal.loop-i-smaller
 loop-i-smaller c =
-    let k = (goal.at.loop-i-smaller c).After-next_rows-n in
+    let k = (goal.at.loop-i-smaller c).After-min-n in
     omega (arith, rows_are k, next_some (whole_here k) c.requires.0 c.loop-i.invariant c.loop-i-test.true (some k), c.loop-i-test.true)
 
 pub loop-i-preserved : goal.loop-i-preserved
 loop-i-preserved c =
-    let k = (goal.at.loop-i-preserved c).After-next_rows-n in
+    let k = (goal.at.loop-i-preserved c).After-min-n in
     let q = c.put_rows_field in
     subst (λ (n : ℕ). RowsPut c.args.pool.now c.args.t (c.loop-i.i + n - 1) c.loop-i.bytes c.loop-i.p (rows_field (take n (drop c.loop-i.i (rows_in c.args.pool.now c.args.t)))) q.new.bytes q.new.path → FieldsLaid c.args.pool.now c.args.t c.args.bytes.now c.args.at q.new.bytes q.new.path (c.loop-i.p + (3 + 8 * (n * c.args.t.arity))) (c.loop-i.i + n))
     (sym (rows_are k)) (next_laid (whole_here k) c.requires.0 c.loop-i.invariant c.loop-i-test.true (some k)) q.ensures

@@ -45,13 +45,13 @@ key : (l : At-loop-d) (d : ℕ) → d < l.args.t.arity → KeyAt l.args.pool.now
 key l d h = key_on (whole l) (sound l) l.next_path.ensures (counted l) d h
 
 kept : (l : At-loop-d) → length l.loop-d.bytes ≡ length l.args.bytes.now
-kept l = ap length l.loop-d.invariant.1 ∙ lay_length l.args.bytes.now l.args.at (encode (take l.loop-d.d (get_or (rows_in l.args.pool.now l.args.t) l.args.i [])))
+kept l = ap length l.loop-d.invariant ∙ lay_length l.args.bytes.now l.args.at (encode (take l.loop-d.d (get_or (rows_in l.args.pool.now l.args.t) l.args.i [])))
 
 pub next_path-requires : goal.next_path-requires
 next_path-requires c = (c.requires.sound, omega (arith, c.requires.there), c.requires.before)
 
 pub loop-d-init : goal.loop-d-init
-loop-d-init c = (omega arith, no_words c.args.bytes.now c.args.at (get_or (rows_in c.args.pool.now c.args.t) c.args.i []))
+loop-d-init c = no_words c.args.bytes.now c.args.at (get_or (rows_in c.args.pool.now c.args.t) c.args.i [])
 
 pub layer_at-requires : goal.layer_at-requires
 layer_at-requires c =
@@ -108,18 +108,6 @@ put_word-requires c =
     let h = c.loop-d-test.true in
     omega (arith, h, room l, kept l)
 
-pub overflow_add-d : goal.overflow_add-d
-overflow_add-d c =
-    let l = (goal.at.overflow_add-d c).At-loop-d in
-    let h = c.loop-d-test.true in
-    let f = fits l c.loop-d.d h in
-    omega (arith, f.depth)
-
-pub loop-d-smaller : goal.loop-d-smaller
-loop-d-smaller c =
-    let l = (goal.at.loop-d-smaller c).At-loop-d in
-    omega arith
-
 pub loop-d-preserved : goal.loop-d-preserved
 loop-d-preserved c =
     let l = (goal.at.loop-d-preserved c).At-loop-d in
@@ -128,8 +116,8 @@ loop-d-preserved c =
     let row = get_or (rows_in c.args.pool.now c.args.t) c.args.i [] in
     let here = get_or c.next_path.new.path d 0 in
     let w : get_or c.args.pool.now (c.layer_at.result + here) 0 ≡ get_or row d 0 = ap (λ (n : ℕ). get_or c.args.pool.now (n + here) 0) c.layer_at.ensures ∙ (key l d h).word in
-    let p : Laid c.args.bytes.now c.args.at (encode (take d row)) c.loop-d.bytes (c.args.at + 8 * d) = record { is = c.loop-d.invariant.1; ends = omega (arith, words_long row d (omega (arith, long l))) } in
-    (omega arith, laid_more p (bytes_of 8 (get_or row d 0)) (c.put_word.ensures ∙ ap (λ (n : ℕ). lay c.loop-d.bytes (c.args.at + 8 * d) (bytes_of 8 n)) w) (word_more row d (omega (arith, long l))))
+    let p : Laid c.args.bytes.now c.args.at (encode (take d row)) c.loop-d.bytes (c.args.at + 8 * d) = record { is = c.loop-d.invariant; ends = omega (arith, words_long row d (omega (arith, long l))) } in
+    laid_more p (bytes_of 8 (get_or row d 0)) (c.put_word.ensures ∙ ap (λ (n : ℕ). lay c.loop-d.bytes (c.args.at + 8 * d) (bytes_of 8 n)) w) (word_more row d (omega (arith, long l)))
 
 pub shape_of-bytes : goal.shape_of-bytes
 shape_of-bytes c = kept (goal.at.shape_of-bytes c).At-loop-d
@@ -137,4 +125,4 @@ shape_of-bytes c = kept (goal.at.shape_of-bytes c).At-loop-d
 pub returns : goal.returns
 returns c =
     let row = get_or (rows_in c.args.pool.now c.args.t) c.args.i [] in
-    record { laid = c.loop-d.invariant.1 ∙ ap (λ (r : List ℕ). lay c.args.bytes.now c.args.at (encode r)) (take_all c.loop-d.d row (omega (arith, long (goal.at.returns c).At-loop-d, c.loop-d-test.false))); on = c.next_path.ensures }
+    record { laid = c.loop-d.invariant ∙ ap (λ (r : List ℕ). lay c.args.bytes.now c.args.at (encode r)) (take_all c.loop-d.d row (omega (arith, long (goal.at.returns c).At-loop-d, c.loop-d-test.false))); on = c.next_path.ensures }

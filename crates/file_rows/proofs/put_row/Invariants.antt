@@ -1,5 +1,4 @@
 -- `file_rows::put_row` meets its contract: word after word is laid, each the key on the path.
-use Prim.Native.Nat.{◌-◌, ◌≤◌}
 use mathlib.Core.Path.{◌≡◌}
 use mathlib.Core.List.{[]}
 use lib.ListN.{take, get_or}
@@ -9,7 +8,4 @@ use Rattle.table_file.specs.Bytes.{encode}
 use Rattle.file_rows.proofs.put_row.Given as goal
 
 abbrev pub invariant-loop-d : goal.invariant-loop-d
-invariant-loop-d l = (l.d ≤ l.t.arity) × (l.bytes ≡ lay l.initial.bytes l.at (encode (take l.d (get_or (rows_in l.pool l.t) l.i []))))
-
-abbrev pub decreases-loop-d : goal.decreases-loop-d
-decreases-loop-d l = l.t.arity - l.d
+invariant-loop-d l = l.bytes ≡ lay l.initial.bytes l.at (encode (take l.d (get_or (rows_in l.pool l.t) l.i [])))

@@ -24,12 +24,6 @@ overflow_mul-p c = omega (arith, row_ends (whole (goal.at.overflow_mul-p c).Star
 pub overflow_add-p : goal.overflow_add-p
 overflow_add-p c = omega (arith, row_ends (whole (goal.at.overflow_add-p c).Start) c.loop-k.invariant c.requires c.loop-k-test.true, c.well_formed)
 
-pub overflow_add-k : goal.overflow_add-k
-overflow_add-k c = omega (arith, c.loop-k-test.true, c.well_formed)
-
-pub loop-k-smaller : goal.loop-k-smaller
-loop-k-smaller c = omega (arith, c.loop-k-test.true)
-
 pub loop-k-preserved : goal.loop-k-preserved
 loop-k-preserved c = one_laid (whole (goal.at.loop-k-preserved c).Start) c.loop-k.invariant c.requires c.loop-k-test.true c.put_row.ensures
 

@@ -1,10 +1,6 @@
 -- `file_rows::put_rows` meets its contract: row after row (Tables.antt).
-use Prim.Native.Nat.{◌-◌}
 use Rattle.file_rows.proofs.Tables.{RowsLaid}
 use Rattle.file_rows.proofs.put_rows.Given as goal
 
 abbrev pub invariant-loop-k : goal.invariant-loop-k
 invariant-loop-k l = RowsLaid l.pool l.t l.initial.bytes l.at l.i l.n l.bytes l.path l.p l.k
-
-abbrev pub decreases-loop-k : goal.decreases-loop-k
-decreases-loop-k l = l.n - l.k

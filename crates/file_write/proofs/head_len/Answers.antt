@@ -13,5 +13,5 @@ long s = search rules
 pub returns-then-some_grade : goal.returns-then-some_grade
 returns-then-some_grade c = (sym (graded_long c.args.t c.requires (long (goal.at.returns-then-some_grade c).Start) (sym c.some_grade.ensures ∙ c.if-some_grade.true)), omega (arith, c.requires))
 
-pub returns : goal.returns
-returns c = (sym (plain_long c.args.t c.requires (long (goal.at.returns c).Start) (sym c.some_grade.ensures ∙ c.if-some_grade.false)), omega arith)
+pub returns-else-some_grade : goal.returns-else-some_grade
+returns-else-some_grade c = (sym (plain_long c.args.t c.requires (long (goal.at.returns-else-some_grade c).Start) (sym c.some_grade.ensures ∙ c.if-some_grade.false)), omega arith)

@@ -1,13 +1,11 @@
 -- The goals of `put_kinds` that the check leaves.
-use Prim.Native.Nat.{ℕ}
 use mathlib.Core.Path.{◌≡◌, ap, ◌∙◌}
 use mathlib.Core.List.{map}
 use native.Mathlib.Omega.{arith}
 use lib.ListN.{length, take}
-use Rattle.column_trie.specs.Pool.{lay}
 use Rattle.column_trie.proofs.Pool.{lay_length}
 use Rattle.table_file.specs.File.{kind_byte}
-use Rattle.file_write.proofs.Heads.{no_kinds, kind_more}
+use Rattle.file_write.proofs.Heads.{no_kinds, kind_more, byte_of}
 use borrow.Author.Rules.{rules}
 use Rattle.file_write.proofs.put_kinds.Goals as goal
 use Rattle.file_write.proofs.put_kinds.Goals.{At-loop-d}
@@ -16,10 +14,10 @@ long : (l : At-loop-d) → length l.args.t.grade ≡ 8
 long l = search rules
 
 kept : (l : At-loop-d) → length l.loop-d.bytes ≡ length l.args.bytes.now
-kept l = ap length l.loop-d.invariant.1 ∙ lay_length l.args.bytes.now l.args.at (map kind_byte (take l.loop-d.d l.args.t.grade))
+kept l = ap length l.loop-d.invariant ∙ lay_length l.args.bytes.now l.args.at (map kind_byte (take l.loop-d.d l.args.t.grade))
 
 pub loop-d-init : goal.loop-d-init
-loop-d-init c = (omega arith, no_kinds c.args.bytes.now c.args.at c.args.t.grade)
+loop-d-init c = no_kinds c.args.bytes.now c.args.at c.args.t.grade
 
 pub bounds-t-d : goal.bounds-t-d
 bounds-t-d c = omega (arith, c.loop-d-test.true, c.requires.0)
@@ -30,18 +28,9 @@ overflow_add-bytes c = omega (arith, c.loop-d-test.true, c.requires.1, c.well_fo
 pub bounds-bytes-at : goal.bounds-bytes-at
 bounds-bytes-at c = omega (arith, c.loop-d-test.true, c.requires.1, kept (goal.at.bounds-bytes-at c).At-loop-d)
 
-pub overflow_add-d : goal.overflow_add-d
-overflow_add-d c = omega (arith, c.loop-d-test.true, c.requires.0)
-
-pub loop-d-smaller : goal.loop-d-smaller
-loop-d-smaller c = omega (arith, c.loop-d-test.true)
-
 pub loop-d-preserved : goal.loop-d-preserved
 loop-d-preserved c =
-    (omega (arith, c.loop-d-test.true), kind_more c.args.bytes.now c.args.at c.args.t.grade c.loop-d.d (omega (arith, long (goal.at.loop-d-preserved c).At-loop-d, c.loop-d-test.true, c.requires.0)) c.loop-d.invariant.1 c.kind_byte-kind.ensures)
+    kind_more c.args.bytes.now c.args.at c.args.t.grade c.loop-d.d (omega (arith, long (goal.at.loop-d-preserved c).At-loop-d, c.loop-d-test.true, c.requires.0)) c.loop-d.invariant (c.from.ensures ∙ byte_of _)
 
 pub shape_of-bytes : goal.shape_of-bytes
 shape_of-bytes c = kept (goal.at.shape_of-bytes c).At-loop-d
-
-pub returns : goal.returns
-returns c = c.loop-d.invariant.1 ∙ ap (λ (n : ℕ). lay c.args.bytes.now c.args.at (map kind_byte (take n c.args.t.grade))) (let e : c.loop-d.d ≡ c.args.t.arity = omega (arith, c.loop-d.invariant.0, c.loop-d-test.false) in e)

@@ -1,5 +1,4 @@
 -- `file_write::put_kinds` meets its contract: byte after byte is laid.
-use Prim.Native.Nat.{◌-◌, ◌≤◌}
 use mathlib.Core.Path.{◌≡◌}
 use mathlib.Core.List.{map}
 use lib.ListN.{take}
@@ -8,7 +7,4 @@ use Rattle.table_file.specs.File.{kind_byte}
 use Rattle.file_write.proofs.put_kinds.Given as goal
 
 abbrev pub invariant-loop-d : goal.invariant-loop-d
-invariant-loop-d l = (l.d ≤ l.t.arity) × (l.bytes ≡ lay l.initial.bytes l.at (map kind_byte (take l.d l.t.grade)))
-
-abbrev pub decreases-loop-d : goal.decreases-loop-d
-decreases-loop-d l = l.t.arity - l.d
+invariant-loop-d l = l.bytes ≡ lay l.initial.bytes l.at (map kind_byte (take l.d l.t.grade))
