@@ -11,7 +11,8 @@ use lib.Seq.{get_or-set_same, get_or-set_other}
 use borrow.Author.Tests.{eq-eqb, ne_eqb}
 use Rattle.query.specs.Limits.{max_atoms}
 use Rattle.two_runs.specs.Runs.{run_of}
-use Rattle.stretches.specs.Stand.{State, state, Stand, stand_of, Sized}
+use Rattle.stretches.specs.Stand.{state, Stand, stand_of, Sized}
+use Rattle.stretches.specs.declared.State.{State}
 use Rattle.stretches.specs.Pause.{placed, Began, Taken, Takes, some, none}
 use Rattle.stretches.proofs.Taking.{placed_stand}
 use Rattle.stretches.proofs.Carrying.{placed_other}

@@ -26,7 +26,8 @@ use Rattle.two_runs.specs.declared.Runs.{Runs}
 use Rattle.two_runs.specs.declared.Stretch.{Stretch}
 use Rattle.two_runs.proofs.Two.{none_left, order_run, stays_inside, stays_run}
 use Rattle.two_runs.proofs.Stretches.{part_split, second_least}
-use Rattle.stretches.specs.Stand.{State, Stand, stand_of, rest_of, tail_of, whole_of, Behind, Tailed, Sized, school_left, Laid}
+use Rattle.stretches.specs.Stand.{Stand, stand_of, rest_of, tail_of, whole_of, Behind, Tailed, Sized, school_left, Laid}
+use Rattle.stretches.specs.declared.State.{State}
 use Rattle.stretches.specs.Pause.{runs_from, placed, Began, Taken, Takes, some, none}
 
 -- ---- the numbers of an atom that is put

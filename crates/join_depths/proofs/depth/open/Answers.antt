@@ -1,6 +1,7 @@
 -- `depth::open` meets its contract: one without keys refuses, or the leapfrog begins on the keys under the atoms' words.
 use native.Mathlib.Omega.{arith}
-use Rattle.stretches.specs.Stand.{State, state}
+use Rattle.stretches.specs.Stand.{state}
+use Rattle.stretches.specs.declared.State.{State}
 use Rattle.join_openings.specs.Openings.{Openable}
 use Rattle.join_openings.proofs.Openings.{all_true, all_false}
 use Rattle.join_depths.proofs.Depths.{openable}
