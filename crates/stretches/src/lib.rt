@@ -27,6 +27,7 @@ use seek::SeekStrategy;
 use two_runs::{Runs, first_stretch, led, seek_both};
 
 // Where the atoms of a join stand, by atom (specs/Stand.antt).
+#[derive(Drop)]
 pub struct State {
     // where the atom stands in its piece of the pool, and the piece's end
     pub at: [usize; MAX_ATOMS],
