@@ -71,9 +71,9 @@ pub fn take_stretch(
     }
     let g = first_stretch(pool, s, strategy);
     state.at[a] = g.x;
-    state.end[a] = g.m;
-    state.own[a] = g.own;
-    state.left[a] = g.f - g.y;
+    state.end[a] = g.rest.x;
+    state.own[a] = g.rest.own;
+    state.left[a] = g.rest.f - g.rest.y;
     true
 }
 

@@ -38,13 +38,7 @@ pub fn seek_both(pool: &[u64], r: Runs, target: u64, strategy: SeekStrategy) -> 
 {
     let x = seek_run(pool, r.x, r.e, target, strategy);
     let y = seek_run(pool, r.y, r.f, target, strategy);
-    Runs {
-        x,
-        e: r.e,
-        y,
-        f: r.f,
-        own: r.own,
-    }
+    Runs { x, y, ..r }
 }
 
 // The two runs in the other sequence.
@@ -112,15 +106,11 @@ fn past(pool: &[u64], y: usize, f: usize, k: u64) -> usize
     y
 }
 
-// A stretch of the run that lies in one piece of the pool, from x to m. Behind it the run goes on with what is left from m to e and from y to f.
+// A stretch of the run that lies in one piece of the pool, from x on. It ends where what the run goes on with, `rest`, begins.
 #[derive(Clone, Copy)]
 pub struct Stretch {
     pub x: usize,
-    pub m: usize,
-    pub e: usize,
-    pub y: usize,
-    pub f: usize,
-    pub own: usize,
+    pub rest: Runs,
 }
 
 // The first stretch: the keys of the first run that are before the second's. A key that both have is passed in the second.
@@ -131,22 +121,10 @@ pub fn first_stretch(pool: &[u64], s: Runs, strategy: SeekStrategy) -> Stretch
     let x = s.x;
     let y = past(pool, s.y, s.f, pool[x]);
     if y == s.f {
-        return Stretch {
-            x,
-            m: s.e,
-            e: s.e,
-            y,
-            f: s.f,
-            own: s.own,
-        };
+        let rest = Runs { x: s.e, y, ..s };
+        return Stretch { x, rest };
     }
     let m = seek_run(pool, x, s.e, pool[y], strategy);
-    Stretch {
-        x,
-        m,
-        e: s.e,
-        y,
-        f: s.f,
-        own: s.own,
-    }
+    let rest = Runs { x: m, y, ..s };
+    Stretch { x, rest }
 }
