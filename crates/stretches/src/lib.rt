@@ -103,7 +103,7 @@ pub fn refill(
     take_stretch(pool, state, ends, a, s.x, s.y, o, strategy)
 }
 
-// What the run at place p is to reach: the key of the place before it, the greatest. Where p is the only place, any key will do.
+// What the run at place p is to reach: the key of the place before it, the greatest. Where p is the only place, any key will do; 0 passes none.
 fn goal(
     pool: &[u64],
     at: &[usize; MAX_ATOMS],

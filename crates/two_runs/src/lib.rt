@@ -4,6 +4,9 @@
 //
 // The run from x to e comes first, the other goes from y to f. `own` says whose the first is: 0 the school's, 1 the maker's. It is kept, never read off a
 // place: one table may be laid over itself. Where both have a key, the school's is the one that counts.
+//
+// `own` is a number and no enum since it is counted with: a run ends at ends[2 * a + own] and the other at ends[2 * a + 1 - own], and the plan has the opening
+// of the owner's table at base + TABLE_WORDS * own. An enum would be turned into this number at each of them.
 #![tactic(auto)]
 
 ghost use Rattle.std.specs.Prelude.{◌≡◌, ◌+◌, ◌≤◌, ◌<◌, length, get_or};

@@ -41,9 +41,6 @@ whole_init-requires c =
     let p = all_true o.ensures c.if-not-open_all.false in
     record { whole_ready = begin_ready (arrays (goal.at.whole_init-requires c).Start) c.requires.depth_lt_n.0 c.requires.standing p; ascends = begin_ascends (arrays (goal.at.whole_init-requires c).Start) c.requires.depth_lt_n.0 c.requires.standing p }
 
-pub since-requires : goal.since-requires
-since-requires c = tt
-
 pub returns : goal.returns
 returns c =
     let o = c.open_all in
