@@ -13,7 +13,8 @@ use Rattle.leapfrog_search.specs.declared.Landed.{Landed}
 use Rattle.leapfrog_search.specs.declared.Landed.TheVariants.{Key, Nothing}
 use Rattle.leapfrog_search.specs.declared.Searched.{Searched}
 use Rattle.leapfrog_search.proofs.Runs.{seek_from}
-use Rattle.stretches.specs.Stand.{State, wholes_in}
+use Rattle.stretches.specs.Stand.{wholes_in}
+use Rattle.stretches.specs.declared.State.{State}
 use Rattle.stretches.specs.Whole.{WholeAgreed, WholeRan}
 use Rattle.stretches.proofs.Laws.{whole_agreeing}
 use Rattle.join_query.specs.Query.{max_variables}

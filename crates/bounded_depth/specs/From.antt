@@ -5,7 +5,8 @@ use Rattle.relation.specs.Runs.{from}
 use Rattle.leapfrog_search.specs.Ring.{SameAtoms}
 use Rattle.leapfrog_search.specs.Leapfrog.{left_of}
 use Rattle.leapfrog_search.specs.declared.Landed.{Landed}
-use Rattle.stretches.specs.Stand.{State, wholes_in}
+use Rattle.stretches.specs.Stand.{wholes_in}
+use Rattle.stretches.specs.declared.State.{State}
 use Rattle.join_query.specs.declared.Query.{Query}
 use Rattle.join_query.specs.declared.Tables.{Tables}
 use Rattle.join_openings.specs.Openings.{count_at}

@@ -3,7 +3,6 @@
 #![tactic(auto)]
 
 ghost use Rattle.std.specs.Prelude.{◌<◌};
-ghost use Rattle.stretches.specs.Stand.{state};
 ghost use Rattle.join_depths.specs.Depth.{Standing, Fresh};
 ghost use Rattle.bounded_depth.specs.From.{DepthFrom};
 
@@ -12,6 +11,7 @@ use join_plan::{COUNT, DEPTH_WORDS, ENDS, PLAN_WORDS};
 use leapfrog_search::Landed;
 use query::MAX_ATOMS;
 use seek::SeekStrategy;
+use stretches::State;
 use whole_seek::whole_seek;
 
 // Opens a depth and finds its first key not below `target`.
@@ -22,28 +22,23 @@ pub fn open_from(
     ends: &[usize; ENDS],
     n: usize,
     depth: usize,
-    at: &mut [usize; MAX_ATOMS],
-    end: &mut [usize; MAX_ATOMS],
-    own: &mut [usize; MAX_ATOMS],
-    left: &mut [usize; MAX_ATOMS],
+    state: &mut State,
     ring: &mut [usize; MAX_ATOMS],
     by_atom: &mut [usize; MAX_ATOMS],
     target: u64,
 ) -> Landed
-    requires standing { Standing pool.now plan.now ends.now n depth at.old own.old }
-    requires depth_lt_n { (depth < n) × Fresh (state at.old end.old own.old left.old) ends.now ring.old by_atom.old }
-    ensures { DepthFrom pool.now plan.now ends.now n depth at.old own.old (state at.new end.new own.new left.new) ring.new by_atom.new target result }
+    requires standing { Standing pool.now plan.now ends.now n depth state.old.at state.old.own }
+    requires depth_lt_n { (depth < n) × Fresh state.old ends.now ring.old by_atom.old }
+    ensures { DepthFrom pool.now plan.now ends.now n depth state.old.at state.old.own state.new ring.new by_atom.new target result }
 {
     let first = open(
-        strategy, pool, plan, ends, n, depth, at, end, own, left, ring, by_atom, 0,
+        strategy, pool, plan, ends, n, depth, state, ring, by_atom, 0,
     );
     let landed = first.landed;
     let Landed::Key { key: _, p: _ } = landed else {
         return landed;
     };
     let k = plan[DEPTH_WORDS * depth + COUNT];
-    let s = whole_seek(
-        pool, at, end, own, left, ends, by_atom, k, 0, target, strategy,
-    );
+    let s = whole_seek(pool, state, ends, by_atom, k, 0, target, strategy);
     s.landed
 }

@@ -30,7 +30,8 @@ use Rattle.leapfrog_search.specs.declared.Landed.TheVariants.{Key, Nothing}
 use Rattle.leapfrog_join.proofs.Laws.{agreed_key}
 use Rattle.ring_sort.specs.Sorted.{key_at}
 use Rattle.leapfrog_search.specs.declared.Searched.{Searched}
-use Rattle.stretches.specs.Stand.{State, wholes_in}
+use Rattle.stretches.specs.Stand.{wholes_in}
+use Rattle.stretches.specs.declared.State.{State}
 use Rattle.stretches.specs.Whole.{WholeAgreed}
 use Rattle.join_query.specs.Query.{order_of, atoms_of}
 use Rattle.join_window.specs.Window.{written}

@@ -25,7 +25,8 @@ use Rattle.leapfrog_search.specs.Leapfrog.{left_of}
 use Rattle.leapfrog_search.specs.declared.Landed.{Landed}
 use Rattle.leapfrog_search.specs.declared.Landed.TheVariants.{Key, Nothing}
 use Rattle.leapfrog_join.proofs.Laws.{agreed_key}
-use Rattle.stretches.specs.Stand.{State, wholes_in}
+use Rattle.stretches.specs.Stand.{wholes_in}
+use Rattle.stretches.specs.declared.State.{State}
 use Rattle.stretches.specs.Whole.{WholeAgreed}
 use Rattle.join_query.specs.Query.{max_variables, atom_at, order_of, vars_of, atoms_of}
 use Rattle.join_plan.specs.Plan as plans

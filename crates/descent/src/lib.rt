@@ -16,6 +16,7 @@ use join_window::emit_lent;
 use leapfrog_search::Landed;
 use query::MAX_ATOMS;
 use seek::SeekStrategy;
+use stretches::State;
 
 // How many rows the window holds, whether more exist than fit, and the number of seeks that the leapfrogs have made.
 #[derive(Clone, Copy)]
@@ -71,10 +72,12 @@ pub fn descend(
     }
     let v = plan[DEPTH_WORDS * depth];
     let k = plan[DEPTH_WORDS * depth + COUNT];
-    let mut at = above;
-    let mut end = [0usize; MAX_ATOMS];
-    let mut own = owned;
-    let mut left = [0usize; MAX_ATOMS];
+    let mut state = State {
+        at: above,
+        end: [0; MAX_ATOMS],
+        own: owned,
+        left: [0; MAX_ATOMS],
+    };
     let mut ring = [0usize; MAX_ATOMS];
     let mut by_atom = [0usize; MAX_ATOMS];
     let first = open(
@@ -84,10 +87,7 @@ pub fn descend(
         ends,
         n,
         depth,
-        &mut at,
-        &mut end,
-        &mut own,
-        &mut left,
+        &mut state,
         &mut ring,
         &mut by_atom,
         before,
@@ -116,8 +116,8 @@ pub fn descend(
                 ends,
                 n,
                 depth + 1,
-                at,
-                own,
+                state.at,
+                state.own,
                 row,
                 rows,
                 seeks,
@@ -136,10 +136,7 @@ pub fn descend(
             strategy,
             pool,
             ends,
-            &mut at,
-            &mut end,
-            &mut own,
-            &mut left,
+            &mut state,
             &ring,
             &by_atom,
             k,

@@ -16,6 +16,7 @@ use leapfrog_search::Landed;
 use query::MAX_ATOMS;
 use rest_of_depth::walk_rest;
 use seek::SeekStrategy;
+use stretches::State;
 
 // Writes the rows that complete `found`, from depth `depth` on, and come after the given row's words there, which `bounds` has, behind the first `from`, until the window is full. With
 // no depth left that is the given row itself, which is not written.
@@ -46,10 +47,12 @@ pub fn descend_after(
     let v = plan[DEPTH_WORDS * depth];
     let k = plan[DEPTH_WORDS * depth + COUNT];
     let bound = bounds[v];
-    let mut at = above;
-    let mut end = [0usize; MAX_ATOMS];
-    let mut own = owned;
-    let mut left = [0usize; MAX_ATOMS];
+    let mut state = State {
+        at: above,
+        end: [0; MAX_ATOMS],
+        own: owned,
+        left: [0; MAX_ATOMS],
+    };
     let mut ring = [0usize; MAX_ATOMS];
     let mut by_atom = [0usize; MAX_ATOMS];
     let landed = open_from(
@@ -59,10 +62,7 @@ pub fn descend_after(
         ends,
         n,
         depth,
-        &mut at,
-        &mut end,
-        &mut own,
-        &mut left,
+        &mut state,
         &mut ring,
         &mut by_atom,
         bound,
@@ -75,8 +75,7 @@ pub fn descend_after(
     };
     if key != bound {
         return walk_rest(
-            strategy, pool, plan, ends, n, depth, at, end, own, left, ring, by_atom, landed, found,
-            window, from,
+            strategy, pool, plan, ends, n, depth, state, ring, by_atom, landed, found, window, from,
         );
     }
     let mut row = found;
@@ -88,8 +87,8 @@ pub fn descend_after(
         ends,
         n,
         depth + 1,
-        at,
-        own,
+        state.at,
+        state.own,
         row,
         bounds,
         window,
@@ -102,10 +101,7 @@ pub fn descend_after(
         strategy,
         pool,
         ends,
-        &mut at,
-        &mut end,
-        &mut own,
-        &mut left,
+        &mut state,
         &ring,
         &by_atom,
         k,
@@ -116,7 +112,6 @@ pub fn descend_after(
     let then = next.landed;
     let rows = below.rows;
     walk_rest(
-        strategy, pool, plan, ends, n, depth, at, end, own, left, ring, by_atom, then, found,
-        window, rows,
+        strategy, pool, plan, ends, n, depth, state, ring, by_atom, then, found, window, rows,
     )
 }

@@ -20,7 +20,8 @@ use Rattle.leapfrog.proofs.Begin.{init_none}
 use Rattle.leapfrog_search.specs.declared.Landed.{Landed}
 use Rattle.leapfrog_search.specs.declared.Landed.TheVariants.{Key, Nothing}
 use Rattle.leapfrog_search.specs.declared.Searched.{Searched}
-use Rattle.stretches.specs.Stand.{State, Stand, stand_of, wholes_in}
+use Rattle.stretches.specs.Stand.{Stand, stand_of, wholes_in}
+use Rattle.stretches.specs.declared.State.{State}
 use Rattle.stretches.specs.Whole.{WholeReady, Forward, Carried, WholeBegun}
 use Rattle.join_query.specs.Query.{atom_table, order_of, atoms_of}
 use Rattle.join_query.specs.declared.Query.{Query}

@@ -19,7 +19,8 @@ use Rattle.column_trie.specs.Table.{rows_in, Undamaged}
 use Rattle.column_trie.specs.declared.ColumnTrie.{ColumnTrie}
 use Rattle.leapfrog_search.specs.Leapfrog.{part}
 use Rattle.leapfrog_search.proofs.Parts.{part_cons}
-use Rattle.stretches.specs.Stand.{State, Stand, stand_of, Laid}
+use Rattle.stretches.specs.Stand.{Stand, stand_of, Laid}
+use Rattle.stretches.specs.declared.State.{State}
 use Rattle.stretches.specs.Whole.{WholeAgreed}
 use Rattle.stretches.proofs.Owning.{makers_alone}
 use Rattle.join_query.specs.Query.{atom_at, atom_table}

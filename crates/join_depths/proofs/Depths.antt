@@ -19,7 +19,8 @@ use Rattle.query.proofs.Holders.{holders_some}
 use Rattle.query.specs.Limits.{max_atoms}
 use Rattle.leapfrog_search.specs.Leapfrog.{OnKey}
 use Rattle.leapfrog_join.proofs.Laws.{order_apart}
-use Rattle.stretches.specs.Stand.{State, Stand, stand_of, whole_of, wholes_in, Tailed}
+use Rattle.stretches.specs.Stand.{Stand, stand_of, whole_of, wholes_in, Tailed}
+use Rattle.stretches.specs.declared.State.{State}
 use Rattle.stretches.specs.Whole.{WholeReady}
 use Rattle.join_query.specs.Query.{atom_at, order_of, atoms_of, rows_at}
 use Rattle.join_query.specs.declared.Query.{Query}

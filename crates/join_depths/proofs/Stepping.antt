@@ -19,7 +19,8 @@ use Rattle.leapfrog_search.specs.declared.Searched.{Searched}
 use Rattle.leapfrog_join.proofs.Laws.{same_back}
 use Rattle.leapfrog.specs.Search.{Went, next_of}
 use Rattle.leapfrog.specs.Walk.{capped}
-use Rattle.stretches.specs.Stand.{State, stand_of, whole_of, wholes_in}
+use Rattle.stretches.specs.Stand.{stand_of, whole_of, wholes_in}
+use Rattle.stretches.specs.declared.State.{State}
 use Rattle.stretches.specs.Whole.{WholeReady, WholeAgreed, Carried, WholeRan, WholeBegun}
 use Rattle.join_depths.specs.Depth.{AgreedAt, AtKey, Steps, Answers, Leapt, since_of, Onward}
 use Rattle.join_depths.proofs.Wholes.{WholeLeft, whole_ready, whole_here, same_wholes, same_whole_agreed, same_carried, whole_next_left, sorted_same, whole_begun_left}

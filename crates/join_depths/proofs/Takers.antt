@@ -24,7 +24,8 @@ use Rattle.ring_sort.proofs.Lists.{ascends_split}
 use Rattle.leapfrog_search.specs.Leapfrog.{part, OnKey}
 use Rattle.two_runs.specs.Runs.{run_of, Inside}
 use Rattle.two_runs.specs.declared.Runs as two
-use Rattle.stretches.specs.Stand.{State, Stand, stand_of, whole_of, Tailed}
+use Rattle.stretches.specs.Stand.{Stand, stand_of, whole_of, Tailed}
+use Rattle.stretches.specs.declared.State.{State}
 use Rattle.stretches.specs.Pause.{Began}
 use Rattle.stretches.proofs.Owning.{last_whole, last_tailed}
 use Rattle.join_query.specs.Query.{atom_at, table_at, atom_table, atom_maker, rows_at}

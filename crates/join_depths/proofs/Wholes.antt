@@ -25,7 +25,8 @@ use Rattle.leapfrog_search.proofs.Parts.{part_cons}
 use Rattle.leapfrog_search.proofs.Runs.{enough}
 use Rattle.leapfrog_join.proofs.Laws.{agreed_here, same_ready, same_agreed}
 use Rattle.leapfrog_join.proofs.Beginning.{some_none_not, sorted_runs_lem, front, begun_same, begun_ordered}
-use Rattle.stretches.specs.Stand.{State, stand_of, tail_of, whole_of, wholes_in}
+use Rattle.stretches.specs.Stand.{stand_of, tail_of, whole_of, wholes_in}
+use Rattle.stretches.specs.declared.State.{State}
 use Rattle.stretches.specs.Whole.{WholeReady, WholeAgreed, Carried, AgreedOn, WholeRan, WholeBegun}
 use Rattle.stretches.proofs.Pausing.{wholes_many, whole_at, ready_held}
 use Rattle.stretches.proofs.Laws.{wholes_runs, whole_cut, whole_ring, whole_agreeing}

@@ -28,7 +28,8 @@ use Rattle.leapfrog_search.specs.Leapfrog.{left_of, answered}
 use Rattle.leapfrog_search.specs.declared.Landed.{Landed}
 use Rattle.leapfrog_search.specs.declared.Landed.TheVariants.{Key, Nothing}
 use Rattle.leapfrog_search.specs.declared.Searched.{Searched}
-use Rattle.stretches.specs.Stand.{State, Stand, stand_of, wholes_in, Laid}
+use Rattle.stretches.specs.Stand.{Stand, stand_of, wholes_in, Laid}
+use Rattle.stretches.specs.declared.State.{State}
 use Rattle.stretches.specs.Whole.{WholeAgreed, Carried}
 use Rattle.join_query.specs.Query.{atom_table, atom_maker, Accepted, atom_at, order_of, vars_of, atoms_of}
 use Rattle.join_query.specs.declared.Query.{Query}

@@ -1,10 +1,8 @@
 // Internal: the opening of a depth, and the step to its next key, with the seeks added up.
-ghost use Rattle.std.specs.Prelude.{◌≡◌, ◌+◌, ◌<◌, get_or};
+ghost use Rattle.std.specs.Prelude.{◌≡◌, ◌<◌, get_or};
 ghost use Rattle.relation.specs.Order.{pick};
-ghost use Rattle.leapfrog.specs.Walk.{capped};
 ghost use Rattle.ring_sort.specs.Sorted.{key_at};
 ghost use Rattle.leapfrog_search.specs.Ring.{SameAtoms};
-ghost use Rattle.stretches.specs.Stand.{state};
 ghost use Rattle.stretches.specs.Whole.{WholeAgreed};
 ghost use Rattle.join_depths.specs.Depth.{Standing, Fresh, Opening, Onward, since_of};
 
@@ -13,24 +11,14 @@ use join_plan::{COUNT, DEPTH_WORDS, ENDS, PLAN_WORDS};
 use leapfrog_search::{Landed, Searched};
 use query::MAX_ATOMS;
 use seek::SeekStrategy;
-use stretches::{whole_init, whole_next};
+use stretches::{State, whole_init, whole_next};
 
-// The sum; 2^64 - 1 stands for that and all above.
-fn added(a: u64, b: u64) -> u64
-    ensures { result ≡ capped (a + b) }
-{
-    if b <= 18446744073709551615 - a {
-        return a + b;
-    }
-    18446744073709551615
-}
-
-// A call's answer, its seeks added to those before.
+// A call's answer, its seeks added to those before; 2^64 - 1 stands for that and all above.
 fn since(before: u64, s: Searched) -> Searched
     ensures { result ≡ since_of before s }
 {
     let landed = s.landed;
-    let seeks = added(s.seeks, before);
+    let seeks = before.saturating_add(s.seeks);
     Searched { landed, seeks }
 }
 
@@ -43,31 +31,23 @@ pub fn open(
     ends: &[usize; ENDS],
     n: usize,
     depth: usize,
-    at: &mut [usize; MAX_ATOMS],
-    end: &mut [usize; MAX_ATOMS],
-    own: &mut [usize; MAX_ATOMS],
-    left: &mut [usize; MAX_ATOMS],
+    state: &mut State,
     ring: &mut [usize; MAX_ATOMS],
     by_atom: &mut [usize; MAX_ATOMS],
     seeks: u64,
 ) -> Searched
-    requires standing { Standing pool.now plan.now ends.now n depth at.old own.old }
-    requires depth_lt_n { (depth < n) × Fresh (state at.old end.old own.old left.old) ends.now ring.old by_atom.old }
-    ensures { Opening pool.now plan.now ends.now n depth at.old own.old (state at.new end.new own.new left.new) ring.new by_atom.new seeks result }
+    requires standing { Standing pool.now plan.now ends.now n depth state.old.at state.old.own }
+    requires depth_lt_n { (depth < n) × Fresh state.old ends.now ring.old by_atom.old }
+    ensures { Opening pool.now plan.now ends.now n depth state.old.at state.old.own state.new ring.new by_atom.new seeks result }
 {
-    if !open_all(
-        pool, plan, depth, at, end, own, left, ends, ring, by_atom, strategy,
-    ) {
+    if !open_all(pool, plan, depth, state, ends, ring, by_atom, strategy) {
         return Searched {
             landed: Landed::Nothing { p: 0 },
             seeks,
         };
     }
     let k = plan[DEPTH_WORDS * depth + COUNT];
-    since(
-        seeks,
-        whole_init(pool, at, end, own, left, ends, ring, k, strategy),
-    )
+    since(seeks, whole_init(pool, state, ends, ring, k, strategy))
 }
 
 // The ring itself, or the one in atom order.
@@ -89,10 +69,7 @@ pub fn onward<'a>(
     strategy: SeekStrategy,
     pool: &[u64],
     ends: &[usize; ENDS],
-    at: &mut [usize; MAX_ATOMS],
-    end: &mut [usize; MAX_ATOMS],
-    own: &mut [usize; MAX_ATOMS],
-    left: &mut [usize; MAX_ATOMS],
+    state: &mut State,
     ring: &'a [usize; MAX_ATOMS],
     by_atom: &'a [usize; MAX_ATOMS],
     k: usize,
@@ -100,14 +77,14 @@ pub fn onward<'a>(
     last: bool,
     seeks: u64,
 ) -> Searched
-    requires whole_agreed { WholeAgreed pool.now (state at.old end.old own.old left.old) ends.now by_atom.now k (key_at pool.now at.old (get_or by_atom.now 0 0)) p }
+    requires whole_agreed { WholeAgreed pool.now state.old ends.now by_atom.now k (key_at pool.now state.old.at (get_or by_atom.now 0 0)) p }
     requires same_atoms { SameAtoms by_atom.now ring.now k }
-    ensures { Onward pool.now ends.now ring.now by_atom.now k p last (state at.old end.old own.old left.old) (state at.new end.new own.new left.new) seeks result }
+    ensures { Onward pool.now ends.now ring.now by_atom.now k p last state.old state.new seeks result }
 {
     let turn = chosen(last, ring, by_atom);
     let start = if last { p } else { 0 };
     since(
         seeks,
-        whole_next(pool, at, end, own, left, ends, turn, k, start, strategy),
+        whole_next(pool, state, ends, turn, k, start, strategy),
     )
 }

@@ -11,7 +11,8 @@ use lib.Seq.{get_or-set_same, get_or-set_other}
 use borrow.Author.Tests.{eq-eqb, ne_eqb}
 use Rattle.query.specs.Limits.{max_atoms}
 use Rattle.two_runs.specs.Runs.{run_of}
-use Rattle.stretches.specs.Stand.{State, state, Stand, stand_of, Sized}
+use Rattle.stretches.specs.Stand.{Stand, stand_of, Sized}
+use Rattle.stretches.specs.declared.State.{State}
 use Rattle.stretches.specs.Pause.{placed, Began, Taken, Takes, some, none}
 use Rattle.stretches.proofs.Taking.{placed_stand}
 use Rattle.stretches.proofs.Carrying.{placed_other}
@@ -65,34 +66,34 @@ module _ (pool plan : List ℕ) {ends : List ℕ} (base : ℕ) {z₀ : State} (s
   take_opens (none n y) = without (subst (λ (y : Bool). Without y pool plan ends base (stand_of z₀ ends a₁)) (sym twice) n)
 
 -- in one: at the start of its group
-module _ (pool plan : List ℕ) {ends : List ℕ} (base : ℕ) {at end own left : List ℕ} (sized : Sized (state at end own left) ends) (b : atom_of plan base < max_atoms) (e : get_or plan (base + makers_word) 0 ≡ 1 → ⊥) where
+module _ (pool plan : List ℕ) {ends : List ℕ} (base : ℕ) {z₀ : State} (sized : Sized z₀ ends) (b : atom_of plan base < max_atoms) (e : get_or plan (base + makers_word) 0 ≡ 1 → ⊥) where
   abbrev a₂ : ℕ
   a₂ = atom_of plan base
 
   once : both_at plan base ≡ false
   once = ne_eqb (get_or plan (base + makers_word) 0) 1 e
 
-  pub one_without : {z : State} → keys_at plan (table_from base (get_or own (atom_of plan base) 0)) ≡ 0 → OpensOne pool plan ends base (state at end own left) z false
-  one_without n = without (subst (λ (y : Bool). Without y pool plan ends base (stand_of (state at end own left) ends a₂)) (sym once) n)
+  pub one_without : {z : State} → keys_at plan (table_from base (get_or z₀.own (atom_of plan base) 0)) ≡ 0 → OpensOne pool plan ends base z₀ z false
+  one_without n = without (subst (λ (y : Bool). Without y pool plan ends base (stand_of z₀ ends a₂)) (sym once) n)
 
-  pub one_opens : {lo hi : ℕ} → get_or left (atom_of plan base) 0 ≡ 0 → (keys_at plan (table_from base (get_or own (atom_of plan base) 0)) ≡ 0 → ⊥) → lo ≡ group_low pool plan (table_from base (get_or own (atom_of plan base) 0)) (get_or at (atom_of plan base) 0) → hi ≡ group_high pool plan (table_from base (get_or own (atom_of plan base) 0)) (get_or at (atom_of plan base) 0) → OpensOne pool plan ends base (state at end own left) (state (set at (atom_of plan base) lo) (set end (atom_of plan base) hi) own left) true
+  pub one_opens : {lo hi : ℕ} → get_or z₀.left (atom_of plan base) 0 ≡ 0 → (keys_at plan (table_from base (get_or z₀.own (atom_of plan base) 0)) ≡ 0 → ⊥) → lo ≡ group_low pool plan (table_from base (get_or z₀.own (atom_of plan base) 0)) (get_or z₀.at (atom_of plan base) 0) → hi ≡ group_high pool plan (table_from base (get_or z₀.own (atom_of plan base) 0)) (get_or z₀.at (atom_of plan base) 0) → OpensOne pool plan ends base z₀ (record { at = set z₀.at (atom_of plan base) lo; end = set z₀.end (atom_of plan base) hi; own = z₀.own; left = z₀.left }) true
   one_opens {lo} {hi} l n p q = opens record {
     sized = record {
-      places = length-set at a₂ lo ∙ sized.places;
-      piece_ends = length-set end a₂ hi ∙ sized.piece_ends;
+      places = length-set z₀.at a₂ lo ∙ sized.places;
+      piece_ends = length-set z₀.end a₂ hi ∙ sized.piece_ends;
       owners = sized.owners;
       lefts = sized.lefts;
       run_ends = sized.run_ends;
     };
-    here = subst (λ (y : Bool). OpenedIn y pool plan ends base (stand_of (state at end own left) ends a₂) (stand_of (state (set at a₂ lo) (set end a₂ hi) own left) ends a₂)) (sym once)
+    here = subst (λ (y : Bool). OpenedIn y pool plan ends base (stand_of z₀ ends a₂) (stand_of (record { at = set z₀.at a₂ lo; end = set z₀.end a₂ hi; own = z₀.own; left = z₀.left }) ends a₂)) (sym once)
         (record {
           nonempty = n;
-          low = get_or-set_same at a₂ lo 0 (omega (arith, b, sized.places)) ∙ p;
-          high = get_or-set_same end a₂ hi 0 (omega (arith, b, sized.piece_ends)) ∙ q;
+          low = get_or-set_same z₀.at a₂ lo 0 (omega (arith, b, sized.places)) ∙ p;
+          high = get_or-set_same z₀.end a₂ hi 0 (omega (arith, b, sized.piece_ends)) ∙ q;
           own = refl;
           last = l;
         });
-    others = λ x n. let i = get_or-set_other at a₂ x lo 0 n in let j = get_or-set_other end a₂ x hi 0 n in λ k. record { at = i k; end = j k; own = get_or own x 0; left = get_or left x 0; mine = get_or ends (2 * x + get_or own x 0) 0; others = get_or ends (2 * x + 1 - get_or own x 0) 0 };
+    others = λ x n. let i = get_or-set_other z₀.at a₂ x lo 0 n in let j = get_or-set_other z₀.end a₂ x hi 0 n in λ k. record { at = i k; end = j k; own = get_or z₀.own x 0; left = get_or z₀.left x 0; mine = get_or ends (2 * x + get_or z₀.own x 0) 0; others = get_or ends (2 * x + 1 - get_or z₀.own x 0) 0 };
   }
 
 -- ---- the atoms of a depth

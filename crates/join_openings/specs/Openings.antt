@@ -6,7 +6,8 @@ use Rattle.std.specs.Prelude.{ℕ, ◌+◌, ◌-◌, ◌*◌, ◌≤◌, ◌<◌
 use Rattle.query.specs.Limits.{max_atoms}
 use Rattle.two_runs.specs.Runs.{run_of, Inside}
 use Rattle.two_runs.specs.declared.Runs as two
-use Rattle.stretches.specs.Stand.{State, Stand, stand_of, whole_of, Tailed, Sized, Laid}
+use Rattle.stretches.specs.Stand.{Stand, stand_of, whole_of, Tailed, Sized, Laid}
+use Rattle.stretches.specs.declared.State.{State}
 use Rattle.stretches.specs.Pause.{runs_from, Began}
 use Rattle.join_query.specs.Query.{max_variables}
 use Rattle.join_plan.specs.Plan.{count_word, above_word, keys_word, key_count_word, intervals_word, interval_count_word, table_words, makers_word, depth_at, opening_at}

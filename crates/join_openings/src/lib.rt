@@ -4,7 +4,7 @@
 #![tactic(auto)]
 
 ghost use Rattle.std.specs.Prelude.{◌≡◌, ◌+◌, ◌≤◌};
-ghost use Rattle.stretches.specs.Stand.{state, stand_of, Sized};
+ghost use Rattle.stretches.specs.Stand.{stand_of, Sized};
 ghost use Rattle.join_plan.specs.Plan.{table_words, opening_words, plan_words};
 ghost use Rattle.join_openings.specs.Openings.{group_low, group_high, atom_of, Readable, OneOpenable, OpensOne, Openable, Arrays, OpenedAll};
 
@@ -15,7 +15,7 @@ use join_plan::{
 };
 use query::MAX_ATOMS;
 use seek::SeekStrategy;
-use stretches::take_stretch;
+use stretches::{State, take_stretch};
 
 // A group of keys, by its places of the pool.
 #[derive(Clone, Copy)]
@@ -47,30 +47,27 @@ fn open_one(
     pool: &[u64],
     plan: &[usize; PLAN_WORDS],
     base: usize,
-    at: &mut [usize; MAX_ATOMS],
-    end: &mut [usize; MAX_ATOMS],
-    own: &mut [usize; MAX_ATOMS],
-    left: &mut [usize; MAX_ATOMS],
+    state: &mut State,
     ends: &[usize; ENDS],
     strategy: SeekStrategy,
 ) -> bool
-    requires opening_words_bound { (base + opening_words ≤ plan_words) × Sized (state at.old end.old own.old left.old) ends.now }
-    requires one_openable { OneOpenable pool.now plan.now ends.now base (stand_of (state at.old end.old own.old left.old) ends.now (atom_of plan.now base)) }
-    ensures { OpensOne pool.now plan.now ends.now base (state at.old end.old own.old left.old) (state at.new end.new own.new left.new) result }
+    requires opening_words_bound { (base + opening_words ≤ plan_words) × Sized state.old ends.now }
+    requires one_openable { OneOpenable pool.now plan.now ends.now base (stand_of state.old ends.now (atom_of plan.now base)) }
+    ensures { OpensOne pool.now plan.now ends.now base state.old state.new result }
 {
     let a = plan[base];
     if plan[base + MAKERS] == 1 {
         let x = plan[base + KEYS];
         let y = plan[base + MAKERS + KEYS];
-        return take_stretch(pool, at, end, own, left, ends, a, x, y, 0, strategy);
+        return take_stretch(pool, state, ends, a, x, y, 0, strategy);
     }
-    let from = base + TABLE_WORDS * own[a];
+    let from = base + TABLE_WORDS * state.own[a];
     if plan[from + KEY_COUNT] == 0 {
         return false;
     }
-    let g = group_under(pool, plan, from, at[a]);
-    at[a] = g.lo;
-    end[a] = g.hi;
+    let g = group_under(pool, plan, from, state.at[a]);
+    state.at[a] = g.lo;
+    state.end[a] = g.hi;
     true
 }
 
@@ -79,31 +76,26 @@ pub fn open_all(
     pool: &[u64],
     plan: &[usize; PLAN_WORDS],
     depth: usize,
-    at: &mut [usize; MAX_ATOMS],
-    end: &mut [usize; MAX_ATOMS],
-    own: &mut [usize; MAX_ATOMS],
-    left: &mut [usize; MAX_ATOMS],
+    state: &mut State,
     ends: &[usize; ENDS],
     ring: &mut [usize; MAX_ATOMS],
     by_atom: &mut [usize; MAX_ATOMS],
     strategy: SeekStrategy,
 ) -> bool
-    requires openable { Openable pool.now plan.now ends.now depth (state at.old end.old own.old left.old) }
-    requires arrays { Arrays (state at.old end.old own.old left.old) ends.now ring.old by_atom.old }
-    ensures { OpenedAll pool.now plan.now ends.now depth (state at.old end.old own.old left.old) (state at.new end.new own.new left.new) ring.new by_atom.new result }
+    requires openable { Openable pool.now plan.now ends.now depth state.old }
+    requires arrays { Arrays state.old ends.now ring.old by_atom.old }
+    ensures { OpenedAll pool.now plan.now ends.now depth state.old state.new ring.new by_atom.new result }
 {
     let count = plan[DEPTH_WORDS * depth + COUNT];
     let first = DEPTH_WORDS * depth + OPENINGS;
-    let mut j = 0;
-    while j < count {
+    for j in 0..count {
         let base = first + OPENING_WORDS * j;
-        if !open_one(pool, plan, base, at, end, own, left, ends, strategy) {
+        if !open_one(pool, plan, base, state, ends, strategy) {
             return false;
         }
         let a = plan[base];
         ring[j] = a;
         by_atom[j] = a;
-        j += 1;
     }
     true
 }

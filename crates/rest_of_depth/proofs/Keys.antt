@@ -16,7 +16,7 @@ use Rattle.query.proofs.Solved.{joinable_bind}
 use Rattle.query.proofs.Under.{standings_bind, standings_runs}
 use Rattle.leapfrog_search.specs.declared.Landed.{Landed}
 use Rattle.leapfrog_search.specs.declared.Landed.TheVariants.{Key, Nothing}
-use Rattle.stretches.specs.Stand.{State}
+use Rattle.stretches.specs.declared.State.{State}
 use Rattle.stretches.specs.Whole.{WholeAgreed}
 use Rattle.join_query.specs.Query.{order_of, atoms_of}
 use Rattle.join_query.specs.declared.Query.{Query}

@@ -18,7 +18,7 @@ use Rattle.leapfrog_search.specs.Ring.{SameAtoms}
 use Rattle.leapfrog_search.specs.declared.Landed.{Landed}
 use Rattle.leapfrog_search.specs.declared.Landed.TheVariants.{Key, Nothing}
 use Rattle.leapfrog_join.proofs.Laws.{agreed_key}
-use Rattle.stretches.specs.Stand.{State}
+use Rattle.stretches.specs.declared.State.{State}
 use Rattle.stretches.specs.Whole.{WholeAgreed}
 use Rattle.join_query.specs.Query.{max_variables, order_of, atoms_of}
 use Rattle.join_query.specs.declared.Query.{Query}

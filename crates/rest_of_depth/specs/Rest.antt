@@ -10,7 +10,8 @@ use Rattle.query.specs.Descend.{standings}
 use Rattle.leapfrog_search.specs.Ring.{SameAtoms}
 use Rattle.leapfrog_search.specs.Leapfrog.{left_of}
 use Rattle.leapfrog_search.specs.declared.Landed.{Landed}
-use Rattle.stretches.specs.Stand.{State, wholes_in}
+use Rattle.stretches.specs.Stand.{wholes_in}
+use Rattle.stretches.specs.declared.State.{State}
 use Rattle.join_query.specs.Query.{order_of, atoms_of}
 use Rattle.join_query.specs.declared.Query.{Query}
 use Rattle.join_query.specs.declared.Tables.{Tables}

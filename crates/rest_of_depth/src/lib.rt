@@ -3,7 +3,6 @@
 #![tactic(auto)]
 
 ghost use Rattle.std.specs.Prelude.{length};
-ghost use Rattle.stretches.specs.Stand.{state};
 ghost use Rattle.join_window.specs.Window.{Fits};
 ghost use Rattle.rest_of_depth.specs.Rest.{Underway, Walks};
 
@@ -15,6 +14,7 @@ use join_window::Written;
 use leapfrog_search::Landed;
 use query::MAX_ATOMS;
 use seek::SeekStrategy;
+use stretches::State;
 
 // Writes the rows under the key on which the depth's leapfrog stands as `start`, and under the keys that follow, behind the first `from`, until the window is full.
 pub fn walk_rest(
@@ -24,10 +24,7 @@ pub fn walk_rest(
     ends: &[usize; ENDS],
     n: usize,
     depth: usize,
-    places: [usize; MAX_ATOMS],
-    piece_ends: [usize; MAX_ATOMS],
-    owners: [usize; MAX_ATOMS],
-    lefts: [usize; MAX_ATOMS],
+    opened: State,
     ring: [usize; MAX_ATOMS],
     by_atom: [usize; MAX_ATOMS],
     start: Landed,
@@ -35,16 +32,13 @@ pub fn walk_rest(
     window: &mut [u64],
     from: usize,
 ) -> Written
-    requires underway { Underway pool.now plan.now ends.now n depth (state places piece_ends owners lefts) ring by_atom start }
+    requires underway { Underway pool.now plan.now ends.now n depth opened ring by_atom start }
     requires fits { Fits n (length window.old) from }
-    ensures { Walks pool.now plan.now ends.now n depth (state places piece_ends owners lefts) by_atom start found window.old from window.new result.rows result.full }
+    ensures { Walks pool.now plan.now ends.now n depth opened by_atom start found window.old from window.new result.rows result.full }
 {
     let v = plan[DEPTH_WORDS * depth];
     let k = plan[DEPTH_WORDS * depth + COUNT];
-    let mut at = places;
-    let mut end = piece_ends;
-    let mut own = owners;
-    let mut left = lefts;
+    let mut state = opened;
     let mut landed = start;
     let mut rows = from;
     loop {
@@ -61,8 +55,8 @@ pub fn walk_rest(
             ends,
             n,
             depth + 1,
-            at,
-            own,
+            state.at,
+            state.own,
             row,
             rows,
             0,
@@ -78,10 +72,7 @@ pub fn walk_rest(
             strategy,
             pool,
             ends,
-            &mut at,
-            &mut end,
-            &mut own,
-            &mut left,
+            &mut state,
             &ring,
             &by_atom,
             k,

@@ -17,7 +17,8 @@ use Rattle.leapfrog_search.proofs.Parts.{part_cons}
 use Rattle.leapfrog_join.proofs.Laws.{agreed_agreeing, same_ready}
 use Rattle.leapfrog_join.proofs.Beginning.{some_none_not, sorted_runs_lem, front, begun_same, begun_ordered, begun_runs}
 use Rattle.pieces.proofs.Longer.{Extends, next_extends, more_none}
-use Rattle.stretches.specs.Stand.{State, stand_of, tail_of, whole_of, wholes_in}
+use Rattle.stretches.specs.Stand.{stand_of, tail_of, whole_of, wholes_in}
+use Rattle.stretches.specs.declared.State.{State}
 use Rattle.stretches.specs.Whole.{WholeReady, WholeAgreed, WholeRan, WholeBegun}
 use Rattle.stretches.specs.Pause.{Paused, resumed_of}
 use Rattle.stretches.proofs.Pieces.{enough, in_ring}

@@ -15,7 +15,8 @@ use Rattle.relation.specs.Lists.{◌∈◌, Ascends}
 use Rattle.overlay.proofs.Stretch.{split}
 use Rattle.leapfrog_search.specs.Leapfrog.{part, Moved}
 use Rattle.two_runs.proofs.Stretches.{part_split}
-use Rattle.stretches.specs.Stand.{State, Stand, stand_of, tail_of, whole_of, Tailed, Sized, school_left, Laid}
+use Rattle.stretches.specs.Stand.{Stand, stand_of, tail_of, whole_of, Tailed, Sized, school_left, Laid}
+use Rattle.stretches.specs.declared.State.{State}
 use Rattle.stretches.specs.Whole.{Forward, Carried}
 use Rattle.stretches.specs.Pause.{placed, emptied, Held}
 

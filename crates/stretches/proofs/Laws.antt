@@ -19,7 +19,8 @@ use Rattle.leapfrog_search.specs.declared.Landed.TheVariants.{Key}
 use Rattle.leapfrog_search.proofs.Parts.{part_cons}
 use Rattle.leapfrog_search.proofs.Runs.{atom_place}
 use Rattle.leapfrog_search.proofs.Defined.{round_same}
-use Rattle.stretches.specs.Stand.{State, stand_of, tail_of, whole_of, wholes_in}
+use Rattle.stretches.specs.Stand.{stand_of, tail_of, whole_of, wholes_in}
+use Rattle.stretches.specs.declared.State.{State}
 use Rattle.stretches.specs.Whole.{WholeReady, WholeAgreed}
 use Rattle.stretches.specs.Pause.{Held}
 use Rattle.stretches.proofs.Pieces.{enough, in_ring}

@@ -36,7 +36,8 @@ use Rattle.pieces.specs.Halted.{goal_at, Halted}
 use Rattle.pieces.proofs.Zip.{zipped, zipped_total, zipped_map}
 use Rattle.pieces.proofs.Longer.{Extends, ring_extends, go_out, go_some, more_more}
 use Rattle.two_runs.specs.Runs as two
-use Rattle.stretches.specs.Stand.{State, Stand, stand_of, rest_of, tail_of, whole_of, wholes_in, Sized, Laid}
+use Rattle.stretches.specs.Stand.{Stand, stand_of, rest_of, tail_of, whole_of, wholes_in, Sized, Laid}
+use Rattle.stretches.specs.declared.State.{State}
 use Rattle.stretches.specs.Whole.{WholeReady, Carried, WholeRan}
 use Rattle.stretches.specs.Pause.{emptied, Taken, Takes, some, none, Held, Stops, Paused, resumed_of, Lookable, Settled}
 use Rattle.stretches.proofs.Pieces.{enough, in_ring, many, halted_in, halted_gone, other_key, other_first, map_many, map_at, map_one}

@@ -26,7 +26,8 @@ use Rattle.two_runs.specs.declared.Runs.{Runs}
 use Rattle.two_runs.specs.declared.Stretch.{Stretch}
 use Rattle.two_runs.proofs.Two.{none_left, order_run, stays_inside, stays_run}
 use Rattle.two_runs.proofs.Stretches.{part_split, second_least}
-use Rattle.stretches.specs.Stand.{State, Stand, stand_of, rest_of, tail_of, whole_of, Behind, Tailed, Sized, school_left, Laid}
+use Rattle.stretches.specs.Stand.{Stand, stand_of, rest_of, tail_of, whole_of, Behind, Tailed, Sized, school_left, Laid}
+use Rattle.stretches.specs.declared.State.{State}
 use Rattle.stretches.specs.Pause.{runs_from, placed, Began, Taken, Takes, some, none}
 
 -- ---- the numbers of an atom that is put
@@ -40,33 +41,33 @@ placed_stand {s} {ends} z a x m o l h =
 
 -- where the two runs stand in s, put on the stretch g
 abbrev put : Runs → Stretch → Stand
-put s g = record { at = g.x; end = g.m; own = g.own; left = g.f - g.y; mine = s.e; others = s.f }
+put s g = record { at = g.x; end = g.rest.x; own = g.rest.own; left = g.rest.f - g.rest.y; mine = s.e; others = s.f }
 
 module _ {pool : List ℕ} {s : Runs} (l : Led pool s) {g : Stretch} (t : Stretched pool s g) where
-  behind_at : s.f - (g.f - g.y) ≡ g.y
+  behind_at : s.f - (g.rest.f - g.rest.y) ≡ g.rest.y
   behind_at = omega (arith, t.end₂, t.reached₂.within)
 
-  put_tail : tail_of pool (put s g) ≡ merge (part pool g.m g.e) (part pool g.y g.f)
+  put_tail : tail_of pool (put s g) ≡ merge (part pool g.rest.x g.rest.e) (part pool g.rest.y g.rest.f)
   unfolding merge
-  put_tail = go (ℕ_discrete (g.f - g.y) 0)
+  put_tail = go (ℕ_discrete (g.rest.f - g.rest.y) 0)
     where
-      go : Dec (g.f - g.y ≡ 0) → tail_of pool (put s g) ≡ merge (part pool g.m g.e) (part pool g.y g.f)
+      go : Dec (g.rest.f - g.rest.y ≡ 0) → tail_of pool (put s g) ≡ merge (part pool g.rest.x g.rest.e) (part pool g.rest.y g.rest.f)
       go (yes e) =
-          let q : g.y ≡ g.f = omega (arith, t.end₂, t.reached₂.within) in
-          ap (λ (b : Bool). pick b [] (run_of pool (rest_of (put s g)))) (eq-eqb (g.f - g.y) 0 e)
-          ∙ sym (ap₂ {C = List ℕ} merge (part_none pool g.m g.e (t.last q)) (part_none pool g.y g.f q))
+          let q : g.rest.y ≡ g.rest.f = omega (arith, t.end₂, t.reached₂.within) in
+          ap (λ (b : Bool). pick b [] (run_of pool (rest_of (put s g)))) (eq-eqb (g.rest.f - g.rest.y) 0 e)
+          ∙ sym (ap₂ {C = List ℕ} merge (part_none pool g.rest.x g.rest.e (t.last q)) (part_none pool g.rest.y g.rest.f q))
       go (no n) =
-          ap (λ (b : Bool). pick b [] (run_of pool (rest_of (put s g)))) (ne_eqb (g.f - g.y) 0 n)
-          ∙ ap₂ {C = List ℕ} merge (ap (part pool g.m) (sym t.end)) (ap₂ {C = List ℕ} (part pool) behind_at (sym t.end₂))
+          ap (λ (b : Bool). pick b [] (run_of pool (rest_of (put s g)))) (ne_eqb (g.rest.f - g.rest.y) 0 n)
+          ∙ ap₂ {C = List ℕ} merge (ap (part pool g.rest.x) (sym t.end)) (ap₂ {C = List ℕ} (part pool) behind_at (sym t.end₂))
 
   put_whole : whole_of pool (put s g) ≡ run_of pool s
-  put_whole = ap (λ (r : List ℕ). part pool g.x g.m ++ r) put_tail ∙ sym t.run
+  put_whole = ap (λ (r : List ℕ). part pool g.x g.rest.x ++ r) put_tail ∙ sym t.run
 
-  within : g.m ≤ s.e
+  within : g.rest.x ≤ s.e
   within = omega (arith, t.within, t.end)
 
-  parts : part pool s.x s.e ≡ part pool s.x g.m ++ part pool g.m s.e
-  parts = part_split pool s.x g.m s.e (let q : s.x ≤ g.m = omega (arith, t.start, t.some) in q) within
+  parts : part pool s.x s.e ≡ part pool s.x g.rest.x ++ part pool g.rest.x s.e
+  parts = part_split pool s.x g.rest.x s.e (let q : s.x ≤ g.rest.x = omega (arith, t.start, t.some) in q) within
 
   put_tailed : Tailed pool (put s g)
   put_tailed = record {
@@ -75,7 +76,7 @@ module _ {pool : List ℕ} {s : Runs} (l : Led pool s) {g : Stretch} (t : Stretc
       inside = record {
         low = within;
         high = l.inside.high;
-        ascends = (split (part pool s.x g.m) (subst (Ascends ◌<◌) parts l.inside.ascends)).1;
+        ascends = (split (part pool s.x g.rest.x) (subst (Ascends ◌<◌) parts l.inside.ascends)).1;
         low₂ = omega arith;
         high₂ = l.inside.high₂;
         ascends₂ = rw (behind_at, t.reached₂.rest) (from_ascends (get_or pool s.x 0 + 1) l.inside.ascends₂);
@@ -85,19 +86,19 @@ module _ {pool : List ℕ} {s : Runs} (l : Led pool s) {g : Stretch} (t : Stretc
     ascends = subst (Ascends ◌<◌) (sym put_whole) (merge_ascends (part pool s.x s.e) l.inside.ascends₂);
   }
 
-  pub put_high : g.m ≤ length pool
+  pub put_high : g.rest.x ≤ length pool
   put_high = omega (arith, within, l.inside.high)
 
   module _ (h : s.x < s.e) {lo : ℕ → ℕ} {school : List ℕ} (b : Began pool lo school s) where
     -- the school's keys, where the piece is the maker's
-    others_left : g.own ≡ 1 → (z : ℕ) → z ∈ part pool s.y s.f → z ∈ part pool g.y s.f
+    others_left : g.rest.own ≡ 1 → (z : ℕ) → z ∈ part pool s.y s.f → z ∈ part pool g.rest.y s.f
     others_left o z i = rw t.reached₂.rest (from_in (get_or pool s.x 0 + 1) (part pool s.y s.f) (go (ℕ_discrete z (get_or pool s.x 0))) i)
       where
         go : Dec (z ≡ get_or pool s.x 0) → get_or pool s.x 0 + 1 ≤ z
         go (yes e) =
             absurd
             (t.sole (sym t.side ∙ o) z
-            (rw (t.start, e) (subst (λ (zs : List ℕ). get_or pool s.x 0 ∈ zs) (sym (part_cons pool s.x g.m (let q : s.x < g.m = omega (arith, t.start, t.some) in q) put_high)) (hd refl)))
+            (rw (t.start, e) (subst (λ (zs : List ℕ). get_or pool s.x 0 ∈ zs) (sym (part_cons pool s.x g.rest.x (let q : s.x < g.rest.x = omega (arith, t.start, t.some) in q) put_high)) (hd refl)))
             i)
         go (no n) = omega (arith, second_least l h z i)
 
@@ -107,10 +108,10 @@ module _ {pool : List ℕ} {s : Runs} (l : Led pool s) {g : Stretch} (t : Stretc
       low = rw (t.side, t.start) b.low;
       low₂ = rw (t.side, behind_at) (let q = t.reached₂.forward in omega (arith, b.low₂));
       high = within;
-      keys = λ z i. ⊎_elim (λ (j : z ∈ pick (eqb s.own 0) (part pool s.x s.e) (part pool s.y s.f)). inl (left z g.own t.side (omega (arith, t.side, l.inside.side)) refl j)) (λ (j : (y : ℕ) → y ∈ run_of pool s → z < y). inr (λ y m. j y (subst (λ (r : List ℕ). y ∈ r) put_whole m))) (b.keys z i);
+      keys = λ z i. ⊎_elim (λ (j : z ∈ pick (eqb s.own 0) (part pool s.x s.e) (part pool s.y s.f)). inl (left z g.rest.own t.side (omega (arith, t.side, l.inside.side)) refl j)) (λ (j : (y : ℕ) → y ∈ run_of pool s → z < y). inr (λ y m. j y (subst (λ (r : List ℕ). y ∈ r) put_whole m))) (b.keys z i);
     }
       where
-        left : (z o : ℕ) → o ≡ s.own → o ≤ 1 → g.own ≡ o → z ∈ pick (eqb s.own 0) (part pool s.x s.e) (part pool s.y s.f) → z ∈ school_left pool (put s g)
+        left : (z o : ℕ) → o ≡ s.own → o ≤ 1 → g.rest.own ≡ o → z ∈ pick (eqb s.own 0) (part pool s.x s.e) (part pool s.y s.f) → z ∈ school_left pool (put s g)
         left z zero e n f j = rw (f, t.start) (rw (← e) at j)
         left z (suc zero) e n f j = rw (f, behind_at) (others_left f z (rw (← e) at j))
         left z (suc (suc o)) e n f j = absurd (omega arith)
@@ -163,19 +164,19 @@ module _ {pool : List ℕ} (ends : List ℕ) (a x y o : ℕ) (i : Inside pool (r
   took_none e = sym (order_run i q) ∙ none_left q.led e
 
   module _ (h : s.x < s.e) {g : Stretch} (t : Stretched pool s g) {s₀ : State} (z : Sized s₀ ends) (b : a < max_atoms) where
-    stand : stand_of (placed s₀ a g.x g.m g.own (g.f - g.y)) ends a ≡ put s g
+    stand : stand_of (placed s₀ a g.x g.rest.x g.rest.own (g.rest.f - g.rest.y)) ends a ≡ put s g
     stand =
-        placed_stand z a g.x g.m g.own (g.f - g.y) b
-        ∙ (let e : get_or ends (2 * a + g.own) 0 ≡ s.e = ap (λ (j : ℕ). get_or ends (2 * a + j) 0) t.side ∙ mine in
-        let f : get_or ends (2 * a + 1 - g.own) 0 ≡ s.f = ap (λ (j : ℕ). get_or ends (2 * a + 1 - j) 0) t.side ∙ others in
-        λ j. record { at = g.x; end = g.m; own = g.own; left = g.f - g.y; mine = e j; others = f j })
+        placed_stand z a g.x g.rest.x g.rest.own (g.rest.f - g.rest.y) b
+        ∙ (let e : get_or ends (2 * a + g.rest.own) 0 ≡ s.e = ap (λ (j : ℕ). get_or ends (2 * a + j) 0) t.side ∙ mine in
+        let f : get_or ends (2 * a + 1 - g.rest.own) 0 ≡ s.f = ap (λ (j : ℕ). get_or ends (2 * a + 1 - j) 0) t.side ∙ others in
+        λ j. record { at = g.x; end = g.rest.x; own = g.rest.own; left = g.rest.f - g.rest.y; mine = e j; others = f j })
 
-    pub took : Taken pool ends a (run_of pool (runs_from ends a x y o)) (λ (lo : ℕ → ℕ) (school : List ℕ). Began pool lo school (runs_from ends a x y o)) s₀ (placed s₀ a g.x g.m g.own (g.f - g.y))
+    pub took : Taken pool ends a (run_of pool (runs_from ends a x y o)) (λ (lo : ℕ → ℕ) (school : List ℕ). Began pool lo school (runs_from ends a x y o)) s₀ (placed s₀ a g.x g.rest.x g.rest.own (g.rest.f - g.rest.y))
     took = record {
       x = g.x;
-      m = g.m;
-      o = g.own;
-      l = g.f - g.y;
+      m = g.rest.x;
+      o = g.rest.own;
+      l = g.rest.f - g.rest.y;
       is = refl;
       some = t.some;
       high = put_high q.led t;

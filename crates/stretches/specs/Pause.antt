@@ -13,7 +13,8 @@ use Rattle.leapfrog_search.specs.declared.Landed.TheVariants.{Key, Nothing}
 use Rattle.leapfrog_search.specs.declared.Searched.{Searched}
 use Rattle.two_runs.specs.Runs as two
 use Rattle.two_runs.specs.declared.Runs as rust
-use Rattle.stretches.specs.Stand.{State, stand_of, tail_of, whole_of, wholes_in, Tailed, Sized, Laid}
+use Rattle.stretches.specs.Stand.{stand_of, tail_of, whole_of, wholes_in, Tailed, Sized, Laid}
+use Rattle.stretches.specs.declared.State.{State}
 
 -- ---- one atom's next piece
 

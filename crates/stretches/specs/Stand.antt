@@ -9,15 +9,7 @@ use Rattle.query.specs.Limits.{max_atoms}
 use Rattle.leapfrog_search.specs.Leapfrog.{part}
 use Rattle.two_runs.specs.Runs.{run_of, Inside}
 use Rattle.two_runs.specs.declared.Runs.{Runs}
-
-pub record State : Type 0 where
-  pub at : List ℕ
-  pub end : List ℕ
-  pub own : List ℕ
-  pub left : List ℕ
-
-abbrev pub state : List ℕ → List ℕ → List ℕ → List ℕ → State
-state at end own left = record { at = at; end = end; own = own; left = left }
+pub use Rattle.stretches.specs.declared.State.{State}
 
 -- one atom's numbers, with the end of its own table's run and of the other's
 pub record Stand : Type 0 where

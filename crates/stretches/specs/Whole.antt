@@ -7,7 +7,8 @@ use Rattle.leapfrog_search.specs.Leapfrog.{Ready, Agreed, answered}
 use Rattle.leapfrog_search.specs.declared.Landed.{Landed}
 use Rattle.leapfrog_search.specs.declared.Landed.TheVariants.{Key, Nothing}
 use Rattle.leapfrog_search.specs.declared.Searched.{Searched}
-use Rattle.stretches.specs.Stand.{State, Stand, stand_of, wholes_in, Tailed, Sized, Laid}
+use Rattle.stretches.specs.Stand.{Stand, stand_of, wholes_in, Tailed, Sized, Laid}
+use Rattle.stretches.specs.declared.State.{State}
 
 -- each of the first k atoms of the ring stands on a key of its piece
 pub record WholeReady (pool : List ℕ) (s : State) (ends ring : List ℕ) (k : ℕ) : Type 0 where

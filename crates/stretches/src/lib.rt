@@ -4,7 +4,7 @@
 // finds no key.
 //
 // Each of `whole_search`, `whole_init` and `whole_next` does what its algorithm does to the whole runs, as crates/leapfrog computes it. A seek of an atom is
-// one seek, however many pieces it looks through. The arrays are those of specs/Stand.antt: `own` goes down with `at` from depth to depth, `left` is 0 at first.
+// one seek, however many pieces it looks through. Of a `State`, `own` goes down with `at` from depth to depth, and `left` is 0 at first.
 #![tactic(auto)]
 
 ghost use Rattle.std.specs.Prelude.{◌≡◌, true, List, ℕ, ◌≤◌, ◌<◌, length, get_or, take};
@@ -15,7 +15,7 @@ ghost use Rattle.leapfrog.specs.Search.{search_of, next_of};
 ghost use Rattle.ring_sort.specs.Sorted.{key_at};
 ghost use Rattle.two_runs.specs.Runs.{run_of, Inside};
 ghost use Rattle.leapfrog_search.specs.Leapfrog.{runs_in, Ordered};
-ghost use Rattle.stretches.specs.Stand.{state, stand_of, tail_of, wholes_in, Behind, Sized, Laid};
+ghost use Rattle.stretches.specs.Stand.{stand_of, tail_of, wholes_in, Behind, Sized, Laid};
 ghost use Rattle.stretches.specs.Whole.{WholeReady, WholeAgreed, WholeRan, WholeBegun};
 ghost use Rattle.pieces.specs.Halted.{goal_at, Halted};
 ghost use Rattle.stretches.specs.Pause.{runs_from, Began, Takes, Pieces, Paused, resumed_of, Lookable, Settled};
@@ -26,6 +26,18 @@ use query::MAX_ATOMS;
 use seek::SeekStrategy;
 use two_runs::{Runs, first_stretch, led, seek_both};
 
+// Where the atoms of a join stand, by atom (specs/Stand.antt).
+#[derive(Drop)]
+pub struct State {
+    // where the atom stands in its piece of the pool, and the piece's end
+    pub at: [usize; MAX_ATOMS],
+    pub end: [usize; MAX_ATOMS],
+    // whose table the piece lies in: 0 the school's, 1 the maker's
+    pub own: [usize; MAX_ATOMS],
+    // how many keys of the other table's run are not yet passed
+    pub left: [usize; MAX_ATOMS],
+}
+
 // The length of `ends`: for each atom the end of the school's first keys and that of the maker's.
 pub const RUN_ENDS: usize = 16;
 
@@ -33,10 +45,7 @@ pub const RUN_ENDS: usize = 16;
 // laid-over table is opened: x where the school's first keys start, y where the maker's do, o 0.
 pub fn take_stretch(
     pool: &[u64],
-    at: &mut [usize; MAX_ATOMS],
-    end: &mut [usize; MAX_ATOMS],
-    own: &mut [usize; MAX_ATOMS],
-    left: &mut [usize; MAX_ATOMS],
+    state: &mut State,
     ends: &[usize; RUN_ENDS],
     a: usize,
     x: usize,
@@ -44,9 +53,9 @@ pub fn take_stretch(
     o: usize,
     strategy: SeekStrategy,
 ) -> bool
-    requires a_lt_max_atoms { (a < max_atoms) × Sized (state at.old end.old own.old left.old) ends.now }
+    requires a_lt_max_atoms { (a < max_atoms) × Sized state.old ends.now }
     requires inside { Inside pool.now (runs_from ends.now a x y o) }
-    ensures { Takes pool.now ends.now a (run_of pool.now (runs_from ends.now a x y o)) (λ (lo : ℕ → ℕ) (school : List ℕ). Began pool.now lo school (runs_from ends.now a x y o)) (state at.old end.old own.old left.old) (state at.new end.new own.new left.new) result }
+    ensures { Takes pool.now ends.now a (run_of pool.now (runs_from ends.now a x y o)) (λ (lo : ℕ → ℕ) (school : List ℕ). Began pool.now lo school (runs_from ends.now a x y o)) state.old state.new result }
 {
     let r = Runs {
         x,
@@ -57,47 +66,44 @@ pub fn take_stretch(
     };
     let s = led(pool, r);
     if s.x == s.e {
-        left[a] = 0;
+        state.left[a] = 0;
         return false;
     }
     let g = first_stretch(pool, s, strategy);
-    at[a] = g.x;
-    end[a] = g.m;
-    own[a] = g.own;
-    left[a] = g.f - g.y;
+    state.at[a] = g.x;
+    state.end[a] = g.rest.x;
+    state.own[a] = g.rest.own;
+    state.left[a] = g.rest.f - g.rest.y;
     true
 }
 
 // Puts atom a, whose piece has ended, on the piece with its run's first key not below `target`; false where there is none.
 pub fn refill(
     pool: &[u64],
-    at: &mut [usize; MAX_ATOMS],
-    end: &mut [usize; MAX_ATOMS],
-    own: &mut [usize; MAX_ATOMS],
-    left: &mut [usize; MAX_ATOMS],
+    state: &mut State,
     ends: &[usize; RUN_ENDS],
     a: usize,
     target: u64,
     strategy: SeekStrategy,
 ) -> bool
-    requires a_lt_max_atoms { (a < max_atoms) × (get_or at.old a 0 ≡ get_or end.old a 0) × Sized (state at.old end.old own.old left.old) ends.now }
-    requires fact { (get_or left.old a 0 ≡ 0 → ⊥) × Behind pool.now (stand_of (state at.old end.old own.old left.old) ends.now a) }
-    ensures { Takes pool.now ends.now a (from target (tail_of pool.now (stand_of (state at.old end.old own.old left.old) ends.now a))) (λ (lo : ℕ → ℕ) (school : List ℕ). Laid pool.now lo school (stand_of (state at.old end.old own.old left.old) ends.now a)) (state at.old end.old own.old left.old) (state at.new end.new own.new left.new) result }
+    requires a_lt_max_atoms { (a < max_atoms) × (get_or state.old.at a 0 ≡ get_or state.old.end a 0) × Sized state.old ends.now }
+    requires fact { (get_or state.old.left a 0 ≡ 0 → ⊥) × Behind pool.now (stand_of state.old ends.now a) }
+    ensures { Takes pool.now ends.now a (from target (tail_of pool.now (stand_of state.old ends.now a))) (λ (lo : ℕ → ℕ) (school : List ℕ). Laid pool.now lo school (stand_of state.old ends.now a)) state.old state.new result }
 {
-    let o = own[a];
+    let o = state.own[a];
     let f = ends[2 * a + 1 - o];
     let r = Runs {
-        x: end[a],
+        x: state.end[a],
         e: ends[2 * a + o],
-        y: f - left[a],
+        y: f - state.left[a],
         f,
         own: o,
     };
     let s = seek_both(pool, r, target, strategy);
-    take_stretch(pool, at, end, own, left, ends, a, s.x, s.y, o, strategy)
+    take_stretch(pool, state, ends, a, s.x, s.y, o, strategy)
 }
 
-// What the run at place p is to reach: the key of the place before it, the greatest. Where p is the only place, any key will do.
+// What the run at place p is to reach: the key of the place before it, the greatest. Where p is the only place, any key will do; 0 passes none.
 fn goal(
     pool: &[u64],
     at: &[usize; MAX_ATOMS],
@@ -133,18 +139,15 @@ fn settled(left: &[usize; MAX_ATOMS], ring: &[usize; MAX_ATOMS], landed: Landed)
 // From a leapfrog over the pieces that ended as s says: while the piece at its place has ended and the run goes on behind it, takes the next piece and searches on.
 fn go_on(
     pool: &[u64],
-    at: &mut [usize; MAX_ATOMS],
-    end: &mut [usize; MAX_ATOMS],
-    own: &mut [usize; MAX_ATOMS],
-    left: &mut [usize; MAX_ATOMS],
+    state: &mut State,
     ends: &[usize; RUN_ENDS],
     ring: &[usize; MAX_ATOMS],
     k: usize,
     s: Searched,
     strategy: SeekStrategy,
 ) -> Searched
-    requires { Paused pool.now (state at.old end.old own.old left.old) ends.now ring.now k s }
-    ensures { WholeRan pool.now ends.now ring.now k (state at.old end.old own.old left.old) (state at.new end.new own.new left.new) (resumed_of pool.now (state at.old end.old own.old left.old) ends.now ring.now k s.landed s.seeks) result }
+    requires { Paused pool.now state.old ends.now ring.now k s }
+    ensures { WholeRan pool.now ends.now ring.now k state.old state.new (resumed_of pool.now state.old ends.now ring.now k s.landed s.seeks) result }
 {
     let mut landed = s.landed;
     let mut seeks = s.seeks;
@@ -153,14 +156,22 @@ fn go_on(
             return Searched { landed, seeks };
         };
         let a = ring[p];
-        if left[a] == 0 {
+        if state.left[a] == 0 {
             return Searched { landed, seeks };
         }
-        let target = goal(pool, at, end, ring, k, p);
-        if !refill(pool, at, end, own, left, ends, a, target, strategy) {
+        let target = goal(pool, &state.at, &state.end, ring, k, p);
+        if !refill(pool, state, ends, a, target, strategy) {
             return Searched { landed, seeks };
         }
-        let t = leapfrog_search(pool, at, end, ring, k, after(p, k), strategy);
+        let t = leapfrog_search(
+            pool,
+            &mut state.at,
+            &state.end,
+            ring,
+            k,
+            after(p, k),
+            strategy,
+        );
         landed = t.landed;
         seeks += t.seeks;
     }
@@ -169,72 +180,63 @@ fn go_on(
 // Algorithm 2 over whole runs, from place `start` of an ordered ring.
 pub fn whole_search(
     pool: &[u64],
-    at: &mut [usize; MAX_ATOMS],
-    end: &mut [usize; MAX_ATOMS],
-    own: &mut [usize; MAX_ATOMS],
-    left: &mut [usize; MAX_ATOMS],
+    state: &mut State,
     ends: &[usize; RUN_ENDS],
     ring: &[usize; MAX_ATOMS],
     k: usize,
     start: usize,
     strategy: SeekStrategy,
 ) -> Searched
-    requires whole_ready { WholeReady pool.now (state at.old end.old own.old left.old) ends.now ring.now k }
-    requires ordered { Ordered pool.now at.old ring.now k start × (start < k) }
-    ensures { WholeRan pool.now ends.now ring.now k (state at.old end.old own.old left.old) (state at.new end.new own.new left.new) (search_of (wholes_in pool.now (state at.old end.old own.old left.old) ends.now ring.now k) start) result }
+    requires whole_ready { WholeReady pool.now state.old ends.now ring.now k }
+    requires ordered { Ordered pool.now state.old.at ring.now k start × (start < k) }
+    ensures { WholeRan pool.now ends.now ring.now k state.old state.new (search_of (wholes_in pool.now state.old ends.now ring.now k) start) result }
 {
-    let s = leapfrog_search(pool, at, end, ring, k, start, strategy);
-    go_on(pool, at, end, own, left, ends, ring, k, s, strategy)
+    let s = leapfrog_search(pool, &mut state.at, &state.end, ring, k, start, strategy);
+    go_on(pool, state, ends, ring, k, s, strategy)
 }
 
 // Algorithm 1 over whole runs, on a ring in atom order.
 pub fn whole_init(
     pool: &[u64],
-    at: &mut [usize; MAX_ATOMS],
-    end: &mut [usize; MAX_ATOMS],
-    own: &mut [usize; MAX_ATOMS],
-    left: &mut [usize; MAX_ATOMS],
+    state: &mut State,
     ends: &[usize; RUN_ENDS],
     ring: &mut [usize; MAX_ATOMS],
     k: usize,
     strategy: SeekStrategy,
 ) -> Searched
-    requires whole_ready { WholeReady pool.now (state at.old end.old own.old left.old) ends.now ring.old k }
+    requires whole_ready { WholeReady pool.now state.old ends.now ring.old k }
     requires ascends { Ascends ◌<◌ (take k ring.old) }
-    ensures { WholeBegun pool.now ends.now k ring.old ring.new (state at.old end.old own.old left.old) (state at.new end.new own.new left.new) result }
+    ensures { WholeBegun pool.now ends.now k ring.old ring.new state.old state.new result }
 {
-    let s = leapfrog_init(pool, at, end, ring, k, strategy);
+    let s = leapfrog_init(pool, &mut state.at, &state.end, ring, k, strategy);
     let landed = s.landed;
     let seeks = s.seeks;
-    if settled(left, ring, landed) {
+    if settled(&state.left, ring, landed) {
         return Searched { landed, seeks };
     }
     let paused = Searched { landed, seeks };
-    go_on(pool, at, end, own, left, ends, ring, k, paused, strategy)
+    go_on(pool, state, ends, ring, k, paused, strategy)
 }
 
 // Algorithm 3 over whole runs, where all agree.
 pub fn whole_next(
     pool: &[u64],
-    at: &mut [usize; MAX_ATOMS],
-    end: &mut [usize; MAX_ATOMS],
-    own: &mut [usize; MAX_ATOMS],
-    left: &mut [usize; MAX_ATOMS],
+    state: &mut State,
     ends: &[usize; RUN_ENDS],
     ring: &[usize; MAX_ATOMS],
     k: usize,
     p: usize,
     strategy: SeekStrategy,
 ) -> Searched
-    requires { WholeAgreed pool.now (state at.old end.old own.old left.old) ends.now ring.now k (key_at pool.now at.old (get_or ring.now p 0)) p }
-    ensures { WholeRan pool.now ends.now ring.now k (state at.old end.old own.old left.old) (state at.new end.new own.new left.new) (next_of (wholes_in pool.now (state at.old end.old own.old left.old) ends.now ring.now k) p) result }
+    requires { WholeAgreed pool.now state.old ends.now ring.now k (key_at pool.now state.old.at (get_or ring.now p 0)) p }
+    ensures { WholeRan pool.now ends.now ring.now k state.old state.new (next_of (wholes_in pool.now state.old ends.now ring.now k) p) result }
 {
-    let s = leapfrog_next(pool, at, end, ring, k, p, strategy);
+    let s = leapfrog_next(pool, &mut state.at, &state.end, ring, k, p, strategy);
     let landed = s.landed;
     let seeks = s.seeks;
-    if settled(left, ring, landed) {
+    if settled(&state.left, ring, landed) {
         return Searched { landed, seeks };
     }
     let paused = Searched { landed, seeks };
-    go_on(pool, at, end, own, left, ends, ring, k, paused, strategy)
+    go_on(pool, state, ends, ring, k, paused, strategy)
 }

@@ -51,7 +51,7 @@ module _ {pool : List ℕ} {s : Runs} (l : Led pool s) (h : s.x < s.e) where
       omega (arith, l.tie g z))
       (eq-or-lt_of_le {n = s.y} {m = s.f} l.inside.low₂)
 
-  pub stretched : (m w : ℕ) → s.x < m → m ≤ s.e → Reached pool s.y s.f (k + 1) w → (w ≡ s.f → m ≡ s.e) → ((a b : ℕ) → a ∈ part pool s.x m → b ∈ part pool w s.f → a < b) → Stretched pool s (record { x = s.x; m = m; e = s.e; y = w; f = s.f; own = s.own })
+  pub stretched : (m w : ℕ) → s.x < m → m ≤ s.e → Reached pool s.y s.f (k + 1) w → (w ≡ s.f → m ≡ s.e) → ((a b : ℕ) → a ∈ part pool s.x m → b ∈ part pool w s.f → a < b) → Stretched pool s (record { x = s.x; rest = record { x = m; e = s.e; y = w; f = s.f; own = s.own } })
   stretched m w some within c last apart =
       let sp = part_split pool s.x m s.e (omega arith) within in
       record {
@@ -80,11 +80,11 @@ module _ {pool : List ℕ} {s : Runs} (l : Led pool s) (h : s.x < s.e) where
           omega arith
 
   -- the second has no other key: all that is left of the first
-  pub stretch_all : (w : ℕ) → Reached pool s.y s.f (k + 1) w → w ≡ s.f → Stretched pool s (record { x = s.x; m = s.e; e = s.e; y = w; f = s.f; own = s.own })
+  pub stretch_all : (w : ℕ) → Reached pool s.y s.f (k + 1) w → w ≡ s.f → Stretched pool s (record { x = s.x; rest = record { x = s.e; e = s.e; y = w; f = s.f; own = s.own } })
   stretch_all w c e = stretched s.e w h (omega arith) c (λ z. refl) (λ a b i j. absurd (not_in_nil (subst (λ (zs : List ℕ). b ∈ zs) (part_none pool w s.f e) j)))
 
   -- up to the second's next key
-  pub stretch_part : (m w : ℕ) → Reached pool s.y s.f (k + 1) w → (w ≡ s.f → ⊥) → Reached pool s.x s.e (get_or pool w 0) m → Stretched pool s (record { x = s.x; m = m; e = s.e; y = w; f = s.f; own = s.own })
+  pub stretch_part : (m w : ℕ) → Reached pool s.y s.f (k + 1) w → (w ≡ s.f → ⊥) → Reached pool s.x s.e (get_or pool w 0) m → Stretched pool s (record { x = s.x; rest = record { x = m; e = s.e; y = w; f = s.f; own = s.own } })
   stretch_part m w c n r = stretched m w some r.within c (λ z. absurd (n z)) below
     where
       g : w < s.f

@@ -52,13 +52,13 @@ pub record Stays (pool : List ℕ) (t : ℕ) (r s : Runs) : Type 0 where
 -- a stretch: some keys in one piece, and what the run goes on with; behind the last there is nothing
 pub record Stretched (pool : List ℕ) (s : Runs) (g : Stretch) : Type 0 where
   pub start : g.x ≡ s.x
-  pub end : g.e ≡ s.e
-  pub end₂ : g.f ≡ s.f
-  pub side : g.own ≡ s.own
-  pub some : g.x < g.m
-  pub within : g.m ≤ g.e
-  pub reached₂ : Reached pool s.y s.f (get_or pool s.x 0 + 1) g.y
-  pub last : g.y ≡ g.f → g.m ≡ g.e
+  pub end : g.rest.e ≡ s.e
+  pub end₂ : g.rest.f ≡ s.f
+  pub side : g.rest.own ≡ s.own
+  pub some : g.x < g.rest.x
+  pub within : g.rest.x ≤ g.rest.e
+  pub reached₂ : Reached pool s.y s.f (get_or pool s.x 0 + 1) g.rest.y
+  pub last : g.rest.y ≡ g.rest.f → g.rest.x ≡ g.rest.e
   -- a key of the maker's is none of the school's
-  pub sole : s.own ≡ 1 → (a : ℕ) → a ∈ part pool g.x g.m → a ∈ part pool s.y s.f → ⊥
-  pub run : run_of pool s ≡ part pool g.x g.m ++ merge (part pool g.m g.e) (part pool g.y g.f)
+  pub sole : s.own ≡ 1 → (a : ℕ) → a ∈ part pool g.x g.rest.x → a ∈ part pool s.y s.f → ⊥
+  pub run : run_of pool s ≡ part pool g.x g.rest.x ++ run_of pool g.rest

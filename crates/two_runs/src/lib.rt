@@ -4,6 +4,9 @@
 //
 // The run from x to e comes first, the other goes from y to f. `own` says whose the first is: 0 the school's, 1 the maker's. It is kept, never read off a
 // place: one table may be laid over itself. Where both have a key, the school's is the one that counts.
+//
+// `own` is a number and no enum since it is counted with: a run ends at ends[2 * a + own] and the other at ends[2 * a + 1 - own], and the plan has the opening
+// of the owner's table at base + TABLE_WORDS * own. An enum would be turned into this number at each of them.
 #![tactic(auto)]
 
 ghost use Rattle.std.specs.Prelude.{◌≡◌, ◌+◌, ◌≤◌, ◌<◌, length, get_or};
@@ -38,13 +41,7 @@ pub fn seek_both(pool: &[u64], r: Runs, target: u64, strategy: SeekStrategy) -> 
 {
     let x = seek_run(pool, r.x, r.e, target, strategy);
     let y = seek_run(pool, r.y, r.f, target, strategy);
-    Runs {
-        x,
-        e: r.e,
-        y,
-        f: r.f,
-        own: r.own,
-    }
+    Runs { x, y, ..r }
 }
 
 // The two runs in the other sequence.
@@ -112,15 +109,11 @@ fn past(pool: &[u64], y: usize, f: usize, k: u64) -> usize
     y
 }
 
-// A stretch of the run that lies in one piece of the pool, from x to m. Behind it the run goes on with what is left from m to e and from y to f.
+// A stretch of the run that lies in one piece of the pool, from x on. It ends where what the run goes on with, `rest`, begins.
 #[derive(Clone, Copy)]
 pub struct Stretch {
     pub x: usize,
-    pub m: usize,
-    pub e: usize,
-    pub y: usize,
-    pub f: usize,
-    pub own: usize,
+    pub rest: Runs,
 }
 
 // The first stretch: the keys of the first run that are before the second's. A key that both have is passed in the second.
@@ -131,22 +124,10 @@ pub fn first_stretch(pool: &[u64], s: Runs, strategy: SeekStrategy) -> Stretch
     let x = s.x;
     let y = past(pool, s.y, s.f, pool[x]);
     if y == s.f {
-        return Stretch {
-            x,
-            m: s.e,
-            e: s.e,
-            y,
-            f: s.f,
-            own: s.own,
-        };
+        let rest = Runs { x: s.e, y, ..s };
+        return Stretch { x, rest };
     }
     let m = seek_run(pool, x, s.e, pool[y], strategy);
-    Stretch {
-        x,
-        m,
-        e: s.e,
-        y,
-        f: s.f,
-        own: s.own,
-    }
+    let rest = Runs { x: m, y, ..s };
+    Stretch { x, rest }
 }

@@ -17,7 +17,8 @@ use Rattle.leapfrog_search.specs.Leapfrog.{part, OnKey, Reached}
 use Rattle.leapfrog_search.proofs.Parts.{part_cons, part_none}
 use Rattle.pieces.proofs.Zip.{from_behind, from_before}
 use Rattle.two_runs.specs.Runs as two
-use Rattle.stretches.specs.Stand.{State, stand_of, rest_of, tail_of, whole_of, Tailed, Behind, Sized, Laid}
+use Rattle.stretches.specs.Stand.{stand_of, rest_of, tail_of, whole_of, Tailed, Behind, Sized, Laid}
+use Rattle.stretches.specs.declared.State.{State}
 use Rattle.stretches.specs.Pause.{emptied, Taken, Takes, some, none}
 use Rattle.stretches.proofs.Carrying.{moved_to, moved_tailed, moved_laid, placed_other, emptied_other}
 use Rattle.whole_seek.specs.Seek.{SoughtOne}

@@ -27,7 +27,8 @@ use Rattle.leapfrog_search.proofs.Runs.{enough, ring_in}
 use Rattle.leapfrog_search.proofs.Defined.{follows_after}
 use Rattle.leapfrog_join.proofs.Laws.{agreed_ordered}
 use Rattle.pieces.proofs.Longer.{go_out, go_some}
-use Rattle.stretches.specs.Stand.{State, Stand, stand_of, tail_of, whole_of, wholes_in, Tailed, Laid}
+use Rattle.stretches.specs.Stand.{Stand, stand_of, tail_of, whole_of, wholes_in, Tailed, Laid}
+use Rattle.stretches.specs.declared.State.{State}
 use Rattle.stretches.specs.Whole.{WholeReady, WholeAgreed, Forward, Carried, WholeRan}
 use Rattle.stretches.proofs.Pieces.{map_one}
 use Rattle.stretches.proofs.Pausing.{whole_at, wholes_many, wholes_few, ready_held}

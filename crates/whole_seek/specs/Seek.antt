@@ -1,7 +1,8 @@
 -- Internal: what a seek of one atom's whole run leaves: the keys of the run from the target on, and the other atoms as they were.
 use Rattle.std.specs.Prelude.{◌≡◌, Bool, true, false, List, [], ℕ, ◌≤◌, ◌<◌, length, get_or}
 use Rattle.relation.specs.Runs.{from}
-use Rattle.stretches.specs.Stand.{State, stand_of, whole_of, Tailed, Sized, Laid}
+use Rattle.stretches.specs.Stand.{stand_of, whole_of, Tailed, Sized, Laid}
+use Rattle.stretches.specs.declared.State.{State}
 use Rattle.stretches.specs.Whole.{Forward}
 
 -- atom a is sought to t; b says whether it stands on a key there. As of any call over whole runs: on a last piece it goes forward, and at the first column of a laid-over table it stays so

@@ -7,52 +7,46 @@ ghost use Rattle.std.specs.Prelude.{◌<◌, get_or};
 ghost use Rattle.leapfrog.specs.Search.{seek_to};
 ghost use Rattle.ring_sort.specs.Sorted.{key_at};
 ghost use Rattle.leapfrog_search.specs.Leapfrog.{OnKey};
-ghost use Rattle.stretches.specs.Stand.{state, stand_of, wholes_in, Tailed, Sized};
+ghost use Rattle.stretches.specs.Stand.{stand_of, wholes_in, Tailed, Sized};
 ghost use Rattle.stretches.specs.Whole.{WholeAgreed, WholeRan};
 ghost use Rattle.whole_seek.specs.Seek.{SoughtOne};
 
 use leapfrog_search::{Landed, Searched, after};
 use query::MAX_ATOMS;
 use seek::SeekStrategy;
-use stretches::{RUN_ENDS, refill, whole_search};
+use stretches::{RUN_ENDS, State, refill, whole_search};
 use two_runs::seek_run;
 
 // Puts atom a on its run's first key not below `target`; false where there is none.
 fn seek_one(
     pool: &[u64],
-    at: &mut [usize; MAX_ATOMS],
-    end: &mut [usize; MAX_ATOMS],
-    own: &mut [usize; MAX_ATOMS],
-    left: &mut [usize; MAX_ATOMS],
+    state: &mut State,
     ends: &[usize; RUN_ENDS],
     a: usize,
     target: u64,
     strategy: SeekStrategy,
 ) -> bool
-    requires on_key { OnKey pool.now at.old end.old a × Sized (state at.old end.old own.old left.old) ends.now }
-    requires tailed { Tailed pool.now (stand_of (state at.old end.old own.old left.old) ends.now a) }
-    ensures { SoughtOne pool.now ends.now a target (state at.old end.old own.old left.old) (state at.new end.new own.new left.new) result }
+    requires on_key { OnKey pool.now state.old.at state.old.end a × Sized state.old ends.now }
+    requires tailed { Tailed pool.now (stand_of state.old ends.now a) }
+    ensures { SoughtOne pool.now ends.now a target state.old state.new result }
 {
-    let x = at[a];
-    let e = end[a];
+    let x = state.at[a];
+    let e = state.end[a];
     let q = seek_run(pool, x, e, target, strategy);
-    at[a] = q;
+    state.at[a] = q;
     if q < e {
         return true;
     }
-    if left[a] == 0 {
+    if state.left[a] == 0 {
         return false;
     }
-    refill(pool, at, end, own, left, ends, a, target, strategy)
+    refill(pool, state, ends, a, target, strategy)
 }
 
 // Algorithm 4 over whole runs, where all agree: the atom at p seeks `target`, and the search goes on from the next place.
 pub fn whole_seek(
     pool: &[u64],
-    at: &mut [usize; MAX_ATOMS],
-    end: &mut [usize; MAX_ATOMS],
-    own: &mut [usize; MAX_ATOMS],
-    left: &mut [usize; MAX_ATOMS],
+    state: &mut State,
     ends: &[usize; RUN_ENDS],
     ring: &[usize; MAX_ATOMS],
     k: usize,
@@ -60,28 +54,17 @@ pub fn whole_seek(
     target: u64,
     strategy: SeekStrategy,
 ) -> Searched
-    requires { WholeAgreed pool.now (state at.old end.old own.old left.old) ends.now ring.now k (key_at pool.now at.old (get_or ring.now p 0)) p }
-    ensures { WholeRan pool.now ends.now ring.now k (state at.old end.old own.old left.old) (state at.new end.new own.new left.new) (seek_to target (wholes_in pool.now (state at.old end.old own.old left.old) ends.now ring.now k) p) result }
+    requires { WholeAgreed pool.now state.old ends.now ring.now k (key_at pool.now state.old.at (get_or ring.now p 0)) p }
+    ensures { WholeRan pool.now ends.now ring.now k state.old state.new (seek_to target (wholes_in pool.now state.old ends.now ring.now k) p) result }
 {
     let a = ring[p];
-    if !seek_one(pool, at, end, own, left, ends, a, target, strategy) {
+    if !seek_one(pool, state, ends, a, target, strategy) {
         return Searched {
             landed: Landed::Nothing { p },
             seeks: 1,
         };
     }
-    let s = whole_search(
-        pool,
-        at,
-        end,
-        own,
-        left,
-        ends,
-        ring,
-        k,
-        after(p, k),
-        strategy,
-    );
+    let s = whole_search(pool, state, ends, ring, k, after(p, k), strategy);
     let landed = s.landed;
     let more = s.seeks;
     let seeks = more + 1;

@@ -100,7 +100,7 @@ descend-below-requires t c =
     (omega (arith, c.decreases, below), (walk_below b st below c.in-Key.is i, walk_fits b st below c.in-Key.is i))
 
 -- either way the rows that complete it are written
-under : (t : ℕ) (u : Joined-depth-n-2 t) → let l = u.loop-landed in let a = u.args in let w = u.if-depth-n-2 in Completes a.pool.now a.plan.now a.ends.now a.n (a.depth + 1) l.at l.own (set l.row (variable_at a.plan.now a.depth) u.in-Key.key) l.window l.rows l.seeks w.window w.below.rows w.below.full w.below.seeks
+under : (t : ℕ) (u : Joined-depth-n-2 t) → let l = u.loop-landed in let a = u.args in let w = u.if-depth-n-2 in Completes a.pool.now a.plan.now a.ends.now a.n (a.depth + 1) l.state.at l.state.own (set l.row (variable_at a.plan.now a.depth) u.in-Key.key) l.window l.rows l.seeks w.window w.below.rows w.below.full w.below.seeks
 under t u = elim u.if-depth-n-2.branch [
   | then-depth-n-2 w ↦ completes_came w.window-is w.below-is (completes_leaf w.if-depth-n-2.true w.complete-below.ensures)
   | else-depth-n-2 w ↦ completes_came w.window-is w.below-is w.descend-below.ensures

@@ -1,6 +1,5 @@
 -- The measure of `descend`, how many variables are left, and its loop: the keys left at this depth lead to its end (Walking.antt).
 use Prim.Native.Nat.{◌-◌}
-use Rattle.stretches.specs.Stand.{state}
 use Rattle.join_openings.specs.Openings.{count_at}
 use Rattle.descent.proofs.Walking.{Walk, keys_left}
 use Rattle.descent.proofs.Counting.{Counting}
@@ -11,8 +10,8 @@ decreases-descend l = l.n - l.depth
 
 abbrev pub invariant-loop-landed : goal.invariant-loop-landed
 invariant-loop-landed l =
-    Walk l.pool l.plan l.ends l.n l.depth (state l.initial.at l.initial.end l.initial.own l.initial.left) l.ring l.by_atom l.initial.landed l.initial.row l.initial.window l.from l.window (state l.at l.end l.own l.left) l.landed l.row l.rows
-    × Counting l.pool l.plan l.ends l.n l.depth (state l.initial.at l.initial.end l.initial.own l.initial.left) l.ring l.by_atom l.initial.landed l.initial.row l.initial.window l.from l.before l.initial.seeks l.window (state l.at l.end l.own l.left) l.landed l.rows l.seeks
+    Walk l.pool l.plan l.ends l.n l.depth l.initial.state l.ring l.by_atom l.initial.landed l.initial.row l.initial.window l.from l.window l.state l.landed l.row l.rows
+    × Counting l.pool l.plan l.ends l.n l.depth l.initial.state l.ring l.by_atom l.initial.landed l.initial.row l.initial.window l.from l.before l.initial.seeks l.window l.state l.landed l.rows l.seeks
 
 abbrev pub decreases-loop-landed : goal.decreases-loop-landed
-decreases-loop-landed l = keys_left l.pool (state l.at l.end l.own l.left) l.ends l.by_atom (count_at l.plan l.depth) l.landed
+decreases-loop-landed l = keys_left l.pool l.state l.ends l.by_atom (count_at l.plan l.depth) l.landed

@@ -2,7 +2,6 @@
 use Prim.Native.Nat.{ℕ}
 use native.Mathlib.Omega.{arith}
 use mathlib.Core.Path.{◌≡◌, subst}
-use Rattle.stretches.specs.Stand.{state}
 use Rattle.join_openings.specs.Openings.{count_at, Opens, all, refuses}
 use Rattle.join_openings.proofs.Openings.{opens_true, opens_false, opens_start, opens_can, opens_refuses, opens_next}
 use Rattle.join_openings.proofs.open_all.Goals as goal
@@ -26,7 +25,7 @@ pub overflow_add-first : goal.overflow_add-first
 overflow_add-first c = omega (arith, c.requires.openable)
 
 pub loop-j-init : goal.loop-j-init
-loop-j-init c = (omega arith, opens_start c.args.pool.now c.args.plan.now c.args.depth c.requires.arrays)
+loop-j-init c = opens_start c.args.pool.now c.args.plan.now c.args.depth c.requires.arrays
 
 pub overflow_mul-base : goal.overflow_mul-base
 overflow_mul-base c = omega (arith, c.requires.openable)
@@ -37,12 +36,12 @@ overflow_add-base c = omega (arith, c.requires.openable)
 pub open_one-requires : goal.open_one-requires
 open_one-requires c =
     let l = c.loop-j in
-    record { opening_words_bound = (omega (arith, c.requires.openable), l.invariant.1.arrays.sized); one_openable = opens_can c.requires.openable l.invariant.1 (omega arith) }
+    record { opening_words_bound = (omega (arith, c.requires.openable), l.invariant.arrays.sized); one_openable = opens_can c.requires.openable l.invariant (omega arith) }
 
 pub returns-then-not-open_one : goal.returns-then-not-open_one
 returns-then-not-open_one c =
     let l = c.loop-j in
-    refuses (opens_refuses c.requires.openable l.invariant.1 (omega arith) (opens_false c.open_one.ensures c.if-not-open_one.true))
+    refuses (opens_refuses c.requires.openable l.invariant (omega arith) (opens_false c.open_one.ensures c.if-not-open_one.true))
 
 pub offset_bounds-plan-base : goal.offset_bounds-plan-base
 offset_bounds-plan-base c = omega (arith, c.requires.openable)
@@ -62,17 +61,13 @@ offset_bounds-by_atom-j c = omega (arith, c.requires.openable.few)
 pub bounds-by_atom-j : goal.bounds-by_atom-j
 bounds-by_atom-j c = omega (arith, c.requires.openable.few)
 
-pub overflow_add-j : goal.overflow_add-j
-overflow_add-j c = omega (arith, c.requires.openable.few)
-
 pub loop-j-preserved : goal.loop-j-preserved
 loop-j-preserved c =
-    let l = c.loop-j in
-    (omega arith, opens_next c.requires.openable l.invariant.1 (omega arith) (opens_true c.open_one.ensures c.if-not-open_one.false))
+    opens_next c.requires.openable c.loop-j.invariant (omega arith) (opens_true c.open_one.ensures c.if-not-open_one.false)
 
 pub returns : goal.returns
 returns c =
     let l = c.loop-j in
     let e : l.j ≡ count_at c.args.plan.now c.args.depth = omega arith in
     all
-    (subst (λ (m : ℕ). Opens c.args.pool.now c.args.plan.now c.args.ends.now c.args.depth m (state c.args.at.now c.args.end.now c.args.own.now c.args.left.now) (state l.at l.end l.own l.left) l.ring l.by_atom) e l.invariant.1)
+    (subst (λ (m : ℕ). Opens c.args.pool.now c.args.plan.now c.args.ends.now c.args.depth m c.args.state.now l.state l.ring l.by_atom) e l.invariant)

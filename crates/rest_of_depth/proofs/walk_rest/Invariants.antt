@@ -1,12 +1,11 @@
 -- `walk_rest` meets its contract: each key left is passed by one call, until none is left or the window is full.
-use Rattle.stretches.specs.Stand.{state}
 use Rattle.join_openings.specs.Openings.{count_at}
 use Rattle.descent.proofs.Walking.{keys_left}
 use Rattle.rest_of_depth.proofs.Resting.{Walking}
 use Rattle.rest_of_depth.proofs.walk_rest.Given as goal
 
 abbrev pub invariant-loop-landed : goal.invariant-loop-landed
-invariant-loop-landed l = Walking l.pool l.plan l.ends l.n l.depth (state l.initial.at l.initial.end l.initial.own l.initial.left) l.ring l.by_atom l.initial.landed l.found l.initial.window l.from l.window (state l.at l.end l.own l.left) l.landed l.rows
+invariant-loop-landed l = Walking l.pool l.plan l.ends l.n l.depth l.initial.state l.ring l.by_atom l.initial.landed l.found l.initial.window l.from l.window l.state l.landed l.rows
 
 abbrev pub decreases-loop-landed : goal.decreases-loop-landed
-decreases-loop-landed l = keys_left l.pool (state l.at l.end l.own l.left) l.ends l.by_atom (count_at l.plan l.depth) l.landed
+decreases-loop-landed l = keys_left l.pool l.state l.ends l.by_atom (count_at l.plan l.depth) l.landed

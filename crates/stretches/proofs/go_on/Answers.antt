@@ -16,17 +16,17 @@ offset_bounds-ring-p c = omega (arith, halted_in c.loop-landed.invariant.paused.
 pub bounds-ring-p : goal.bounds-ring-p
 bounds-ring-p c = omega (arith, halted_in c.loop-landed.invariant.paused.held.pieces (loop_halted c.loop-landed.invariant c.in-Nothing.is), c.loop-landed.invariant.paused.held.pieces.few)
 
-pub offset_bounds-left-a : goal.offset_bounds-left-a
-offset_bounds-left-a c = omega (arith, c.loop-landed.invariant.paused.held.pieces.atoms _ (here c.loop-landed.invariant.paused.held (loop_halted c.loop-landed.invariant c.in-Nothing.is)))
+pub offset_bounds-state-a : goal.offset_bounds-state-a
+offset_bounds-state-a c = omega (arith, c.loop-landed.invariant.paused.held.pieces.atoms _ (here c.loop-landed.invariant.paused.held (loop_halted c.loop-landed.invariant c.in-Nothing.is)))
 
-pub bounds-left-a : goal.bounds-left-a
-bounds-left-a c = c.loop-landed.invariant.paused.held.pieces.atoms _ (here c.loop-landed.invariant.paused.held (loop_halted c.loop-landed.invariant c.in-Nothing.is))
+pub bounds-state-a : goal.bounds-state-a
+bounds-state-a c = c.loop-landed.invariant.paused.held.pieces.atoms _ (here c.loop-landed.invariant.paused.held (loop_halted c.loop-landed.invariant c.in-Nothing.is))
 
-pub returns-then-left-a-eq0 : goal.returns-then-left-a-eq0
-returns-then-left-a-eq0 c =
+pub returns-then-state-a-eq0 : goal.returns-then-state-a-eq0
+returns-then-state-a-eq0 c =
     let i = c.loop-landed.invariant in
     let p = c.in-Nothing.is in
-    loop_last i p c.if-left-a-eq0.true
+    loop_last i p c.if-state-a-eq0.true
 
 pub goal-target-requires : goal.goal-target-requires
 goal-target-requires c =
@@ -39,13 +39,13 @@ refill-requires c =
     let i = c.loop-landed.invariant in
     let z = loop_halted c.loop-landed.invariant c.in-Nothing.is in
     let b = here i.paused.held z in
-    record { a_lt_max_atoms = (i.paused.held.pieces.atoms _ b, halted_gone i.paused.held.pieces z, i.paused.held.sized); fact = (c.if-left-a-eq0.false, (i.paused.held.tailed _ b).behind c.if-left-a-eq0.false) }
+    record { a_lt_max_atoms = (i.paused.held.pieces.atoms _ b, halted_gone i.paused.held.pieces z, i.paused.held.sized); fact = (c.if-state-a-eq0.false, (i.paused.held.tailed _ b).behind c.if-state-a-eq0.false) }
 
 pub returns-then-not-refill : goal.returns-then-not-refill
 returns-then-not-refill c =
     let i = c.loop-landed.invariant in
     let p = c.in-Nothing.is in
-    let gone = c.if-left-a-eq0.false in
+    let gone = c.if-state-a-eq0.false in
     let goal = c.goal-target.ensures in
     loop_none i p gone goal c.refill.ensures c.if-not-refill.true
 
@@ -59,7 +59,7 @@ pub leapfrog_search-t-requires : goal.leapfrog_search-t-requires
 leapfrog_search-t-requires c =
     let i = c.loop-landed.invariant in
     let p = c.in-Nothing.is in
-    let gone = c.if-left-a-eq0.false in
+    let gone = c.if-state-a-eq0.false in
     let goal = c.goal-target.ensures in
     let filled = c.refill.ensures in
     let so = c.if-not-refill.false in
@@ -69,7 +69,7 @@ pub overflow_add-seeks : goal.overflow_add-seeks
 overflow_add-seeks c =
     let i = c.loop-landed.invariant in
     let p = c.in-Nothing.is in
-    let gone = c.if-left-a-eq0.false in
+    let gone = c.if-state-a-eq0.false in
     let goal = c.goal-target.ensures in
     let filled = c.refill.ensures in
     let so = c.if-not-refill.false in
@@ -79,7 +79,7 @@ pub loop-landed-smaller : goal.loop-landed-smaller
 loop-landed-smaller c =
     let i = c.loop-landed.invariant in
     let p = c.in-Nothing.is in
-    let gone = c.if-left-a-eq0.false in
+    let gone = c.if-state-a-eq0.false in
     let goal = c.goal-target.ensures in
     let filled = c.refill.ensures in
     let so = c.if-not-refill.false in
@@ -89,7 +89,7 @@ pub loop-landed-preserved : goal.loop-landed-preserved
 loop-landed-preserved c =
     let i = c.loop-landed.invariant in
     let p = c.in-Nothing.is in
-    let gone = c.if-left-a-eq0.false in
+    let gone = c.if-state-a-eq0.false in
     let goal = c.goal-target.ensures in
     let filled = c.refill.ensures in
     let so = c.if-not-refill.false in

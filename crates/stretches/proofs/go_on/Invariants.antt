@@ -1,11 +1,10 @@
 -- `stretches::go_on` meets its contract. The loop keeps that the definition over the whole runs comes to the same from here; the measure is the number of keys behind the pieces, which falls with each piece taken.
 use Rattle.query.specs.Meet.{total}
-use Rattle.stretches.specs.Stand.{state}
 use Rattle.stretches.proofs.Pausing.{tails_in, Looping}
 use Rattle.stretches.proofs.go_on.Given as goal
 
 abbrev pub invariant-loop-landed : goal.invariant-loop-landed
-invariant-loop-landed l = Looping l.pool (state l.initial.at l.initial.end l.initial.own l.initial.left) (state l.at l.end l.own l.left) l.ends l.ring l.k l.initial.landed l.initial.seeks l.landed l.seeks
+invariant-loop-landed l = Looping l.pool l.initial.state l.state l.ends l.ring l.k l.initial.landed l.initial.seeks l.landed l.seeks
 
 abbrev pub decreases-loop-landed : goal.decreases-loop-landed
-decreases-loop-landed l = total (tails_in l.pool (state l.at l.end l.own l.left) l.ends l.ring l.k)
+decreases-loop-landed l = total (tails_in l.pool l.state l.ends l.ring l.k)

@@ -13,9 +13,6 @@ pub whole_next-requires : goal.whole_next-requires
 whole_next-requires c =
     turn_agreed c.requires.whole_agreed c.requires.same_atoms c.args.last c.chosen-turn.ensures (begins (goal.at.whole_next-requires c).Joined-last)
 
-pub since-requires : goal.since-requires
-since-requires c = tt
-
 pub returns : goal.returns
 returns c =
     turn_onward c.requires.whole_agreed c.requires.same_atoms c.args.last c.chosen-turn.ensures (begins (goal.at.returns c).Joined-last) c.args.seeks c.since.ensures c.whole_next.ensures

@@ -1,6 +1,6 @@
 -- `depth::open` meets its contract: one without keys refuses, or the leapfrog begins on the keys under the atoms' words.
 use native.Mathlib.Omega.{arith}
-use Rattle.stretches.specs.Stand.{State, state}
+use Rattle.stretches.specs.declared.State.{State}
 use Rattle.join_openings.specs.Openings.{Openable}
 use Rattle.join_openings.proofs.Openings.{all_true, all_false}
 use Rattle.join_depths.proofs.Depths.{openable}
@@ -11,7 +11,7 @@ use Rattle.join_depths.proofs.depth.open.Goals.{Start}
 
 -- the arrays as they were
 abbrev arrays : Start → State
-arrays s = state s.args.at.now s.args.end.now s.args.own.now s.args.left.now
+arrays s = s.args.state.now
 
 can : (s : Start) → Openable s.args.pool.now s.args.plan.now s.args.ends.now s.args.depth (arrays s)
 can s = openable (arrays s) s.requires.standing.stands s.requires.depth_lt_n.0 s.requires.depth_lt_n.1.last
@@ -40,9 +40,6 @@ whole_init-requires c =
     let o = c.open_all in
     let p = all_true o.ensures c.if-not-open_all.false in
     record { whole_ready = begin_ready (arrays (goal.at.whole_init-requires c).Start) c.requires.depth_lt_n.0 c.requires.standing p; ascends = begin_ascends (arrays (goal.at.whole_init-requires c).Start) c.requires.depth_lt_n.0 c.requires.standing p }
-
-pub since-requires : goal.since-requires
-since-requires c = tt
 
 pub returns : goal.returns
 returns c =
