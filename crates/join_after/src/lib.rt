@@ -55,7 +55,8 @@ fn list_after(
 
 // Joins as `join` does, and writes the rows that come strictly after the given one as read in the query's order; where it does not go on, it starts, and writes
 // them from the first. The given row need not be an answer, and its words past n do not count. `last` is the last row written, or the given one if none was; at
-// a start without rows, and in refusals but 12, zeros. Refuses as `join` does; 12 says that more rows remain than fit the window.
+// a start without rows, and in refusals but 12, zeros. Refuses as `join` does; 12 says that more rows remain than fit the window. The flag stands beside the row
+// because C's ducatbriar_join_after has it so.
 pub fn join_after(
     strategy: SeekStrategy,
     pool: &[u64],

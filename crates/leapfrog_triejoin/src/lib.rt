@@ -15,6 +15,7 @@ use join_query::{Query, Tables};
 use refusal::Refusal;
 use seek::SeekStrategy;
 
+// C's `ducatbriar_joined`: `number` is 0 where nothing refuses, and the rows count also beside 12.
 #[repr(C)]
 #[derive(Clone, Copy)]
 pub struct Joined {
