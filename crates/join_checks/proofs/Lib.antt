@@ -1,0 +1,2 @@
+pub mod Every
+pub mod Refused
