@@ -2,10 +2,9 @@
 -- them exactly where it is that word.
 use Prim.Native.Nat.{ℕ, zero, suc, ◌+◌, ◌-◌, ◌≤◌, ◌<◌}
 use native.Mathlib.Omega.{arith}
-use native.Mathlib.Decide.{dec_lt}
 use mathlib.Core.Path.{◌≡◌, refl, sym, subst, ap, ◌∙◌}
-use mathlib.Core.Bool.{Bool, true, false}
 use mathlib.Core.List.{List, [], ◌∷◌, ◌++◌, append_assoc}
+use Rattle.std.specs.Prelude.{Some, None}
 use lib.ListN.{length, get_or, take, drop}
 use lib.Seq.{slice, slice_empty, slice-cons, length-slice, drop-drop, split_at, take-take, get_or-take, length-take-le}
 use Rattle.relation.specs.Order.{Row}
@@ -17,7 +16,7 @@ use Rattle.relation.proofs.Runs.{from_in, from_ascends, from_drop, head_least}
 use Rattle.query.specs.Meaning.{part}
 use Rattle.query.proofs.Meet.{none_left}
 use Rattle.query.proofs.Beyond.{in_keys, keys_in, keys_ascend}
-use Rattle.plain_keys.specs.Keys.{bound, Least, head_of}
+use Rattle.plain_keys.specs.Keys.{Least, First, head_of}
 use Rattle.plain_keys.proofs.Descent.{Under, slice_at}
 
 module _ {keys : List ℕ} {rows : List Row} {p : Row} {f e : ℕ} (u : Under keys rows p f e) {key r : ℕ} (l : Least keys f e key r) where
@@ -36,14 +35,14 @@ module _ {keys : List ℕ} {rows : List Row} {p : Row} {f e : ℕ} (u : Under ke
       ∙ drop-drop (r - f) f (take e keys)
       ∙ ap (λ (x : ℕ). slice x e keys) z
 
-  pub head_none : r ≡ e → record { found = false; key = 0 } ≡ head_of (from key (keys_under p rows))
+  pub head_none : r ≡ e → None ≡ head_of (from key (keys_under p rows))
   unfolding head_of
   head_none d = ap head_of (sym (cut ∙ ap (λ (x : ℕ). slice x e keys) d ∙ slice_empty e keys))
 
   here : r < e → from key (keys_under p rows) ≡ get_or keys r 0 ∷ slice (suc r) e keys
   here h = cut ∙ slice-cons r e keys 0 h u.rising.inside
 
-  pub head_some : r < e → record { found = true; key = get_or keys r 0 } ≡ head_of (from key (keys_under p rows))
+  pub head_some : r < e → Some (get_or keys r 0) ≡ head_of (from key (keys_under p rows))
   unfolding head_of
   head_some h = ap head_of (sym (here h))
 
@@ -73,38 +72,23 @@ words_at [] row d h = absurd (omega arith)
 words_at (x ∷ xs) row zero h = refl
 words_at (x ∷ xs) row (suc d) h = words_at xs row d (omega arith)
 
--- column d is searched: the last one for the bound that is sought, one before it for the word itself
-pub record Looked (keys : List ℕ) (rows : List Row) (words : Row) (len : ℕ) (past : Bool) (d f e at : ℕ) : Type 0 where
-  pub under : Under keys rows (take d words) f e
-  pub flag : Bool
-  pub least : Least keys f e (bound flag (get_or words d 0)) at
-  pub last : d ≡ len → flag ≡ past
-  pub before : (d ≡ len → ⊥) → flag ≡ false
+-- what a search of a group finds
+module _ {keys : List ℕ} {rows : List Row} {p : Row} {f e : ℕ} (u : Under keys rows p f e) {key : ℕ} where
+  pub found_none : First keys f e key None → None ≡ head_of (from key (keys_under p rows))
+  found_none l = head_none u l refl
 
-module _ {keys : List ℕ} {rows : List Row} {words : Row} {len : ℕ} {past : Bool} {d f e at : ℕ} (k : Looked keys rows words len past d f e at) where
-  at_last : d ≡ len → Under keys rows (take len words) f e × Least keys f e (bound past (get_or words len 0)) at
-  at_last g = (
-    subst (λ (n : ℕ). Under keys rows (take n words) f e) g k.under,
-    subst (λ (n : ℕ). Least keys f e (bound past (get_or words n 0)) at) g (subst (λ (b : Bool). Least keys f e (bound b (get_or words d 0)) at) (k.last g) k.least),
-  )
+  pub found_some : {x : ℕ × ℕ} → First keys f e key (Some x) → Some x.1 ≡ head_of (from key (keys_under p rows))
+  found_some {x} l = ap (λ (k : ℕ). Some k) l.2 ∙ head_some u l.0 l.1
 
-  pub looked_some : d ≡ len → at < e → record { found = true; key = get_or keys at 0 } ≡ head_of (from (bound past (get_or words len 0)) (keys_under (take len words) rows))
-  looked_some g h = let z = at_last g in head_some z.0 z.1 h
+  -- a word that is not found is not there
+  module _ {a : ℕ} (w : Width a rows) (b : length p < a) where
+    pub gone_none : First keys f e key None → key ∈ keys_under p rows → ⊥
+    gone_none l = not_there u l refl
 
-  -- no key, or not the word, in a column before the last
-  pub looked_none : {a : ℕ} → Width a rows → len < a → len ≤ length words → d ≤ len → (at < e → (d ≡ len → ⊥) × (get_or keys at 0 ≡ get_or words d 0 → ⊥)) → record { found = false; key = 0 } ≡ head_of (from (bound past (get_or words len 0)) (keys_under (take len words) rows))
-  unfolding head_of from
-  looked_none {a} w b n h g = go (dec_lt d len)
-    where
-      top : (at < e → ⊥) → at ≡ e
-      top z = omega (arith, k.least.high, z)
+    pub gone_some : {x : ℕ × ℕ} → First keys f e key (Some x) → (x.1 ≡ key → ⊥) → key ∈ keys_under p rows → ⊥
+    gone_some {x} l n = not_it u l.0 w b l.1 (λ q. n (l.2 ∙ q))
 
-      gone : Least keys f e (get_or words d 0) at → d < len → Dec (at < e) → get_or words d 0 ∈ keys_under (take d words) rows → ⊥
-      gone l j (yes i) = not_it k.under l w (omega (arith, length-take-le d words (omega arith))) i (g i).1
-      gone l j (no i) = not_there k.under l (top i)
-
-      go : Dec (d < len) → record { found = false; key = 0 } ≡ head_of (from (bound past (get_or words len 0)) (keys_under (take len words) rows))
-      go (yes j) =
-          let l = subst (λ (x : Bool). Least keys f e (bound x (get_or words d 0)) at) (k.before (λ z. omega arith)) k.least in
-          ap (λ (ks : List ℕ). head_of (from (bound past (get_or words len 0)) ks)) (sym (missing words d len w j n b (gone l j (dec_lt at e))))
-      go (no j) = let q : d ≡ len = omega arith in let z = at_last q in head_none z.0 z.1 (top (λ i. (g i).0 q))
+-- so no row begins with the words up to it
+pub head_missing : (words : List ℕ) (d len bound : ℕ) {a : ℕ} {rows : List Row} → Width a rows → d < len → len ≤ length words → len < a → (get_or words d 0 ∈ keys_under (take d words) rows → ⊥) → None ≡ head_of (from bound (keys_under (take len words) rows))
+unfolding head_of from
+head_missing words d len bound w h l b n = ap (λ (ks : List ℕ). head_of (from bound ks)) (sym (missing words d len w h l b n))

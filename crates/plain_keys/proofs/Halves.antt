@@ -1,60 +1,65 @@
--- The search by halves: when a word comes too early; below the low end every word is below the key, from the high end on none is.
-use Prim.Native.Nat.{ℕ, suc, ◌+◌, ◌≤◌, ◌<◌}
+-- The search by halves: the words of a group, and what the point that ends the search says of their places.
+use Prim.Native.Nat.{ℕ, ◌+◌, ◌-◌, ◌≤◌, ◌<◌}
 use native.Mathlib.Omega.{arith}
-use mathlib.Core.Path.{◌≡◌, refl, sym, subst, ap, ◌∙◌}
-use mathlib.Core.Bool.{Bool, true, false}
-use mathlib.Core.Logic.{⊎_elim}
 use native.Mathlib.Nat.{eq-or-lt_of_le}
+use mathlib.Core.Path.{◌≡◌, sym, subst, ap, ◌∙◌}
+use mathlib.Core.Bool.{Bool, true, false, ◌&&◌, ◌||◌}
+use mathlib.Core.Logic.{⊎_elim}
 use mathlib.Core.List.{List}
-use lib.ListN.{get_or}
+use lib.ListN.{length, get_or, take, drop, length-drop}
+use lib.Seq.{get_or-take, get_or-drop, length-take-le}
 use lib.Dec.{eqb, ltb}
-use borrow.Author.Tests.{eqb-true, eqb-false, lt-ltb, le-ltb}
+use borrow.Author.Tests.{ltb-true, ltb-false, lt-ltb}
+use Rattle.std.specs.List.Sorted.{IsPartitionedBy, IsPartitionPoint}
+use Rattle.std.proofs.lemmas.Grind.{common_steps}
+use Rattle.relation.proofs.Lists.{get_or_any}
 use Rattle.plain_keys.specs.Keys.{bound, Rising, Least}
 
-module _ (word key : ℕ) where
-  pub early_below : (past : Bool) → word < key → true ≡ ltb word (bound past key)
-  early_below true h = sym (lt-ltb word (suc key) (omega arith))
-  early_below false h = sym (lt-ltb word key h)
+-- whether a word comes before the one sought, as the search tests it
+abbrev pub early : Bool → ℕ → ℕ → Bool
+early past key word = ltb word key || (past && eqb word key)
 
-  pub early_same : {past : Bool} → past ≡ true → key ≤ word → eqb word key ≡ ltb word (bound past key)
-  early_same e h = go (eqb word key) refl ∙ ap (λ (b : Bool). ltb word (bound b key)) (sym e)
-    where
-      go : (b : Bool) → eqb word key ≡ b → b ≡ ltb word (suc key)
-      go true d = sym (lt-ltb word (suc key) (omega (arith, eqb-true word key d)))
-      go false d = sym (le-ltb word (suc key) (omega (arith, eqb-false word key d)))
+early_is : (past : Bool) (key word : ℕ) → early past key word ≡ ltb word (bound past key)
+early_is false key word = grind (arith, common_steps)
+early_is true key word = grind (arith, common_steps)
 
-  pub early_not : {past : Bool} → past ≡ false → key ≤ word → false ≡ ltb word (bound past key)
-  early_not e h = sym (le-ltb word key h) ∙ ap (λ (b : Bool). ltb word (bound b key)) (sym e)
+-- the words from place `from` up to place `to`
+abbrev pub group : List ℕ → ℕ → ℕ → List ℕ
+group keys from to = take (to - from) (drop from keys)
 
-pub record Halving (keys : List ℕ) (from to key low high : ℕ) : Type 0 where
-  pub first : from ≤ low
-  pub order : low ≤ high
-  pub last : high ≤ to
-  pub below : (i : ℕ) → from ≤ i → i < low → get_or keys i 0 < key
-  pub above : (i : ℕ) → high ≤ i → i < to → key ≤ get_or keys i 0
+module _ {keys : List ℕ} {from to : ℕ} (r : Rising keys from to) where
+  pub group_long : length (group keys from to) ≡ to - from
+  group_long = length-take-le (to - from) (drop from keys) (omega (arith, r.inside, length-drop from keys))
 
-module _ {keys : List ℕ} {from to key : ℕ} where
-  pub halving_start : Rising keys from to → Halving keys from to key from to
-  halving_start r = record { first = omega arith; order = r.forward; last = omega arith; below = λ i a b. absurd (omega arith); above = λ i a b. absurd (omega arith) }
+  pub group_word : (k d : ℕ) → k < to - from → get_or (group keys from to) k d ≡ get_or keys (from + k) 0
+  group_word k d h = get_or-take (to - from) (drop from keys) k d h ∙ get_or-drop from keys k d ∙ get_or_any keys (from + k) d 0 (omega (arith, r.inside))
 
-  module _ (r : Rising keys from to) {low high : ℕ} (h : Halving keys from to key low high) (m : ℕ) (lo : low ≤ m) (hi : m < high) where
-    pub halving_up : get_or keys m 0 < key → Halving keys from to key (m + 1) high
-    halving_up l = record {
-      first = omega (arith, h.first);
-      order = omega arith;
-      last = h.last;
-      below = λ i a b. ⊎_elim (λ (e : i ≡ m). rw e l) (λ (g : i < m). omega (arith, l, r.rises i m a g (omega (arith, h.last)))) (eq-or-lt_of_le (let z : i ≤ m = omega arith in z));
-      above = h.above;
-    }
+  module _ (past : Bool) (key : ℕ) where
+    pub parted : IsPartitionedBy (early past key) (group keys from to)
+    parted i j d h l e =
+        let m : j < to - from = omega (arith, group_long) in
+        let a = ltb-true (get_or (group keys from to) j d) (bound past key) (sym (early_is past key (get_or (group keys from to) j d)) ∙ e) in
+        let b : get_or keys (from + i) 0 ≤ get_or keys (from + j) 0 = ⊎_elim (λ (q : i ≡ j). rw q (omega arith)) (λ (q : i < j). let z = r.rises (from + i) (from + j) (omega arith) (omega arith) (omega arith) in omega (arith, z)) (eq-or-lt_of_le h) in
+        early_is past key (get_or (group keys from to) i d) ∙ lt-ltb (get_or (group keys from to) i d) (bound past key) (omega (arith, a, b, group_word i d (omega arith), group_word j d m))
 
-    pub halving_down : key ≤ get_or keys m 0 → Halving keys from to key low m
-    halving_down l = record {
-      first = h.first;
-      order = lo;
-      last = omega (arith, h.last);
-      below = h.below;
-      above = λ i a b. ⊎_elim (λ (e : m ≡ i). subst (λ (x : ℕ). key ≤ get_or keys x 0) e l) (λ (g : m < i). omega (arith, l, r.rises m i (omega (arith, h.first)) g b)) (eq-or-lt_of_le a);
-    }
+    pub least_point : {at : ℕ} → IsPartitionPoint (λ w. early past key w ≡ true) (λ w. early past key w ≡ false) (group keys from to) at → at ≤ length (group keys from to) → Least keys from to (bound past key) (from + at)
+    least_point {at} p l =
+        let n = group_long in
+        let s = r.forward in
+        record {
+          low = omega arith;
+          high = omega arith;
+          below = λ i a b.
+              let z : from + (i - from) ≡ i = omega arith in
+              let e = ltb-true (get_or (group keys from to) (i - from) 0) (bound past key) (sym (early_is past key (get_or (group keys from to) (i - from) 0)) ∙ p.0 (i - from) 0 (omega arith) (omega arith)) in
+              let w = group_word (i - from) 0 (omega arith) ∙ ap (λ (x : ℕ). get_or keys x 0) z in
+              omega (arith, e, w);
+          reached = λ b.
+              let e = ltb-false (get_or (group keys from to) at 0) (bound past key) (sym (early_is past key (get_or (group keys from to) at 0)) ∙ p.1 at 0 (omega arith) (omega arith)) in
+              omega (arith, e, group_word at 0 (omega arith));
+        }
 
-  pub halving_end : {low high : ℕ} → Halving keys from to key low high → high ≤ low → Least keys from to key low
-  halving_end {low} {high} h e = record { low = h.first; high = omega (arith, h.order, h.last); below = h.below; reached = λ l. h.above low e l }
+-- the same of a group that is known by another name
+pub least_of : {keys keys' : List ℕ} {from from' to to' key at at' : ℕ} → keys ≡ keys' → from ≡ from' → to ≡ to' → at ≡ at' → Least keys from to key at → Least keys' from' to' key at'
+least_of {keys} {keys'} {from} {from'} {to} {to'} {key} {at} {at'} p q r s l =
+    subst (λ (x : List ℕ). Least x from' to' key at') p (subst (λ (x : ℕ). Least keys x to' key at') q (subst (λ (x : ℕ). Least keys from x key at') r (subst (Least keys from to key) s l)))

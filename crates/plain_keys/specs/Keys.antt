@@ -1,13 +1,13 @@
 -- Internal: contracts of the search for keys: places whose keys ascend, the first key of a run, and what a search may rely on.
-use Rattle.std.specs.Prelude.{ℕ, suc, ◌≤◌, ◌<◌, ◌≡◌, Bool, true, false, List, [], ◌∷◌, length, get_or}
+use Rattle.std.specs.Prelude.{ℕ, suc, ◌+◌, ◌≤◌, ◌<◌, ◌≡◌, Bool, true, List, [], ◌∷◌, length, get_or, Option, Some, None}
 use Rattle.relation.specs.Order.{Row, pick}
 use Rattle.query.specs.Meaning.{part}
-use Rattle.column_trie.specs.Table.{Undamaged}
+use Rattle.column_trie.specs.Table.{layer_in, data_len_at, Undamaged}
+use Rattle.column_trie.specs.declared.ColumnTrie.{ColumnTrie}
 use Rattle.laid_over.specs.Shape.{SameShape}
 use Rattle.join_query.specs.Query.{max_tables, max_variables, table_at, var_at}
 use Rattle.join_query.specs.declared.Atom.{Atom}
 use Rattle.join_query.specs.declared.Tables.{Tables}
-use Rattle.plain_keys.specs.declared.Next.{Next}
 
 -- the least key that is sought: one from `key` on, or above it
 abbrev pub bound : Bool → ℕ → ℕ
@@ -26,10 +26,26 @@ pub record Least (keys : List ℕ) (from to key r : ℕ) : Type 0 where
   pub below : (i : ℕ) → from ≤ i → i < r → get_or keys i 0 < key
   pub reached : r < to → key ≤ get_or keys r 0
 
+-- what is found there: nothing, where that is their end; else the place with its key
+abbrev pub First : List ℕ → ℕ → ℕ → ℕ → Option (ℕ × ℕ) → Type 0
+First keys from to key None = Least keys from to key to
+First keys from to key (Some f) = Least keys from to key f.0 × (f.0 < to) × (f.1 ≡ get_or keys f.0 0)
+
+-- where the group of interval i of layer d begins among the layer's keys; it ends where the next one's does
+abbrev pub group_at : List ℕ → ColumnTrie → ℕ → ℕ → ℕ
+group_at pool t d i = get_or (layer_in pool t d).intervals i (data_len_at t d)
+
+-- a group whose keys ascend, in a table that lies undamaged in the pool
+pub record Grouped (pool : List ℕ) (t : ColumnTrie) (d i : ℕ) : Type 0 where
+  pub sound : Undamaged pool t
+  pub column : d < t.arity
+  pub few : i ≤ length pool
+  pub rising : Rising (layer_in pool t d).keys (group_at pool t d i) (group_at pool t d (i + 1))
+
 -- the first key of a run, if it has one
-unfoldable pub head_of : List ℕ → Next
-head_of [] = record { found = false; key = 0 }
-head_of (k ∷ ks) = record { found = true; key = k }
+unfoldable pub head_of : List ℕ → Option ℕ
+head_of [] = None
+head_of (k ∷ ks) = Some k
 
 -- the words that a row has for an atom's variables, column by column
 abbrev pub words : Atom → Row → Row
