@@ -4,10 +4,11 @@ use Prim.Native.Nat.{ℕ, zero, suc, ◌+◌, ◌-◌, ◌≤◌, ◌<◌}
 use native.Mathlib.Omega.{arith}
 use native.Mathlib.Decide.{dec_lt}
 use native.Mathlib.Numerals.{add-one}
-use mathlib.Core.Path.{◌≡◌, refl, sym, ap, ◌∙◌}
+use mathlib.Core.Path.{◌≡◌, refl, sym, subst, ap, ◌∙◌}
 use mathlib.Core.List.{List, [], ◌∷◌, ◌++◌}
-use lib.ListN.{length, get_or, take, length-append, get_or-eq_default}
-use lib.Seq.{slice, slice_empty, length-slice, get_or-take, get_or-drop}
+use lib.ListN.{length, get_or, take, drop, length-append, length-take, get_or-eq_default}
+use lib.Seq.{slice, slice_empty, get_or-take, get_or-drop}
+use Rattle.std.proofs.lemmas.List.{drop-take}
 use Rattle.relation.specs.Order.{Row}
 use Rattle.relation.specs.Lists.{Ascends, anone, amore}
 use Rattle.relation.specs.Rows.{Width}
@@ -16,7 +17,6 @@ use Rattle.relation.proofs.Lists.{get_or_any, get_or_in}
 use Rattle.relation.proofs.Relations.{length_prefixes}
 use Rattle.relation.proofs.Tables.{ranked_at_lem}
 use Rattle.relation.proofs.Intervals.{intervals_many, keys_many, group_under, group_end, group_rises, group_child, prefix_root, root_there}
-use Rattle.query.proofs.Beyond.{keys_ascend}
 use Rattle.query.proofs.Under.{keys_none}
 use Rattle.column_trie.specs.Table.{data_len_at, layer_in, rows_in, Undamaged}
 use Rattle.column_trie.specs.declared.ColumnTrie.{ColumnTrie}
@@ -26,35 +26,26 @@ use Rattle.column_trie.proofs.Layers.{Whole}
 use Rattle.column_trie.proofs.Stored.{in_pool}
 use Rattle.column_trie.proofs.Tables.{holds}
 use Rattle.column_trie.proofs.Words.{layer_is}
-use Rattle.plain_keys.specs.Keys.{Rising, group_at, Grouped}
+use Rattle.plain_keys.specs.Keys.{group_at, group_keys, Grouped}
 
 -- ---- runs of words
 
-ascends_at : {l : List ℕ} → Ascends ◌<◌ l → (i j : ℕ) → i < j → j < length l → get_or l i 0 < get_or l j 0
+pub ascends_at : {l : List ℕ} → Ascends ◌<◌ l → (i j : ℕ) → i < j → j < length l → get_or l i 0 < get_or l j 0
 ascends_at anone i j h k = absurd (omega arith)
 ascends_at (amore f s) i zero h k = absurd (omega arith)
 ascends_at (amore {r = x} {rs = xs} f s) zero (suc j) h k = f (get_or xs j 0) (get_or_in xs j 0 (omega arith))
 ascends_at (amore f s) (suc i) (suc j) h k = ascends_at s i j (omega arith) (omega arith)
 
-pub slice_at : (keys : List ℕ) (from to i : ℕ) → from ≤ i → i < to → get_or (slice from to keys) (i - from) 0 ≡ get_or keys i 0
-slice_at keys from to i l h =
-    let e : from + (i - from) ≡ i = omega arith in
-    get_or-drop from (take to keys) (i - from) 0 ∙ ap (λ (n : ℕ). get_or (take to keys) n 0) e ∙ get_or-take to keys i 0 h
-
--- places whose words are an ascending run
-pub rising : (keys : List ℕ) (from to : ℕ) → from ≤ to → to ≤ length keys → Ascends ◌<◌ (slice from to keys) → Rising keys from to
-rising keys from to f l s = record {
-  forward = f;
-  inside = l;
-  rises = λ i j a h b.
-      let m = ascends_at s (i - from) (j - from) (omega arith) (omega (arith, length-slice from to keys l)) in
-      omega (arith, m, slice_at keys from to i a (omega arith), slice_at keys from to j (omega arith) b);
-}
-
--- these places hold the keys that follow p in the rows
+-- the keys from place `from` up to place `to` are those that follow p in the rows
 pub record Under (keys : List ℕ) (rows : List Row) (p : Row) (from to : ℕ) : Type 0 where
-  pub rising : Rising keys from to
-  pub run : slice from to keys ≡ keys_under p rows
+  pub forward : from ≤ to
+  pub inside : to ≤ length keys
+  pub run : take (to - from) (drop from keys) ≡ keys_under p rows
+
+under_slice : {keys : List ℕ} {rows : List Row} {p : Row} {from to : ℕ} → from ≤ to → to ≤ length keys → slice from to keys ≡ keys_under p rows → Under keys rows p from to
+under_slice {keys} {rows} {p} {from} {to} f l e =
+    let z : to ≡ from + (to - from) = omega arith in
+    record { forward = f; inside = l; run = sym (drop-take from (to - from) keys) ∙ ap (λ (n : ℕ). drop from (take n keys)) (sym z) ∙ e }
 
 -- ---- a table
 
@@ -115,10 +106,7 @@ module _ {pool : List ℕ} {t : ColumnTrie} (o : Whole t) (u : Undamaged pool t)
           ∙ ap (slice (get_or lay.intervals i 0) (get_or lay.intervals (suc i) (length lay.keys))) there
           ∙ group_under wide d b i k
           ∙ ap (λ (x : Row). keys_under x rows) (a.under n) in
-          record {
-            rising = rising keys (group_at pool t d i) (group_at pool t d (i + 1)) (omega (arith, f, g, group_rises wide d b i k)) (omega (arith, g, group_end wide d b i k, ap (length {A = ℕ}) there)) (rw r (keys_ascend p wide (omega (arith, a.long))));
-            run = r;
-          }
+          under_slice (omega (arith, f, g, group_rises wide d b i k)) (omega (arith, g, group_end wide d b i k, ap (length {A = ℕ}) there)) r
 
       no_rows : length rows ≡ 0 → (group_at pool t d i ≡ group_at pool t d (i + 1)) × (group_at pool t d (i + 1) ≡ 0)
       no_rows z =
@@ -131,10 +119,7 @@ module _ {pool : List ℕ} {t : ColumnTrie} (o : Whole t) (u : Undamaged pool t)
       none z =
           let w = no_rows z in
           let s : slice (group_at pool t d i) (group_at pool t d (i + 1)) keys ≡ [] = ap (λ (x : ℕ). slice x (group_at pool t d (i + 1)) keys) w.0 ∙ slice_empty (group_at pool t d (i + 1)) keys in
-          record {
-            rising = rising keys (group_at pool t d i) (group_at pool t d (i + 1)) (omega (arith, w.0)) (omega (arith, w.1)) (rw s anone);
-            run = s ∙ sym (keys_none p rows (omega (arith, length_prefixes (suc (length p)) rows)));
-          }
+          under_slice (omega (arith, w.0)) (omega (arith, w.1)) (s ∙ sym (keys_none p rows (omega (arith, length_prefixes (suc (length p)) rows))))
 
       pub at_under : Under (layer_in pool t d).keys (rows_in pool t) p (group_at pool t d i) (group_at pool t d (i + 1))
       at_under = go (dec_lt 0 (length rows))
@@ -144,11 +129,11 @@ module _ {pool : List ℕ} {t : ColumnTrie} (o : Whole t) (u : Undamaged pool t)
           go (no n) = none (omega arith)
 
       pub at_grouped : i ≤ length pool → Grouped pool t d i
-      at_grouped h = record { sound = u; column = b; few = h; rising = at_under.rising }
+      at_grouped h = record { sound = u; column = b; few = h; forward = at_under.forward; inside = at_under.inside }
 
       -- the place of one of these keys is the interval that stands for one word more
-      pub at_child : (at : ℕ) → group_at pool t d i ≤ at → at < group_at pool t d (i + 1) → At pool t (d + 1) at (p ++ get_or (layer_in pool t d).keys at 0 ∷ []) × (at ≤ length pool)
-      at_child at lo hi = (go (dec_lt 0 (length rows)), omega (arith, few, at_under.rising.inside))
+      at_child : (at : ℕ) → group_at pool t d i ≤ at → at < group_at pool t d (i + 1) → At pool t (d + 1) at (p ++ get_or (layer_in pool t d).keys at 0 ∷ []) × (at ≤ length pool)
+      at_child at lo hi = (go (dec_lt 0 (length rows)), omega (arith, few, at_under.inside))
         where
           long : length (p ++ get_or keys at 0 ∷ []) ≡ d + 1
           long = length-append p (get_or keys at 0 ∷ []) ∙ ap (λ (n : ℕ). n + 1) a.long
@@ -165,3 +150,14 @@ module _ {pool : List ℕ} {t : ColumnTrie} (o : Whole t) (u : Undamaged pool t)
                 inside = λ h. rw (add-one d) c.0;
               }
           go (no n) = absurd (omega (arith, (no_rows (omega arith)).0))
+
+      -- so each key of the group, by its place there
+      pub at_key : (k : ℕ) → k < length (group_keys pool t d i) → At pool t (d + 1) (group_at pool t d i + k) (p ++ get_or (group_keys pool t d i) k 0 ∷ []) × (group_at pool t d i + k ≤ length pool)
+      at_key k h =
+          let from = group_at pool t d i in
+          let n = group_at pool t d (i + 1) - from in
+          let l = length-take n (drop from keys) in
+          let f = at_under.forward in
+          let e : get_or (group_keys pool t d i) k 0 ≡ get_or keys (from + k) 0 = get_or-take n (drop from keys) k 0 (omega arith) ∙ get_or-drop from keys k 0 in
+          let c = at_child (from + k) (omega arith) (omega arith) in
+          (subst (λ (x : ℕ). At pool t (d + 1) (from + k) (p ++ x ∷ [])) (sym e) c.0, c.1)

@@ -1,5 +1,5 @@
--- Internal: contracts of the search for keys: places whose keys ascend, the first key of a run, and what a search may rely on.
-use Rattle.std.specs.Prelude.{ℕ, suc, ◌+◌, ◌≤◌, ◌<◌, ◌≡◌, Bool, true, List, [], ◌∷◌, length, get_or, Option, Some, None}
+-- Internal: contracts of the search for keys: the group of an interval, the first key of a run, and what a search may rely on.
+use Rattle.std.specs.Prelude.{ℕ, suc, ◌+◌, ◌-◌, ◌≤◌, ◌<◌, ◌≡◌, Bool, true, List, [], ◌∷◌, length, get_or, take, drop, Option, Some, None}
 use Rattle.relation.specs.Order.{Row, pick}
 use Rattle.query.specs.Meaning.{part}
 use Rattle.column_trie.specs.Table.{layer_in, data_len_at, Undamaged}
@@ -13,34 +13,21 @@ use Rattle.join_query.specs.declared.Tables.{Tables}
 abbrev pub bound : Bool → ℕ → ℕ
 bound past key = pick past (suc key) key
 
--- the keys from place `from` up to place `to` ascend
-pub record Rising (keys : List ℕ) (from to : ℕ) : Type 0 where
-  pub forward : from ≤ to
-  pub inside : to ≤ length keys
-  pub rises : (i j : ℕ) → from ≤ i → i < j → j < to → get_or keys i 0 < get_or keys j 0
-
--- r is the first of these places whose key is not below the one sought, or their end
-pub record Least (keys : List ℕ) (from to key r : ℕ) : Type 0 where
-  pub low : from ≤ r
-  pub high : r ≤ to
-  pub below : (i : ℕ) → from ≤ i → i < r → get_or keys i 0 < key
-  pub reached : r < to → key ≤ get_or keys r 0
-
--- what is found there: nothing, where that is their end; else the place with its key
-abbrev pub First : List ℕ → ℕ → ℕ → ℕ → Option (ℕ × ℕ) → Type 0
-First keys from to key None = Least keys from to key to
-First keys from to key (Some f) = Least keys from to key f.0 × (f.0 < to) × (f.1 ≡ get_or keys f.0 0)
-
 -- where the group of interval i of layer d begins among the layer's keys; it ends where the next one's does
 abbrev pub group_at : List ℕ → ColumnTrie → ℕ → ℕ → ℕ
 group_at pool t d i = get_or (layer_in pool t d).intervals i (data_len_at t d)
 
--- a group whose keys ascend, in a table that lies undamaged in the pool
+-- its keys
+abbrev pub group_keys : List ℕ → ColumnTrie → ℕ → ℕ → List ℕ
+group_keys pool t d i = take (group_at pool t d (i + 1) - group_at pool t d i) (drop (group_at pool t d i) (layer_in pool t d).keys)
+
+-- a group that lies among the layer's keys, in a table that lies undamaged in the pool
 pub record Grouped (pool : List ℕ) (t : ColumnTrie) (d i : ℕ) : Type 0 where
   pub sound : Undamaged pool t
   pub column : d < t.arity
   pub few : i ≤ length pool
-  pub rising : Rising (layer_in pool t d).keys (group_at pool t d i) (group_at pool t d (i + 1))
+  pub forward : group_at pool t d i ≤ group_at pool t d (i + 1)
+  pub inside : group_at pool t d (i + 1) ≤ length (layer_in pool t d).keys
 
 -- the first key of a run, if it has one
 unfoldable pub head_of : List ℕ → Option ℕ

@@ -1,13 +1,13 @@
 // Internal: the keys that follow some words in a table, or in an atom's rows, found by plain search from the root. No cursor is kept, and no key is skipped unseen.
 #![tactic(auto)]
 
-ghost use Rattle.std.specs.Prelude.{◌≡◌, [], ◌+◌, ◌<◌, take, get_or};
+ghost use Rattle.std.specs.Prelude.{◌≡◌, [], ◌<◌, take, get_or};
 ghost use Rattle.relation.specs.Runs.{from};
 ghost use Rattle.relation.specs.Layers.{keys_under};
 ghost use Rattle.query.specs.Meet.{has};
-ghost use Rattle.column_trie.specs.Table.{layer_in, rows_in, Undamaged};
+ghost use Rattle.column_trie.specs.Table.{rows_in, Undamaged};
 ghost use Rattle.join_query.specs.Query.{rows_at};
-ghost use Rattle.plain_keys.specs.Keys.{words, bound, First, group_at, Grouped, head_of, Named, Readable};
+ghost use Rattle.plain_keys.specs.Keys.{words, bound, group_at, group_keys, Grouped, head_of, Named, Readable};
 
 use column_trie::{ColumnTrie, begins, layer_keys};
 use join_query::{Atom, Query, Tables};
@@ -15,29 +15,15 @@ use join_query::{Atom, Query, Tables};
 // A word for each variable, by number.
 pub type Row = [u64; Query::MAX_VARIABLES];
 
-// The first key of the group of interval i of layer `d` that is `key` or above it or, where one past it is sought, above it; with its place in the layer, which is the number of its
-// interval below.
-fn first(
-    pool: &[u64],
-    t: ColumnTrie,
-    d: usize,
-    i: usize,
-    past: bool,
-    key: u64,
-) -> Option<(usize, u64)>
+// The group of interval i of layer `d`: the keys that follow the words for which the interval stands; with the place of the first of them in the layer. A key's place is the
+// number of its interval below.
+fn group<'a>(pool: &'a [u64], t: ColumnTrie, d: usize, i: usize) -> (usize, &'a [u64])
     requires { Grouped pool.now t d i }
-    ensures { First (layer_in pool.now t d).keys (group_at pool.now t d i) (group_at pool.now t d (i + 1)) (bound past key) result }
+    ensures { (result.0 ≡ group_at pool.now t d i) × (result.1.now ≡ group_keys pool.now t d i) }
 {
-    let keys = layer_keys(pool, t, d);
     let from = begins(pool, t, d, i);
     let to = begins(pool, t, d, i + 1);
-    let group = &keys[from..to];
-    let at = group.partition_point(|&k| k < key || (past && k == key));
-    if at < group.len() {
-        Some((from + at, group[at]))
-    } else {
-        None
-    }
+    (from, &layer_keys(pool, t, d)[from..to])
 }
 
 // The least key of the table in column `len`, from the row's word there on, or above it, that follows the row's words for the columns before.
@@ -47,15 +33,13 @@ fn next_in(pool: &[u64], t: ColumnTrie, a: Atom, row: Row, len: usize, past: boo
 {
     let mut i = 0;
     for d in 0..len {
-        let word = row[a.variables[d]];
-        let (place, key) = first(pool, t, d, i, false, word)?;
-        if key != word {
-            return None;
-        }
-        i = place;
+        let (first, keys) = group(pool, t, d, i);
+        i = first + keys.binary_search(&row[a.variables[d]]).ok()?;
     }
-    let (_, key) = first(pool, t, len, i, past, row[a.variables[len]])?;
-    Some(key)
+    let (_, keys) = group(pool, t, len, i);
+    let word = row[a.variables[len]];
+    let at = keys.partition_point(|&key| key < word || (past && key == word));
+    keys.get(at).copied()
 }
 
 // Whether the table has the row's word for the first column among its first keys.

@@ -7,19 +7,24 @@ use mathlib.Core.List.{[], ◌∷◌, ◌++◌}
 use lib.ListN.{length, get_or, take, length-map}
 use lib.Seq.{take-suc, length-take-le}
 use borrow.Author.Rules.{rules}
+use Rattle.query.proofs.Beyond.{keys_ascend}
 use Rattle.column_trie.specs.Limits.{max_arity}
 use Rattle.column_trie.specs.Table.{layer_in, rows_in}
 use Rattle.column_trie.proofs.Layers.{Whole}
 use Rattle.relation.specs.Order.{Row}
-use Rattle.relation.specs.Lists.{◌∈◌}
+use Rattle.relation.specs.Lists.{◌∈◌, Ascends}
 use Rattle.relation.specs.Layers.{keys_under}
 use Rattle.relation.specs.Runs.{from}
-use Rattle.std.specs.Prelude.{None}
-use Rattle.plain_keys.specs.Keys.{words, bound, group_at, Grouped, head_of}
-use Rattle.plain_keys.proofs.Descent.{Under, At, at_the_root, at_under, at_child, at_grouped, wide}
-use Rattle.plain_keys.proofs.Found.{words_at, found_none, found_some, gone_none, gone_some, head_missing}
+use Rattle.std.specs.Prelude.{List, Result, Some, None, slice_get}
+use Rattle.std.specs.Result.{result_ok}
+use Rattle.std.specs.Ordering.{nat_cmp}
+use Rattle.std.specs.List.Sorted.{IsBinarySearchResult}
+use Rattle.std.proofs.lemmas.List.Sorted.{IsPartitionPoint-from_clause}
+use Rattle.plain_keys.specs.Keys.{words, bound, group_at, group_keys, Grouped, head_of}
+use Rattle.plain_keys.proofs.Descent.{Under, At, at_the_root, at_under, at_key, at_grouped, wide}
+use Rattle.plain_keys.proofs.Found.{words_at, is_at, is_none, item_copied, early, parted, first_from, head_missing}
 use Rattle.plain_keys.proofs.next_in.Goals as goal
-use Rattle.plain_keys.proofs.next_in.Goals.{Start, At-loop-d}
+use Rattle.plain_keys.proofs.next_in.Goals.{Start}
 
 whole : (s : Start) → Whole s.args.t
 whole s = record { data_long = search rules; interval_long = search rules }
@@ -42,11 +47,6 @@ word_is s d h =
 pub loop-d-init : goal.loop-d-init
 loop-d-init c = (at_the_root c.args.pool.now c.args.t, omega arith)
 
-pub first-requires : goal.first-requires
-first-requires c =
-    let s = (goal.at.first-requires c).Start in
-    at_grouped (whole s) s.requires.0 c.loop-d.d (omega arith) c.loop-d.invariant.0 c.loop-d.invariant.1
-
 -- the keys that follow the words of the columns passed
 under : (s : Start) (d i : ℕ) → d ≤ s.args.len → At s.args.pool.now s.args.t d i (take d (given s)) → Under (layer_in s.args.pool.now s.args.t d).keys (rows_in s.args.pool.now s.args.t) (take d (given s)) (group_at s.args.pool.now s.args.t d i) (group_at s.args.pool.now s.args.t d (i + 1))
 under s d i h a = at_under (whole s) s.requires.0 d (omega (arith, s.requires.1)) a
@@ -58,49 +58,67 @@ absent s d h n = head_missing (given s) d s.args.len (bound s.args.past (get_or 
 long : (s : Start) (d : ℕ) → d < s.args.len → length (take d (given s)) < s.args.t.arity
 long s d h = omega (arith, length-take-le d (given s) (omega (arith, short s)), s.requires.1)
 
-pub returns-in_err-place : goal.returns-in_err-place
-returns-in_err-place c =
-    let s = (goal.at.returns-in_err-place c).Start in
-    let d = c.loop-d.d in
-    c.from_residual.ensures
-    ∙ absent s d (omega arith) (rw (word_is s d (omega arith)) (gone_none (under s d c.loop-d.i (omega arith) c.loop-d.invariant.0) (wide (whole s) s.requires.0) (long s d (omega arith)) (c.in_err-place.ensures)))
+ascend : (s : Start) (d i : ℕ) → d ≤ s.args.len → At s.args.pool.now s.args.t d i (take d (given s)) → Ascends ◌<◌ (group_keys s.args.pool.now s.args.t d i)
+ascend s d i h a = subst (Ascends ◌<◌) (sym (under s d i h a).run) (keys_ascend (take d (given s)) (wide (whole s) s.requires.0) (omega (arith, length-take-le d (given s) (omega (arith, short s)), s.requires.1)))
 
-pub returns-then-key-word : goal.returns-then-key-word
-returns-then-key-word c =
-    let s = (goal.at.returns-then-key-word c).Start in
-    let d = c.loop-d.d in
-    absent s d (omega arith) (rw (word_is s d (omega arith)) (gone_some (under s d c.loop-d.i (omega arith) c.loop-d.invariant.0) (wide (whole s) s.requires.0) (long s d (omega arith)) (c.in_ok-place.ensures) c.if-key-word.true))
+pub group-first-requires : goal.group-first-requires
+group-first-requires c =
+    let s = (goal.at.group-first-requires c).Start in
+    at_grouped (whole s) s.requires.0 c.loop-d.d (omega arith) c.loop-d.invariant.0 c.loop-d.invariant.1
+
+-- what the search for a column's word says
+module _ (s : Start) (d i : ℕ) (h : d < s.args.len) (a : At s.args.pool.now s.args.t d i (take d (given s))) {l : List ℕ} (e : l ≡ group_keys s.args.pool.now s.args.t d i) where
+  rise : Ascends ◌<◌ l
+  rise = subst (Ascends ◌<◌) (sym e) (ascend s d i (omega arith) a)
+
+  stuck : (r : Result ℕ ℕ) → IsBinarySearchResult (λ y. nat_cmp y (get_or s.args.row (get_or s.args.a.variables d 0) 0)) l r → result_ok r ≡ None → None ≡ head_of (from (bound s.args.past (get_or (given s) s.args.len 0)) (keys_under (take s.args.len (given s)) (rows_in s.args.pool.now s.args.t)))
+  stuck r b n =
+      absent s d h (λ m. is_none rise (get_or s.args.row (get_or s.args.a.variables d 0) 0) r b n (subst (λ (k : ℕ). k ∈ l) (word_is s d (omega arith)) (subst (λ (x : List ℕ). get_or (given s) d 0 ∈ x) (sym (e ∙ (under s d i (omega arith) a).run)) m)))
+
+  step : (r : Result ℕ ℕ) {j : ℕ} → IsBinarySearchResult (λ y. nat_cmp y (get_or s.args.row (get_or s.args.a.variables d 0) 0)) l r → result_ok r ≡ Some j → At s.args.pool.now s.args.t (d + 1) (group_at s.args.pool.now s.args.t d i + j) (take (d + 1) (given s)) × (group_at s.args.pool.now s.args.t d i + j ≤ length s.args.pool.now)
+  step r {j} b q =
+      let word = get_or s.args.row (get_or s.args.a.variables d 0) 0 in
+      let f = subst (λ (x : List ℕ). (j < length x) × (get_or x j 0 ≡ word)) e (is_at rise word r b q) in
+      let t = at_key (whole s) s.requires.0 d (omega (arith, s.requires.1)) a j f.0 in
+      let z : take d (given s) ++ get_or (group_keys s.args.pool.now s.args.t d i) j 0 ∷ [] ≡ take (d + 1) (given s) =
+      ap (λ (x : ℕ). take d (given s) ++ x ∷ []) (f.1 ∙ sym (word_is s d (omega arith))) ∙ sym (take-suc (given s) d 0 (omega (arith, short s))) ∙ ap (λ (m : ℕ). take m (given s)) (sym (add-one d)) in
+      (subst (At s.args.pool.now s.args.t (d + 1) (group_at s.args.pool.now s.args.t d i + j)) z t.0, t.1)
+
+pub returns-in_err-i : goal.returns-in_err-i
+returns-in_err-i c =
+    let s = (goal.at.returns-in_err-i c).Start in
+    c.from_residual.ensures ∙ stuck s c.loop-d.d c.loop-d.i (omega arith) c.loop-d.invariant.0 c.group-first.ensures.1 c.binary_search.result c.binary_search.ensures.position (sym c.ok.ensures.value ∙ c.in_err-i.was)
+
+pub overflow_add-i : goal.overflow_add-i
+overflow_add-i c =
+    let s = (goal.at.overflow_add-i c).Start in
+    omega (arith, (step s c.loop-d.d c.loop-d.i (omega arith) c.loop-d.invariant.0 c.group-first.ensures.1 c.binary_search.result c.binary_search.ensures.position (sym c.ok.ensures.value ∙ c.in_ok-i.was)).1, c.group-first.ensures.0, c.well_formed)
 
 pub loop-d-preserved : goal.loop-d-preserved
 loop-d-preserved c =
     let s = (goal.at.loop-d-preserved c).Start in
     let a = c.args in
     let d = c.loop-d.d in
-    let g = given s in
-    let f = c.in_ok-place.ensures in
-    let w : get_or (layer_in a.pool.now a.t d).keys c.in_ok-place.place 0 ≡ get_or g d 0 = sym f.2 ∙ c.if-key-word.false ∙ sym (word_is s d (omega arith)) in
-    let q : take d g ++ get_or (layer_in a.pool.now a.t d).keys c.in_ok-place.place 0 ∷ [] ≡ take (d + 1) g =
-    ap (λ (x : ℕ). take d g ++ x ∷ []) w ∙ sym (take-suc g d 0 (omega (arith, short s))) ∙ ap (λ (m : ℕ). take m g) (sym (add-one d)) in
-    let t = at_child (whole s) s.requires.0 d (omega (arith, s.requires.1)) c.loop-d.invariant.0 c.in_ok-place.place f.0.low f.1 in
-    (subst (At a.pool.now a.t (d + 1) c.in_ok-place.place) q t.0, t.1)
+    let j = c.in_ok-i.field-0 in
+    subst (λ (n : ℕ). At a.pool.now a.t (d + 1) (n + j) (take (d + 1) (given s)) × (n + j ≤ length a.pool.now)) (sym c.group-first.ensures.0)
+    (step s d c.loop-d.i (omega arith) c.loop-d.invariant.0 c.group-first.ensures.1 c.binary_search.result c.binary_search.ensures.position (sym c.ok.ensures.value ∙ c.in_ok-i.was))
 
--- the last column
-pub first-requires-2 : goal.first-requires-2
-first-requires-2 c =
-    let s = (goal.at.first-requires-2 c).Start in
+pub group-requires : goal.group-requires
+group-requires c =
+    let s = (goal.at.group-requires c).Start in
     let e : c.loop-d.d ≡ c.args.len = omega arith in
     subst (λ (d : ℕ). Grouped c.args.pool.now c.args.t d c.loop-d.i) e (at_grouped (whole s) s.requires.0 c.loop-d.d (omega (arith, s.requires.1)) c.loop-d.invariant.0 c.loop-d.invariant.1)
-
-pub returns-in_err-key : goal.returns-in_err-key
-returns-in_err-key c =
-    let s = (goal.at.returns-in_err-key c).Start in
-    let e : c.loop-d.d ≡ c.args.len = omega arith in
-    let u = under s c.args.len c.loop-d.i (omega arith) (subst (λ (d : ℕ). At c.args.pool.now c.args.t d c.loop-d.i (take d (given s))) e c.loop-d.invariant.0) in
-    c.from_residual-in_err-key.ensures ∙ found_none u (rw (word_is s c.args.len (omega arith)) (c.in_err-key.ensures))
 
 pub returns : goal.returns
 returns c =
     let s = (goal.at.returns c).Start in
+    let l : List ℕ = c.group.result.1.now in
+    let got : c.copied.result ≡ slice_get l c.partition_point-at.result = c.copied.ensures ∙ item_copied l c.partition_point-at.result c.get.result c.get.ensures.lookup in
     let e : c.loop-d.d ≡ c.args.len = omega arith in
-    let u = under s c.args.len c.loop-d.i (omega arith) (subst (λ (d : ℕ). At c.args.pool.now c.args.t d c.loop-d.i (take d (given s))) e c.loop-d.invariant.0) in
-    found_some u {x = (c.in_ok-key.field-0-0, c.in_ok-key.key)} (rw (word_is s c.args.len (omega arith)) (c.in_ok-key.ensures))
+    let u = subst (λ (d : ℕ). At c.args.pool.now c.args.t d c.loop-d.i (take d (given s))) e c.loop-d.invariant.0 in
+    let rise = subst (Ascends ◌<◌) (sym c.group.ensures.1) (ascend s c.args.len c.loop-d.i (omega arith) u) in
+    let word = get_or c.args.row (get_or c.args.a.variables c.args.len 0) 0 in
+    let point = IsPartitionPoint-from_clause (early c.args.past word) _ _ c.partition_point-at.ensures.partitioned (parted rise c.args.past word) (λ x r q k. search rules) in
+    got ∙ first_from rise c.args.past word point c.partition_point-at.ensures.bound
+    ∙ ap (λ (k : ℕ). head_of (from (bound c.args.past k) l)) (sym (word_is s c.args.len (omega arith)))
+    ∙ ap (λ (x : List ℕ). head_of (from (bound c.args.past (get_or (given s) c.args.len 0)) x)) (c.group.ensures.1 ∙ (under s c.args.len c.loop-d.i (omega arith) u).run)
