@@ -1,4 +1,4 @@
-// The checks of a query, in document 01's sequence, with 15 and 16 of document 02 behind 11 and 17 behind 6. `refusal` asks nothing; the others are internal, and some ask of their caller what an earlier check found.
+// The checks of a query, in document 01's sequence, with 15 and 16 of document 02 behind 11 and 17 behind 6. `check` asks nothing; the others are internal, and some ask of their caller what an earlier check found.
 #![tactic(auto)]
 
 ghost use Rattle.std.specs.Prelude.{◌≡◌, true, List, ℕ, ◌≤◌, take, drop};
@@ -10,45 +10,25 @@ ghost use Rattle.column_trie.specs.Limits.{max_arity};
 ghost use Rattle.query.specs.Limits.{max_atoms};
 ghost use Rattle.join_query.specs.Query.{max_tables, max_variables, table_at, vars_of, lists_of, order_ok, names_some, named_ok, listed_at, list_ok, column_ok, binds_only, one_kind, whole_rows, names, named, sound_at, shapes_agree, shape_ok, join_number};
 ghost use Rattle.join_query.specs.Checking.{reached, Listed};
+ghost use Rattle.refusal.specs.Number.{given};
 
 use column_trie::{ColumnTrie, undamaged};
 use join_query::{Atom, Query, Tables};
 use laid_over::same_shape;
-
-// Whether v is one of the first `len` numbers of the list.
-fn holds(list: [usize; ColumnTrie::MAX_ARITY], len: usize, v: usize) -> bool
-    requires { len ≤ max_arity }
-    ensures { result ≡ has (take len list) v }
-{
-    let mut i = 0;
-    while i < len {
-        if list[i] == v {
-            return true;
-        }
-        i += 1;
-    }
-    false
-}
+use refusal::Refusal;
 
 // Not 8: the order, n numbers long, is a permutation of 0 to n - 1, and n is at most 8.
 fn order_ok(q: Query) -> bool
     ensures { result ≡ order_ok q }
 {
-    let n = q.n;
-    let order = q.order;
-    if Query::MAX_VARIABLES < n {
+    if Query::MAX_VARIABLES < q.n {
         return false;
     }
-    let mut i = 0;
-    while i < n {
-        let v = order[i];
-        if n <= v {
+    for i in 0..q.n {
+        let v = q.order[i];
+        if q.n <= v || q.order[..i].contains(&v) {
             return false;
         }
-        if holds(order, i, v) {
-            return false;
-        }
-        i += 1;
     }
     true
 }
@@ -64,21 +44,11 @@ fn names_some(count: usize, a: Atom) -> bool
 fn named_ok(count: usize, q: Query) -> bool
     ensures { result ≡ named_ok count q }
 {
-    if Query::MAX_ATOMS < q.atom_count {
-        return false;
-    }
-    if Tables::MAX_TABLES < count {
-        return false;
-    }
-    let mut i = 0;
-    while i < q.atom_count {
-        let a = q.atoms[i];
-        if !names_some(count, a) {
-            return false;
-        }
-        i += 1;
-    }
-    true
+    q.atom_count <= Query::MAX_ATOMS
+        && count <= Tables::MAX_TABLES
+        && q.atoms[..q.atom_count]
+            .iter()
+            .all(|a| names_some(count, *a))
 }
 
 // Whether v is the atom's variable at place j.
@@ -95,12 +65,10 @@ pub fn reached(order: [usize; Query::MAX_VARIABLES], depth: usize, a: Atom) -> u
     ensures { result ≡ reached (take depth order) (vars_of a) }
 {
     let mut j = 0;
-    let mut d = 0;
-    while d < depth {
-        if heads(a, j, order[d]) {
+    for v in &order[..depth] {
+        if heads(a, j, *v) {
             j += 1;
         }
-        d += 1;
     }
     j
 }
@@ -110,14 +78,7 @@ fn list_ok(q: Query, a: Atom, arity: usize) -> bool
     requires { order_ok q ≡ true }
     ensures { result ≡ listed_at q a arity }
 {
-    if ColumnTrie::MAX_ARITY < a.len {
-        return false;
-    }
-    if a.len != arity {
-        return false;
-    }
-    let order = q.order;
-    reached(order, q.n, a) == a.len
+    a.len <= ColumnTrie::MAX_ARITY && a.len == arity && reached(q.order, q.n, a) == a.len
 }
 
 // Not 10: every atom's list passes.
@@ -125,15 +86,10 @@ fn lists_ok(ts: Tables, q: Query) -> bool
     requires { (order_ok q ≡ true) × (named_ok ts.count q ≡ true) }
     ensures { result ≡ index.every q.atom_count (list_ok ts q) }
 {
-    let mut i = 0;
-    while i < q.atom_count {
-        let a = q.atoms[i];
-        let named = a.table;
-        let t = ts.tables[named];
-        if !list_ok(q, a, t.arity) {
+    for a in &q.atoms[..q.atom_count] {
+        if !list_ok(q, *a, ts.tables[a.table].arity) {
             return false;
         }
-        i += 1;
     }
     true
 }
@@ -143,14 +99,10 @@ fn held(q: Query, v: usize) -> bool
     requires { Listed q }
     ensures { result ≡ some (λ (l : List ℕ). has l v) (lists_of q) }
 {
-    let mut i = 0;
-    while i < q.atom_count {
-        let a = q.atoms[i];
-        let list = a.variables;
-        if holds(list, a.len, v) {
+    for a in &q.atoms[..q.atom_count] {
+        if a.variables[..a.len].contains(&v) {
             return true;
         }
-        i += 1;
     }
     false
 }
@@ -160,14 +112,7 @@ fn all_held(q: Query) -> bool
     requires { Listed q }
     ensures { result ≡ covers q.n (lists_of q) }
 {
-    let mut v = 0;
-    while v < q.n {
-        if !held(q, v) {
-            return false;
-        }
-        v += 1;
-    }
-    true
+    (0..q.n).all(|v| held(q, v))
 }
 
 // Whether v binds only columns of this kind (yes: grade) in the atom. Column j of its list is column j of its table.
@@ -175,12 +120,10 @@ fn columns_ok(t: ColumnTrie, a: Atom, v: usize, grade: bool) -> bool
     requires { a.len ≤ max_arity }
     ensures { result ≡ index.every a.len (column_ok t a v grade) }
 {
-    let mut j = 0;
-    while j < a.len {
+    for j in 0..a.len {
         if a.variables[j] == v && t.grade[j] != grade {
             return false;
         }
-        j += 1;
     }
     true
 }
@@ -190,15 +133,10 @@ fn binds_only(ts: Tables, q: Query, v: usize, grade: bool) -> bool
     requires { (named_ok ts.count q ≡ true) × Listed q }
     ensures { result ≡ binds_only ts q v grade }
 {
-    let mut i = 0;
-    while i < q.atom_count {
-        let a = q.atoms[i];
-        let named = a.table;
-        let t = ts.tables[named];
-        if !columns_ok(t, a, v, grade) {
+    for a in &q.atoms[..q.atom_count] {
+        if !columns_ok(ts.tables[a.table], *a, v, grade) {
             return false;
         }
-        i += 1;
     }
     true
 }
@@ -208,14 +146,7 @@ fn kinds_ok(ts: Tables, q: Query) -> bool
     requires { (named_ok ts.count q ≡ true) × Listed q }
     ensures { result ≡ index.every q.n (one_kind ts q) }
 {
-    let mut v = 0;
-    while v < q.n {
-        if !binds_only(ts, q, v, false) && !binds_only(ts, q, v, true) {
-            return false;
-        }
-        v += 1;
-    }
-    true
+    (0..q.n).all(|v| binds_only(ts, q, v, false) || binds_only(ts, q, v, true))
 }
 
 // Not 16: the window is some number of rows long. Rows without words are never 16.
@@ -237,15 +168,7 @@ fn is_named(q: Query, t: usize) -> bool
     requires { q.atom_count ≤ max_atoms }
     ensures { result ≡ named q t }
 {
-    let mut i = 0;
-    while i < q.atom_count {
-        let a = q.atoms[i];
-        if names(a, t) {
-            return true;
-        }
-        i += 1;
-    }
-    false
+    q.atoms[..q.atom_count].iter().any(|a| names(*a, t))
 }
 
 // Not 6: each table that an atom names is undamaged. Each is looked at once, however many atoms name it.
@@ -253,15 +176,10 @@ fn tables_ok(pool: &[u64], ts: Tables, q: Query) -> bool
     requires { named_ok ts.count q ≡ true }
     ensures { result ≡ index.every ts.count (sound_at pool.now ts q) }
 {
-    let mut i = 0;
-    while i < ts.count {
-        if is_named(q, i) {
-            let t = ts.tables[i];
-            if !undamaged(pool, t) {
-                return false;
-            }
+    for (i, t) in ts.tables[..ts.count].iter().enumerate() {
+        if is_named(q, i) && !undamaged(pool, *t) {
+            return false;
         }
-        i += 1;
     }
     true
 }
@@ -271,14 +189,7 @@ fn shape_ok(ts: Tables, a: Atom) -> bool
     requires { (ts.count ≤ max_tables) × (names_some ts.count a ≡ true) × ((table_at ts a.table).arity ≤ max_arity) }
     ensures { result ≡ shapes_agree ts a }
 {
-    if !a.laid_over {
-        return true;
-    }
-    let school = a.table;
-    let s = ts.tables[school];
-    let maker = a.maker;
-    let m = ts.tables[maker];
-    same_shape(s, m)
+    !a.laid_over || same_shape(ts.tables[a.table], ts.tables[a.maker])
 }
 
 // Not 17: every atom passes.
@@ -286,44 +197,41 @@ fn shapes_ok(ts: Tables, q: Query) -> bool
     requires { (named_ok ts.count q ≡ true) × (index.every q.atom_count (list_ok ts q) ≡ true) }
     ensures { result ≡ index.every q.atom_count (shape_ok ts q) }
 {
-    let mut i = 0;
-    while i < q.atom_count {
-        let a = q.atoms[i];
-        if !shape_ok(ts, a) {
+    for a in &q.atoms[..q.atom_count] {
+        if !shape_ok(ts, *a) {
             return false;
         }
-        i += 1;
     }
     true
 }
 
-// The number of the first check that the query fails, or 0; the window has `len` words.
-pub fn refusal(pool: &[u64], ts: Tables, q: Query, len: usize) -> u64
-    ensures { result ≡ join_number pool.now ts q len }
+// The refusal of the first check that the query fails; the window has `len` words.
+pub fn check(pool: &[u64], ts: Tables, q: Query, len: usize) -> Result<(), Refusal>
+    ensures { given result ≡ join_number pool.now ts q len }
 {
     if !order_ok(q) {
-        return 8;
+        return Err(Refusal::BadOrder);
     }
     if !named_ok(ts.count, q) {
-        return 9;
+        return Err(Refusal::BadAtoms);
     }
     if !lists_ok(ts, q) {
-        return 10;
+        return Err(Refusal::BadList);
     }
     if !all_held(q) {
-        return 11;
+        return Err(Refusal::FreeVariable);
     }
     if !kinds_ok(ts, q) {
-        return 15;
+        return Err(Refusal::MixedKinds);
     }
     if !rows_ok(q.n, len) {
-        return 16;
+        return Err(Refusal::PartRows);
     }
     if !tables_ok(pool, ts, q) {
-        return 6;
+        return Err(Refusal::Damaged);
     }
     if !shapes_ok(ts, q) {
-        return 17;
+        return Err(Refusal::OtherShape);
     }
-    0
+    Ok(())
 }

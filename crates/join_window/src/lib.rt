@@ -8,7 +8,7 @@ ghost use Rattle.join_window.specs.Window.{written, Fits};
 
 use join_query::Query;
 
-// How many rows the window holds, and whether more exist than fit.
+// How many rows the window holds, and whether more exist than fit. No Result: the rows count also where more exist.
 #[derive(Clone, Copy)]
 pub struct Written {
     pub rows: usize,
@@ -16,13 +16,8 @@ pub struct Written {
 }
 
 // Writes one row behind the others, by variable number, or says that it does not fit.
-pub fn emit_lent(
-    window: &mut [u64],
-    row: &[u64; Query::MAX_VARIABLES],
-    n: usize,
-    rows: usize,
-) -> Written
-    requires n_le_max_variables { (n ≤ max_variables) × (n ≤ length row.now) }
+pub fn emit(window: &mut [u64], row: &[u64; Query::MAX_VARIABLES], n: usize, rows: usize) -> Written
+    requires n_le_max_variables { n ≤ max_variables }
     requires fits { Fits n (length window.old) rows }
     ensures { written window.new result.rows result.full ≡ emit n (written window.old rows false) (take n row.now) }
 {
@@ -30,22 +25,9 @@ pub fn emit_lent(
     if window.len() - base < n {
         return Written { rows, full: true };
     }
-    let mut v = 0;
-    while v < n {
-        window[base + v] = row[v];
-        v += 1;
-    }
+    window[base..base + n].copy_from_slice(&row[..n]);
     Written {
         rows: rows + 1,
         full: false,
     }
-}
-
-// The same of a row by value.
-pub fn emit(window: &mut [u64], row: [u64; Query::MAX_VARIABLES], n: usize, rows: usize) -> Written
-    requires n_le_max_variables { n ≤ max_variables }
-    requires fits { Fits n (length window.old) rows }
-    ensures { written window.new result.rows result.full ≡ emit n (written window.old rows false) (take n row) }
-{
-    emit_lent(window, &row, n, rows)
 }

@@ -1,37 +1,22 @@
--- The goals of `all_held` that the check leaves.
+-- `all_held` meets its contract: `all` asks of each number below n whether a list has it.
 use Prim.Native.Nat.{ℕ}
-use native.Mathlib.Omega.{arith}
-use mathlib.Core.Path.{◌≡◌, refl, sym, subst}
-use mathlib.Core.Bool.{true}
-use Rattle.relation.proofs.Tests.{passed, failed}
-use Rattle.query.specs.Checks.{covers}
+use native.Mathlib.Nat.{sub-zero}
+use mathlib.Core.Path.{refl, ◌∙◌}
+use mathlib.Core.List.{List}
+use borrow.Author.Rules.{rules}
+use borrow.Author.Tests.{tests}
+use Rattle.std.proofs.lemmas.Iterator.{YieldsList-from_range}
+use Rattle.std.proofs.lemmas.Iterator.Search.{all_from_yields_List}
+use Rattle.query.specs.Meet.{has}
+use Rattle.query.specs.Checks.{some}
 use Rattle.join_query.specs.Query.{lists_of}
-use Rattle.join_query.proofs.Lists.{covers_next, covers_not}
-use mathlib.Core.Path.{ap}
-use mathlib.Core.Bool.{not}
+use Rattle.join_checks.proofs.Every.{all_below, covers_is}
 use Rattle.join_checks.proofs.all_held.Goals as goal
-
-pub loop-v-init : goal.loop-v-init
-unfolding covers
-loop-v-init c = (omega arith, refl)
-
-pub held-requires : goal.held-requires
-held-requires c = c.requires
-
-pub returns-then-not-held : goal.returns-then-not-held
-returns-then-not-held c =
-    let a = c.args in
-    sym (covers_not a.q.n (lists_of a.q) c.loop-v.v (omega arith) (failed c.held.ensures (ap not c.if-not-held.true)))
-
-pub loop-v-preserved : goal.loop-v-preserved
-loop-v-preserved c =
-    let a = c.args in
-    let l = c.loop-v in
-    (omega arith, covers_next (lists_of a.q) l.v l.invariant.1 (passed c.held.ensures (ap not c.if-not-held.false)))
 
 pub returns : goal.returns
 returns c =
-    let a = c.args in
-    let l = c.loop-v in
-    let e : l.v ≡ a.q.n = omega arith in
-    sym (subst (λ (n : ℕ). covers n (lists_of a.q) ≡ true) e l.invariant.1)
+    let q = c.args.q in
+    let p = λ (v : ℕ). some (λ (l : List ℕ). has l v) (lists_of q) in
+    all_from_yields_List p _ _ c.all.result c.all.ensures.ran (YieldsList-from_range 0 q.n q.n refl (sub-zero q.n)) (λ x b r k. search (rules, tests))
+    ∙ all_below p q.n
+    ∙ covers_is (lists_of q) q.n

@@ -1,26 +1,33 @@
 -- `list_ok` meets its contract: where the order is a permutation, a list of the right length that the order reaches whole holds no number from n up.
 use native.Mathlib.Omega.{arith}
-use mathlib.Core.Path.{◌≡◌}
+use mathlib.Core.Path.{◌≡◌, ◌∙◌}
 use lib.ListN.{length}
 use Rattle.column_trie.specs.Limits.{max_arity}
 use Rattle.join_query.proofs.Lists.{order_told, list_long, list_other, list_reached}
 use borrow.Author.Rules.{rules}
+use borrow.Author.Tests.{lt-leb, ne_eqb}
 use Rattle.join_checks.proofs.list_ok.Goals as goal
-use Rattle.join_checks.proofs.list_ok.Goals.{Start}
+use Rattle.join_checks.proofs.list_ok.Goals.{Start, then-a-le-MAX_ARITY, else-a-le-MAX_ARITY}
 
 -- what the parameter's type says
 whole : (s : Start) → length s.args.a.variables ≡ max_arity
 whole s = search rules
 
-pub returns-then-a-gt-MAX_ARITY : goal.returns-then-a-gt-MAX_ARITY
-returns-then-a-gt-MAX_ARITY c = list_long c.args.q c.requires c.args.a c.args.arity (whole (goal.at.returns-then-a-gt-MAX_ARITY c).Start) c.if-a-gt-MAX_ARITY.true
+pub reached-requires : goal.reached-requires
+reached-requires c = ((order_told c.args.q c.requires).few, c.if-a-arity.true.0)
 
 pub returns-then-a-arity : goal.returns-then-a-arity
-returns-then-a-arity c = list_other c.args.q c.requires c.args.a c.args.arity (whole (goal.at.returns-then-a-arity c).Start) (omega arith) c.if-a-arity.true
+returns-then-a-arity c =
+    let a = c.args in
+    list_reached a.q c.requires a.a a.arity (whole (goal.at.returns-then-a-arity c).Start) c.if-a-arity.true.0 c.if-a-arity.true.1 c.reached.ensures
 
-pub reached-requires : goal.reached-requires
-reached-requires c = ((order_told c.args.q c.requires).few, omega arith)
-
-pub returns : goal.returns
-returns c =
-    list_reached c.args.q c.requires c.args.a c.args.arity (whole (goal.at.returns c).Start) (omega arith) c.if-a-arity.false c.reached.ensures
+pub returns-else-a-arity : goal.returns-else-a-arity
+returns-else-a-arity c =
+    let a = c.args in
+    let w = whole (goal.at.returns-else-a-arity c).Start in
+    elim c.if-a-le-MAX_ARITY.branch [
+      | then-a-le-MAX_ARITY u ↦
+          let f : a.a.len ≡ a.arity → ⊥ = λ e. omega (arith, e, c.if-a-arity.either, u.if-a-le-MAX_ARITY.true) in
+          u.t-5-is ∙ ne_eqb a.a.len a.arity f ∙ list_other a.q c.requires a.a a.arity w u.if-a-le-MAX_ARITY.true f
+      | else-a-le-MAX_ARITY u ↦ u.t-5-is ∙ lt-leb a.a.len 8 u.if-a-le-MAX_ARITY.false ∙ list_long a.q c.requires a.a a.arity w u.if-a-le-MAX_ARITY.false
+    ]

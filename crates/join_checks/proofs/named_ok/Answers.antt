@@ -1,43 +1,33 @@
--- The goals of `named_ok` that the check leaves.
-use Prim.Native.Nat.{ℕ}
+-- `named_ok` meets its contract: the first two tests are the definition's, and `all` makes the third at every index.
 use native.Mathlib.Omega.{arith}
-use mathlib.Core.Path.{◌≡◌, sym, subst}
-use mathlib.Core.Bool.{true, false}
-use Rattle.relation.specs.Tests.{every}
-use Rattle.relation.proofs.Tests.{every_none, every_more, every_fails, passed, failed}
-use Rattle.join_query.proofs.Lists.{names_one, atoms_many, tables_many, names_all}
-use mathlib.Core.Path.{ap}
-use mathlib.Core.Bool.{not}
+use mathlib.Core.Path.{◌≡◌, ◌∙◌}
+use lib.ListN.{length}
+use borrow.Author.Rules.{rules}
+use borrow.Author.Tests.{lt-leb}
+use Prim.Native.Nat.{◌<◌}
+use Rattle.query.specs.Limits.{max_atoms}
+use Rattle.join_query.specs.Query.{no_atom, names_some}
+use Rattle.join_query.proofs.Whole.{length_mapped}
+use Rattle.join_query.proofs.Lists.{atoms_many, tables_many, names_all}
+use Rattle.join_checks.proofs.Every.{every_first}
 use Rattle.join_checks.proofs.named_ok.Goals as goal
+use Rattle.join_checks.proofs.named_ok.Goals.{Start, then-q-le-MAX_ATOMS, else-q-le-MAX_ATOMS}
 
-pub returns-then-q-gt-MAX_ATOMS : goal.returns-then-q-gt-MAX_ATOMS
-returns-then-q-gt-MAX_ATOMS c = let a = c.args in atoms_many a.count a.q c.if-q-gt-MAX_ATOMS.true
+-- what the parameter's type says
+whole : (s : Start) → length s.args.q.atoms ≡ max_atoms
+whole s = search (length_mapped, rules)
 
-pub returns-then-count-gt-MAX_TABLES : goal.returns-then-count-gt-MAX_TABLES
-returns-then-count-gt-MAX_TABLES c = let a = c.args in tables_many a.count a.q (omega arith) c.if-count-gt-MAX_TABLES.true
-
-pub loop-i-init : goal.loop-i-init
-loop-i-init c = (omega arith, every_none _)
-
-pub names_some-requires : goal.names_some-requires
-names_some-requires c = tt
-
-pub returns-then-not-names_some : goal.returns-then-not-names_some
-returns-then-not-names_some c =
+pub returns-then-count-le-MAX_TABLES : goal.returns-then-count-le-MAX_TABLES
+returns-then-count-le-MAX_TABLES c =
     let a = c.args in
-    let i = c.loop-i.i in
-    names_all a.count a.q (omega arith) false (omega arith)
-    (sym (every_fails (names_one a.count a.q) a.q.atom_count i (omega arith) (failed {t = names_one a.count a.q i} c.names_some.ensures (ap not c.if-not-names_some.true))))
+    let h = c.if-count-le-MAX_TABLES.true in
+    names_all a.count a.q (omega (arith, h)) c.all.result (omega (arith, h))
+    (every_first (names_some a.count) no_atom a.q.atoms a.q.atom_count (omega (arith, h, whole (goal.at.returns-then-count-le-MAX_TABLES c).Start)) c.all.result (search rules) (search rules))
 
-pub loop-i-preserved : goal.loop-i-preserved
-loop-i-preserved c =
+pub returns-else-count-le-MAX_TABLES : goal.returns-else-count-le-MAX_TABLES
+returns-else-count-le-MAX_TABLES c =
     let a = c.args in
-    let l = c.loop-i in
-    (omega arith, every_more (names_one a.count a.q) l.i l.invariant.1 (passed {t = names_one a.count a.q l.i} c.names_some.ensures (ap not c.if-not-names_some.false)))
-
-pub returns : goal.returns
-returns c =
-    let a = c.args in
-    let l = c.loop-i in
-    let e : l.i ≡ a.q.atom_count = omega arith in
-    names_all a.count a.q (omega arith) true (omega arith) (sym (subst (λ (n : ℕ). every n (names_one a.count a.q) ≡ true) e l.invariant.1))
+    elim c.if-q-le-MAX_ATOMS.branch [
+      | then-q-le-MAX_ATOMS w ↦ let h : 8 < a.count = omega (arith, c.if-count-le-MAX_TABLES.either, w.if-q-le-MAX_ATOMS.true) in w.t-6-is ∙ lt-leb a.count 8 h ∙ tables_many a.count a.q w.if-q-le-MAX_ATOMS.true h
+      | else-q-le-MAX_ATOMS w ↦ w.t-6-is ∙ lt-leb a.q.atom_count 8 w.if-q-le-MAX_ATOMS.false ∙ atoms_many a.count a.q w.if-q-le-MAX_ATOMS.false
+    ]

@@ -1,53 +1,68 @@
 -- The goals of `shapes_ok` that the check leaves.
-use Prim.Native.Nat.{ℕ}
+use Prim.Native.Nat.{ℕ, ◌≤◌}
 use native.Mathlib.Omega.{arith}
-use mathlib.Core.Path.{◌≡◌, sym, subst}
-use mathlib.Core.Bool.{true}
+use mathlib.Core.Path.{◌≡◌, sym, ap, subst, ◌∙◌}
+use mathlib.Core.Bool.{true, not}
+use lib.ListN.{length}
+use lib.Seq.{length-take-le}
+use Rattle.query.specs.Limits.{max_atoms}
+use Rattle.column_trie.specs.Limits.{max_arity}
 use Rattle.relation.specs.Tests.{every}
 use Rattle.relation.proofs.Tests.{every_none, every_more, every_fails, passed, failed}
-use Rattle.join_query.specs.Query.{shape_ok}
+use Rattle.join_query.specs.Query.{names_some, table_at, shapes_agree, shape_ok}
 use Rattle.join_query.specs.Facts.{Named}
+use Rattle.join_query.specs.declared.Atom.{Atom}
+use Rattle.join_query.proofs.Whole.{length_mapped}
 use Rattle.join_query.proofs.Lists.{named_told, names_told, arity_short}
-use mathlib.Core.Path.{ap}
-use mathlib.Core.Bool.{not}
+use Rattle.join_checks.proofs.Every.{atom_in, atom_there}
+use borrow.Author.Rules.{rules}
 use Rattle.join_checks.proofs.shapes_ok.Goals as goal
-use Rattle.join_checks.proofs.shapes_ok.Goals.{Start}
+use Rattle.join_checks.proofs.shapes_ok.Goals.{Start, After-shape_ok}
+
+-- what the parameter's type says
+whole : (s : Start) → length s.args.q.atoms ≡ max_atoms
+whole s = search (length_mapped, rules)
 
 told : (s : Start) → Named s.args.ts.count s.args.q
 told s = named_told s.args.ts.count s.args.q s.requires.0
 
-pub loop-i-init : goal.loop-i-init
-loop-i-init c = (omega arith, every_none _)
+pub shared_ref_as_front-a-items : goal.shared_ref_as_front-a-items
+shared_ref_as_front-a-items c = omega (arith, told (goal.at.shared_ref_as_front-a-items c).Start)
 
-pub offset_bounds-q-i : goal.offset_bounds-q-i
-offset_bounds-q-i c = omega (arith, told (goal.at.offset_bounds-q-i c).Start)
-
-pub bounds-q-i : goal.bounds-q-i
-bounds-q-i c = omega (arith, told (goal.at.bounds-q-i c).Start)
+pub loop-a-init : goal.loop-a-init
+loop-a-init c = every_none _
 
 pub shape_ok-requires : goal.shape_ok-requires
 shape_ok-requires c =
-    let i = c.loop-i.i in
-    ((told (goal.at.shape_ok-requires c).Start).bounded, names_told c.args.ts.count c.args.q c.requires.0 i (omega arith), arity_short c.args.ts c.args.q c.requires.1 i (omega arith))
+    let a = c.args in
+    let i = c.loop-a.a-index in
+    let h = atom_in a.q i c.loop-a-test.true in
+    let e = atom_there a.q i c.loop-a-test.true in (
+      (told (goal.at.shape_ok-requires c).Start).bounded,
+      ap (names_some a.ts.count) e ∙ names_told a.ts.count a.q c.requires.0 i h,
+      subst (λ (x : Atom). (table_at a.ts x.table).arity ≤ max_arity) (sym e) (arity_short a.ts a.q c.requires.1 i h),
+    )
+
+answered : (c : After-shape_ok) → let a = c.args in c.shape_ok.result ≡ shape_ok a.ts a.q c.loop-a.a-index
+answered c =
+    let a = c.args in
+    let i = c.loop-a.a-index in
+    c.shape_ok.ensures ∙ ap (λ (x : Atom). shapes_agree a.ts x) (atom_there a.q i c.loop-a-test.true)
 
 pub returns-then-not-shape_ok : goal.returns-then-not-shape_ok
 returns-then-not-shape_ok c =
     let a = c.args in
-    let i = c.loop-i.i in
-    sym (every_fails (shape_ok a.ts a.q) a.q.atom_count i (omega arith) (failed {t = shape_ok a.ts a.q i} c.shape_ok.ensures (ap not c.if-not-shape_ok.true)))
+    let i = c.loop-a.a-index in
+    sym (every_fails (shape_ok a.ts a.q) a.q.atom_count i (atom_in a.q i c.loop-a-test.true) (failed (answered (goal.at.returns-then-not-shape_ok c).After-shape_ok) (ap not c.if-not-shape_ok.true)))
 
-pub overflow_add-i : goal.overflow_add-i
-overflow_add-i c = omega (arith, told (goal.at.overflow_add-i c).Start)
-
-pub loop-i-preserved : goal.loop-i-preserved
-loop-i-preserved c =
+pub loop-a-preserved : goal.loop-a-preserved
+loop-a-preserved c =
     let a = c.args in
-    let l = c.loop-i in
-    (omega arith, every_more (shape_ok a.ts a.q) l.i l.invariant.1 (passed {t = shape_ok a.ts a.q l.i} c.shape_ok.ensures (ap not c.if-not-shape_ok.false)))
+    every_more (shape_ok a.ts a.q) c.loop-a.a-index c.loop-a.invariant (passed (answered (goal.at.loop-a-preserved c).After-shape_ok) (ap not c.if-not-shape_ok.false))
 
 pub returns : goal.returns
 returns c =
     let a = c.args in
-    let l = c.loop-i in
-    let e : l.i ≡ a.q.atom_count = omega arith in
-    sym (subst (λ (n : ℕ). every n (shape_ok a.ts a.q) ≡ true) e l.invariant.1)
+    let n = told (goal.at.returns c).Start in
+    let e : c.loop-a.a-index ≡ a.q.atom_count = let f = c.loop-a-test.false in omega (arith, f, c.loop-a.auto.a-index-end, length-take-le a.q.atom_count a.q.atoms (omega (arith, n, whole (goal.at.returns c).Start))) in
+    sym (subst (λ (k : ℕ). every k (shape_ok a.ts a.q) ≡ true) e c.loop-a.invariant)

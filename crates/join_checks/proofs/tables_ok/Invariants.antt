@@ -1,5 +1,4 @@
 -- `tables_ok` meets its contract: each table passed is undamaged or not named.
-use Prim.Native.Nat.{◌≤◌, ◌-◌}
 use mathlib.Core.Path.{◌≡◌}
 use mathlib.Core.Bool.{true}
 use Rattle.relation.specs.Tests.{every}
@@ -7,7 +6,4 @@ use Rattle.join_query.specs.Query.{sound_at}
 use Rattle.join_checks.proofs.tables_ok.Given as goal
 
 abbrev pub invariant-loop-i : goal.invariant-loop-i
-invariant-loop-i l = (l.i ≤ l.ts.count) × (every l.i (sound_at l.pool l.ts l.q) ≡ true)
-
-abbrev pub decreases-loop-i : goal.decreases-loop-i
-decreases-loop-i l = l.ts.count - l.i
+invariant-loop-i l = every l.i (sound_at l.pool l.fn.ts l.q) ≡ true

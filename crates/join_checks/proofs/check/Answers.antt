@@ -1,4 +1,4 @@
--- `refusal` meets its contract: each way out is a case of `joinNumber`, the checks before it having passed.
+-- `check` meets its contract: each way out is a case of `joinNumber`, the checks before it having passed.
 use mathlib.Core.Path.{◌≡◌}
 use mathlib.Core.Bool.{true}
 use Rattle.relation.specs.Tests.{every}
@@ -8,8 +8,8 @@ use Rattle.join_query.specs.Query.{order_ok, named_ok, list_ok, lists_of, one_ki
 use Rattle.join_query.proofs.Lists.{lists_told, number_8, number_9, number_10, number_11, number_15, number_16, number_6, number_17, number_0}
 use mathlib.Core.Path.{ap}
 use mathlib.Core.Bool.{not}
-use Rattle.join_checks.proofs.refusal.Goals as goal
-use Rattle.join_checks.proofs.refusal.Goals.{Else-not-all_held, Else-not-kinds_ok, Else-not-lists_ok, Else-not-named_ok, Else-not-order_ok, Else-not-rows_ok, Else-not-tables_ok}
+use Rattle.join_checks.proofs.check.Goals as goal
+use Rattle.join_checks.proofs.check.Goals.{Else-not-all_held, Else-not-kinds_ok, Else-not-lists_ok, Else-not-named_ok, Else-not-order_ok, Else-not-rows_ok, Else-not-tables_ok}
 
 -- what has passed at each place
 ordered : (c : Else-not-order_ok) → order_ok c.args.q ≡ true

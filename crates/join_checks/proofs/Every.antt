@@ -1,0 +1,68 @@
+-- What `all` answers over the first n elements of an array, and over the numbers below n, as the test at every index that the checks' definitions make.
+use Prim.Native.Nat.{ℕ, zero, suc, ◌≤◌, ◌<◌}
+use native.Mathlib.Nat.{zero-add}
+use native.Mathlib.Omega.{arith}
+use mathlib.Core.Path.{◌≡◌, refl, sym, ap, subst, ◌∙◌}
+use mathlib.Core.Bool.{Bool, true, false, ◌&&◌, false≢true}
+use mathlib.Core.List.{List}
+use lib.ListN.{length, get_or, take, length-take}
+use lib.Seq.{get_or-take, length-take-le}
+use Rattle.relation.specs.Lists.{◌∈◌}
+use Rattle.relation.specs.Tests.{every}
+use Rattle.relation.proofs.Tests.{every_at, every_all, every_fails}
+use Rattle.query.specs.Meet.{has}
+use Rattle.query.specs.Checks.{some, covers}
+use Rattle.query.proofs.Meet.{in_has, has_not, get_or_in, in_get_or}
+use Rattle.join_query.specs.Query.{no_atom, atom_at, atoms_in}
+use Rattle.join_query.specs.declared.Query.{Query}
+use Rattle.std.specs.List.{list_all, range_with_len}
+use Rattle.std.proofs.lemmas.List.FromFn.{length-range_with_len, get_or-range_with_len}
+use Rattle.std.proofs.lemmas.List.Recursion.{and_at, and_from_places}
+use Rattle.std.proofs.Math.Bool.{and_comm}
+
+pub every_below : (p : ℕ → Bool) (n : ℕ) (r : Bool) → (r ≡ true → (i : ℕ) → i < n → p i ≡ true) → (r ≡ false → (i : ℕ) × (i < n) × (p i ≡ false)) → r ≡ every n p
+every_below p n true f g = sym (every_all p n (f refl))
+every_below p n false f g = let t = g refl in sym (every_fails p n t.0 t.1 t.2)
+
+pub every_first : {X : Type 0} (p : X → Bool) (d : X) (l : List X) (n : ℕ) → n ≤ length l → (r : Bool) → (r ≡ true → (i : ℕ) → i < length (take n l) → p (get_or (take n l) i d) ≡ true) → (r ≡ false → (i : ℕ) × (i < length (take n l)) × (p (get_or (take n l) i d) ≡ false)) → r ≡ every n (λ (i : ℕ). p (get_or l i d))
+every_first p d l n fits r f g =
+    every_below (λ (i : ℕ). p (get_or l i d)) n r
+    (λ e i h. ap p (sym (get_or-take n l i d h)) ∙ f e i (omega (arith, length-take-le n l fits)))
+    (λ e. let t = g e in let h : t.0 < n = omega (arith, t.1, length-take-le n l fits) in (t.0, h, ap p (sym (get_or-take n l t.0 d h)) ∙ t.2))
+
+-- what `contains` answers
+pub has_is : (l : List ℕ) (v : ℕ) (r : Bool) → (r ≡ true → (k : ℕ) × (k < length l) × (get_or l k 0 ≡ v)) → (r ≡ false → (k : ℕ) → k < length l → get_or l k 0 ≡ v → ⊥) → r ≡ has l v
+has_is l v true f g = let t = f refl in sym (in_has (subst (λ (x : ℕ). x ∈ l) t.2 (get_or_in l t.0 0 t.1)))
+has_is l v false f g = sym (has_not l v (λ m. let t = in_get_or 0 m in g refl t.0 t.1 t.2))
+
+-- `all` over the numbers below n
+pub all_below : (p : ℕ → Bool) (n : ℕ) → list_all p (range_with_len 0 n) ≡ every n p
+all_below p n = go (every n p) refl
+  where
+    xs : List ℕ
+    xs = range_with_len 0 n
+
+    at : (i : ℕ) → i < n → p (get_or xs i 0) ≡ p i
+    at i h = ap p (get_or-range_with_len 0 n i 0 h ∙ zero-add i)
+
+    untrue : (b : Bool) → (b ≡ true → ⊥) → b ≡ false
+    untrue true f = absurd (f refl)
+    untrue false f = refl
+
+    go : (b : Bool) → every n p ≡ b → list_all p xs ≡ b
+    go true e = and_from_places (list_all p) p refl (λ x xs. refl) xs 0 (λ i h. let k : i < n = omega (arith, h, length-range_with_len 0 n) in at i k ∙ every_at p n e i k)
+    go false e = untrue (list_all p xs) (λ t. false≢true (sym e ∙ every_all p n (λ i h. sym (at i h) ∙ and_at (list_all p) p refl (λ x xs. refl) xs i 0 (omega (arith, h, length-range_with_len 0 n)) t)))
+
+-- each number below n is in some list
+pub covers_is : (lists : List (List ℕ)) (n : ℕ) → every n (λ (v : ℕ). some (λ (l : List ℕ). has l v) lists) ≡ covers n lists
+unfolding covers every
+covers_is lists zero = refl
+covers_is lists (suc n) = let p = λ (v : ℕ). some (λ (l : List ℕ). has l v) lists in ap (λ (b : Bool). b && p n) (covers_is lists n) ∙ and_comm (covers n lists) (p n)
+
+-- the atom that a walk over the atoms stands at
+module _ (q : Query) (i : ℕ) (h : i < length (atoms_in q)) where
+  pub atom_in : i < q.atom_count
+  atom_in = omega (arith, h, length-take q.atom_count q.atoms)
+
+  pub atom_there : get_or (atoms_in q) i no_atom ≡ atom_at q i
+  atom_there = get_or-take q.atom_count q.atoms i no_atom atom_in
