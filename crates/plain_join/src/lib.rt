@@ -19,11 +19,12 @@ ghost use Rattle.plain.specs.Plain.{plainly};
 ghost use Rattle.plain_atoms.specs.Atoms.{Passed};
 ghost use Rattle.plain_join.specs.Outcome.{PlainJoins};
 
-use join_checks::refusal;
+use join_checks::check;
 use join_query::{Query, Tables};
 use join_window::{Written, emit};
-use plain_atoms::{all_hold, column, holder};
+use plain_atoms::{all_hold, holder};
 use plain_keys::{Row, next_key};
+use refusal::Refusal;
 
 // Writes the rows that complete `found` by words for the last `left` variables of the order, behind the first `rows` rows of the window, until it is full.
 fn search(
@@ -39,19 +40,21 @@ fn search(
     ensures { written window.new result.rows result.full ≡ emits query.n (written window.old rows false) (plainly query.n (drop (query.n - left) (order_of query)) (atoms_of pool.now tables query) found) }
 {
     if left == 0 {
-        return emit(window, found, query.n, rows);
+        return emit(window, &found, query.n, rows);
     }
     let v = query.order[query.n - left];
-    let first = holder(query, v);
+    let (first, c) = holder(query, v);
     let a = query.atoms[first];
-    let c = column(a, v);
     found[v] = 0; // so that the least key of all is tried first
     let mut next = next_key(pool, tables, a, found, c, false);
     let mut written = Written { rows, full: false };
-    while next.found && !written.full {
-        found[v] = next.key;
+    while let Some(key) = next {
+        found[v] = key;
         if all_hold(pool, tables, query, found, v, first + 1) {
             written = search(pool, tables, query, left - 1, found, window, written.rows);
+            if written.full {
+                return written;
+            }
         }
         next = next_key(pool, tables, a, found, c, true);
     }
@@ -70,13 +73,17 @@ pub struct PlainJoined {
 pub fn plain_join(pool: &[u64], tables: Tables, query: Query, window: &mut [u64]) -> PlainJoined
     ensures { PlainJoins pool.now tables query window.old result window.new }
 {
-    let number = refusal(pool, tables, query, window.len());
-    if number != 0 {
+    if let Err(refused) = check(pool, tables, query, window.len()) {
+        let number = refused.number();
         return PlainJoined { number, rows: 0 };
     }
     let row = [0u64; Query::MAX_VARIABLES];
     let written = search(pool, tables, query, query.n, row, window, 0);
-    let number = if written.full { 12 } else { 0 };
+    let number = if written.full {
+        Refusal::Full.number()
+    } else {
+        0
+    };
     let rows = written.rows;
     PlainJoined { number, rows }
 }
