@@ -39,24 +39,24 @@ emit-requires-clause-n_le_max_variables t c = (sized c.requires.0.accepted).few
 pub returns-then-left-eq0 : goal.returns-then-left-eq0
 returns-then-left-eq0 t c =
     let a = c.args in
-    c.emit.ensures ∙ leaf a.query.n (atoms_of a.pool.now a.tables a.query) a.found (written a.window.now a.rows false) (none_left c.requires.0.accepted a.left c.if-left-eq0.true)
+    c.emit.ensures ∙ leaf a.asked.query.n (atoms_of a.asked.pool.now a.asked.tables a.asked.query) a.found (written a.window.now a.rows false) (none_left c.requires.0.accepted a.left c.if-left-eq0.true)
 
 -- ---- the next variable, and the first key
 
-pub offset_bounds-query-query : goal.offset_bounds-query-query
-offset_bounds-query-query t c = omega (arith, (sized c.requires.0.accepted).few, c.if-left-eq0.false)
+pub offset_bounds-asked-asked : goal.offset_bounds-asked-asked
+offset_bounds-asked-asked t c = omega (arith, (sized c.requires.0.accepted).few, c.if-left-eq0.false)
 
-pub bounds-query-query : goal.bounds-query-query
-bounds-query-query t c = omega (arith, (sized c.requires.0.accepted).few, c.if-left-eq0.false, c.requires.1)
+pub bounds-asked-asked : goal.bounds-asked-asked
+bounds-asked-asked t c = omega (arith, (sized c.requires.0.accepted).few, c.if-left-eq0.false, c.requires.1)
 
 pub holder-first-requires : goal.holder-first-requires
-holder-first-requires t c = record { pool = c.args.pool.now; tables = c.args.tables; passed = c.requires.0; below = omega (arith, below c.requires.0 (omega (arith, c.if-left-eq0.false)) c.requires.1) }
+holder-first-requires t c = record { pool = c.args.asked.pool.now; tables = c.args.asked.tables; passed = c.requires.0; below = omega (arith, below c.requires.0 (omega (arith, c.if-left-eq0.false)) c.requires.1) }
 
-pub offset_bounds-query-first : goal.offset_bounds-query-first
-offset_bounds-query-first t c = omega (arith, c.holder-first.ensures.0.inside, (names c.requires.0.accepted).few)
+pub offset_bounds-asked-first : goal.offset_bounds-asked-first
+offset_bounds-asked-first t c = omega (arith, c.holder-first.ensures.0.inside, (names c.requires.0.accepted).few)
 
-pub bounds-query-first : goal.bounds-query-first
-bounds-query-first t c = omega (arith, c.holder-first.ensures.0.inside, (names c.requires.0.accepted).few)
+pub bounds-asked-first : goal.bounds-asked-first
+bounds-asked-first t c = omega (arith, c.holder-first.ensures.0.inside, (names c.requires.0.accepted).few)
 
 pub offset_bounds-found-v : goal.offset_bounds-found-v
 offset_bounds-found-v t c = omega (arith, inside c.requires.0 (let s : 0 < c.args.left = omega (arith, c.if-left-eq0.false) in s) c.requires.1, (sized c.requires.0.accepted).few, c.if-left-eq0.false)
@@ -76,7 +76,7 @@ loop-next-init t c =
     let s : 0 < a.left = omega (arith, c.if-left-eq0.false) in
     let h = c.requires.1 in
     let z = p.accepted in
-    let v = get_or a.query.order (a.query.n - a.left) 0 in
+    let v = get_or a.asked.query.order (a.asked.query.n - a.left) 0 in
     let long : length a.found ≡ max_variables = search rules in (
       p,
       s,
@@ -102,20 +102,20 @@ pub search-written-requires : goal.search-written-requires
 search-written-requires t c =
     let a = c.args in
     let i = c.loop-next.invariant in
-    (omega (arith, c.decreases, i.1), (i.0, omega (arith, i.2), trying_fits i.0.accepted a.left i.1 i.2 (set a.found (get_or a.query.order (a.query.n - a.left) 0) 0) a.window.now a.rows i.3))
+    (omega (arith, c.decreases, i.1), (i.0, omega (arith, i.2), trying_fits i.0.accepted a.left i.1 i.2 (set a.found (get_or a.asked.query.order (a.asked.query.n - a.left) 0) 0) a.window.now a.rows i.3))
 
 pub next_key-next-requires-in-Some : goal.next_key-next-requires-in-Some
 next_key-next-requires-in-Some t c =
     let a = c.args in
     let i = c.loop-next.invariant in
-    first_reads i.0.accepted (get_or a.query.order (a.query.n - a.left) 0) (below i.0 i.1 i.2) c.holder-first.ensures.0 c.holder-first.ensures.1
+    first_reads i.0.accepted (get_or a.asked.query.order (a.asked.query.n - a.left) 0) (below i.0 i.1 i.2) c.holder-first.ensures.0 c.holder-first.ensures.1
 
 pub loop-next-smaller : goal.loop-next-smaller
 loop-next-smaller t c =
     let a = c.args in
     let i = c.loop-next.invariant in
     let z = i.0.accepted in
-    let v = get_or a.query.order (a.query.n - a.left) 0 in
+    let v = get_or a.asked.query.order (a.asked.query.n - a.left) 0 in
     let g = set a.found v 0 in
     trying_less z a.left i.1 i.2 g a.window.now a.rows i.3 c.in-Some.is
     (next_tried z v (below i.0 i.1 i.2) c.holder-first.ensures.0 g c.loop-next.found i.3.same i.3.row_long c.in-Some.key true c.holder-first.ensures.1 c.next_key-next-in-Some.ensures)
@@ -125,29 +125,29 @@ returns-then-written t c =
     let a = c.args in
     let i = c.loop-next.invariant in
     let z = i.0.accepted in
-    let v = get_or a.query.order (a.query.n - a.left) 0 in
+    let v = get_or a.asked.query.order (a.asked.query.n - a.left) 0 in
     let g = set a.found v 0 in
     let k = c.in-Some.key in
-    let tested : c.all_hold.result ≡ all_hold v (set c.loop-next.found v k) (atoms_of a.pool.now a.tables a.query) =
+    let tested : c.all_hold.result ≡ all_hold v (set c.loop-next.found v k) (atoms_of a.asked.pool.now a.asked.tables a.asked.query) =
     rest_holds z v (below i.0 i.1 i.2) c.holder-first.ensures.0 g c.loop-next.found i.3.same i.3.row_long k (i.3.among k c.in-Some.is) c.all_hold.ensures in
     trying_full z a.left i.1 i.2 g a.window.now a.rows i.3 c.in-Some.is
     (under_key z a.left i.1 i.2 g a.window.now a.rows i.3 c.in-Some.is (sym tested ∙ c.if-all_hold.true) c.search-written.ensures) c.if-written.true
-    ∙ ap (emits a.query.n (written a.window.now a.rows false)) (given_before z a.left i.1 i.2 a.found 0)
+    ∙ ap (emits a.asked.query.n (written a.window.now a.rows false)) (given_before z a.left i.1 i.2 a.found 0)
 
 pub loop-next-preserved : goal.loop-next-preserved
 loop-next-preserved t c =
     let a = c.args in
     let i = c.loop-next.invariant in
     let z = i.0.accepted in
-    let v = get_or a.query.order (a.query.n - a.left) 0 in
+    let v = get_or a.asked.query.order (a.asked.query.n - a.left) 0 in
     let g = set a.found v 0 in
     let k = c.in-Some.key in
     let found = c.in-Some.is in
     -- the tests made decide those of all atoms
-    let tested : c.all_hold.result ≡ all_hold v (set c.loop-next.found v k) (atoms_of a.pool.now a.tables a.query) =
+    let tested : c.all_hold.result ≡ all_hold v (set c.loop-next.found v k) (atoms_of a.asked.pool.now a.asked.tables a.asked.query) =
     rest_holds z v (below i.0 i.1 i.2) c.holder-first.ensures.0 g c.loop-next.found i.3.same i.3.row_long k (i.3.among k found) c.all_hold.ensures in
     -- the key behind the next
-    let then : c.next_key-next-in-Some.result ≡ head_of (from (suc k) (tried v g (atoms_of a.pool.now a.tables a.query))) =
+    let then : c.next_key-next-in-Some.result ≡ head_of (from (suc k) (tried v g (atoms_of a.asked.pool.now a.asked.tables a.asked.query))) =
     next_tried z v (below i.0 i.1 i.2) c.holder-first.ensures.0 g c.loop-next.found i.3.same i.3.row_long k true c.holder-first.ensures.1 c.next_key-next-in-Some.ensures in (
       i.0,
       i.1,
@@ -172,5 +172,5 @@ pub returns : goal.returns
 returns t c =
     let a = c.args in
     let i = c.loop-next.invariant in
-    trying_done i.0.accepted a.left i.1 i.2 (set a.found (get_or a.query.order (a.query.n - a.left) 0) 0) a.window.now a.rows i.3 c.in_default.is
-    ∙ ap (emits a.query.n (written a.window.now a.rows false)) (given_before i.0.accepted a.left i.1 i.2 a.found 0)
+    trying_done i.0.accepted a.left i.1 i.2 (set a.found (get_or a.asked.query.order (a.asked.query.n - a.left) 0) 0) a.window.now a.rows i.3 c.in_default.is
+    ∙ ap (emits a.asked.query.n (written a.window.now a.rows false)) (given_before i.0.accepted a.left i.1 i.2 a.found 0)
