@@ -5,9 +5,9 @@ use native.Mathlib.Nat.{suc-mul, mul-le-mul_right}
 use native.Mathlib.Numerals.{add-one}
 use mathlib.Core.Path.{◌≡◌, refl, sym, ap, ◌∙◌}
 use mathlib.Core.Bool.{Bool, true, false, ◌&&◌}
-use mathlib.Core.List.{List, [], ◌∷◌, ◌++◌}
-use lib.ListN.{length, get_or, set, take, drop, replicate, length-drop, get_or-append, length-append}
-use lib.Seq.{take-suc, drop-cons, get_or-drop, set_at, append_snoc, take_at, length-take-le}
+use mathlib.Core.List.{List, [], ◌∷◌}
+use lib.ListN.{length, get_or, take, drop, replicate, length-drop, get_or-append}
+use lib.Seq.{drop-cons, take_at, length-take-le}
 use lib.Dec.{ltb, eqb}
 use borrow.Author.Tests.{eq-eqb, ne_eqb, le-ltb}
 use Rattle.relation.specs.Order.{Row, pick, before}
@@ -22,23 +22,6 @@ use Rattle.listing_verdict.specs.Checked.{eight}
 use Rattle.listing_verdict.specs.Verdict.{in_sequence, good}
 
 -- ---- eight words
-
--- one word more
-pub eight_more : (w : Row) (x : ℕ) → length w < max_variables → set (eight w) (length w) x ≡ eight (w ++ x ∷ [])
-eight_more w x h =
-    let e : max_variables - length w ≡ suc (max_variables - length (w ++ x ∷ [])) = omega (arith, length-append w (x ∷ [])) in
-    ap (λ (k : ℕ). set (w ++ replicate k 0) (length w) x) e
-    ∙ set_at w 0 (replicate (max_variables - length (w ++ x ∷ [])) 0) x (length w) refl
-    ∙ sym (append_snoc w x (replicate (max_variables - length (w ++ x ∷ [])) 0))
-
--- one word more of a row that is read
-pub read_more : (ws : List ℕ) (base n v : ℕ) → n ≤ max_variables → base + n ≤ length ws → v < n → set (eight (take v (drop base ws))) v (get_or ws (base + v) 0) ≡ eight (take (v + 1) (drop base ws))
-read_more ws base n v h k l =
-    let m : length (take v (drop base ws)) ≡ v = length-take-le v (drop base ws) (omega (arith, length-drop base ws)) in
-    ap (λ (i : ℕ). set (eight (take v (drop base ws))) i (get_or ws (base + v) 0)) (sym m)
-    ∙ eight_more (take v (drop base ws)) (get_or ws (base + v) 0) (omega (arith, m))
-    ∙ ap (λ (x : ℕ). eight (take v (drop base ws) ++ x ∷ [])) (sym (get_or-drop base ws v 0))
-    ∙ ap eight (sym (take-suc (drop base ws) v 0 (omega (arith, length-drop base ws))) ∙ ap (λ (i : ℕ). take i (drop base ws)) (sym (add-one v)))
 
 pub eight_front : (w : Row) → take (length w) (eight w) ≡ w
 eight_front w = take_at w (replicate (max_variables - length w) 0) (length w) refl

@@ -15,51 +15,42 @@ ghost use Rattle.listing_verdict.specs.Verdict.{good, first_fail};
 
 use join_query::{Query, Tables};
 use plain_atoms::all_hold;
+use plain_keys::Row;
 
 // Row i of a listing of rows of n words, with zeros behind it.
-pub fn row_at(listing: &[u64], n: usize, i: usize) -> [u64; Query::MAX_VARIABLES]
+pub fn row_at(listing: &[u64], n: usize, i: usize) -> Row
     requires { (n ≤ max_variables) × (i * n + n ≤ length listing.now) }
     ensures { result ≡ eight (take n (drop (i * n) listing.now)) }
 {
     let base = i * n;
     let mut row = [0u64; Query::MAX_VARIABLES];
-    let mut v = 0;
-    while v < n {
-        row[v] = listing[base + v];
-        v += 1;
-    }
+    row[..n].copy_from_slice(&listing[base..base + n]);
     row
 }
 
 // Whether row a comes strictly before row b, as read in the query's order.
-fn comes_before(q: Query, a: [u64; Query::MAX_VARIABLES], b: [u64; Query::MAX_VARIABLES]) -> bool
+fn comes_before(q: Query, a: Row, b: Row) -> bool
     requires { Ordered q }
     ensures { result ≡ before (part (order_of q) a) (part (order_of q) b) }
 {
-    let mut d = 0;
-    while d < q.n {
+    for d in 0..q.n {
         let v = q.order[d];
-        let x = a[v];
-        let y = b[v];
-        if x != y {
-            return x < y;
+        if a[v] != b[v] {
+            return a[v] < b[v];
         }
-        d += 1;
     }
     false // the same words: neither comes before the other
 }
 
 // Whether the row is an answer: each atom's part of it is one of the atom's rows, looked up where the atom has its last word.
-fn answers(pool: &[u64], tables: Tables, query: Query, row: [u64; Query::MAX_VARIABLES]) -> bool
+fn answers(pool: &[u64], tables: Tables, query: Query, row: Row) -> bool
     requires { Passed pool.now tables query }
     ensures { result ≡ some (same (take query.n row)) (complete pool.now tables query) }
 {
-    let mut v = 0;
-    while v < query.n {
+    for v in 0..query.n {
         if !all_hold(pool, tables, query, row, v, 0) {
             return false;
         }
-        v += 1;
     }
     true
 }
@@ -92,12 +83,10 @@ pub fn first_wrong(
     requires { Passed pool.now tables query × (rows * query.n ≤ length listing.now) × (from ≤ rows) × ((k : ℕ) → k < from → good (order_of query) (complete pool.now tables query) (cut rows query.n listing.now) k ≡ true) }
     ensures { result ≡ first_fail rows (good (order_of query) (complete pool.now tables query) (cut rows query.n listing.now)) }
 {
-    let mut i = from;
-    while i < rows {
+    for i in from..rows {
         if !good(pool, tables, query, listing, i) {
             return i;
         }
-        i += 1;
     }
-    i
+    rows
 }

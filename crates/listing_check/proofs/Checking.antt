@@ -5,6 +5,7 @@ use native.Mathlib.Omega.{arith}
 use mathlib.Core.Path.{◌≡◌, refl, sym, ap, ◌∙◌}
 use mathlib.Core.Bool.{Bool, true}
 use mathlib.Core.List.{List, []}
+use Rattle.std.specs.Prelude.{is_some, unwrap_or}
 use lib.ListN.{length, drop, replicate}
 use lib.Dec.{ltb}
 use borrow.Author.Tests.{lt-ltb, le-ltb}
@@ -94,10 +95,11 @@ module _ {pool : List ℕ} {ts : Tables} {q : Query} {len : ℕ} (z : Accepted p
       says_wrong h = sym (ap says (by_row ∙ ap (λ (b : Bool). pick b (wrong row) (lacks lines all)) (lt-ltb row rows h)))
 
       -- and by what the walk came to, with the word for it
-      pub says_ended : rows ≤ row → {v : ℕ} → v ≡ pick s.lacks 3 1 → record { number = 0; verdict = v; row = 0; missing = s.missing } ≡ says (verdict (order_of q) (complete pool ts q) (cut rows q.n ws))
+      pub says_ended : rows ≤ row → {v : ℕ} {m : Row} → v ≡ pick (is_some s.missing) 3 1 → m ≡ unwrap_or s.missing no_row → record { number = 0; verdict = v; row = 0; missing = m } ≡ says (verdict (order_of q) (complete pool ts q) (cut rows q.n ws))
       unfolding ended
-      says_ended h d =
-          ap {B = Checked} (λ (v : ℕ). record { number = 0; verdict = v; row = 0; missing = s.missing }) d
+      says_ended h {v} {m} d e =
+          ap {B = Checked} (λ (x : ℕ). record { number = 0; verdict = x; row = 0; missing = m }) d
+          ∙ ap {B = Checked} (λ (x : Row). record { number = 0; verdict = pick (is_some s.missing) 3 1; row = 0; missing = x }) e
           ∙ ap ended walked
           ∙ meets_ended lines all
           ∙ ap says (right_differs (order_of q) all lines ordered (right (cases (order_of q) all lines)) ∙ sym by_lacks)

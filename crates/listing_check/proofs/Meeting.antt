@@ -4,13 +4,18 @@ use native.Mathlib.Omega.{arith}
 use native.Mathlib.Nat.{mul-zero, div-mul-le_self}
 use native.Mathlib.Numerals.{add-one}
 use mathlib.Core.Path.{◌≡◌, refl, sym, ap, ◌∙◌}
-use mathlib.Core.Bool.{Bool, true, false, ◌&&◌}
+use mathlib.Core.Bool.{Bool, true, false, false≢true, ◌&&◌}
 use mathlib.Core.List.{List, [], ◌∷◌, ◌++◌}
 use lib.ListN.{length, get_or, set, take, drop, replicate, length-set, length-drop}
-use lib.Seq.{ext_get_or, length-take-le, get_or-take, take-set-lt, set-append_left, take_at, drop-cons}
+use lib.Seq.{length-take-le, take-set-lt, set-append_left, take_at, drop-cons}
 use lib.ListN.{drop_of_length-le}
 use lib.Dec.{ltb}
-use borrow.Author.Tests.{ltb-true, ltb-false, lt-ltb, le-ltb}
+use borrow.Author.Tests.{ltb-true, ltb-false, lt-ltb, le-ltb, not-true, not-false}
+use Rattle.std.specs.Prelude.{Some, is_some, unwrap_or, nat_eq, not}
+use Rattle.std.specs.Cmp.Lexicographic.{pointwise}
+use Rattle.std.specs.Bool.{Decides}
+use Rattle.std.proofs.lemmas.Bool.Decides.{Decides-eqb}
+use Rattle.std.proofs.lemmas.Slice.Eq.{slice_eq-Decides}
 use Rattle.relation.specs.Order.{Row, pick}
 use Rattle.relation.specs.Rows.{cut, same}
 use Rattle.relation.proofs.Sorting.{same→eq}
@@ -26,13 +31,15 @@ use Rattle.listing_check.specs.declared.Reached.{Reached}
 
 -- ---- words
 
-pub words_same : (n : ℕ) (a b : Row) → n ≤ length a → n ≤ length b → ((k : ℕ) → k < n → get_or a k 0 ≡ get_or b k 0) → true ≡ same (take n a) (take n b)
-words_same n a b h l f =
-    sym (eq_same (ext_get_or 0 (take n a) (take n b) (length-take-le n a h ∙ sym (length-take-le n b l))
-    (λ k m. let o : k < n = omega (arith, length-take-le n a h) in get_or-take n a k 0 o ∙ f k o ∙ sym (get_or-take n b k 0 o))))
+-- what the comparison of two slices says
+compares : (xs ys : Row) → Decides (pointwise nat_eq xs ys) (xs ≡ ys)
+compares xs ys = slice_eq-Decides Decides-eqb xs ys (pointwise nat_eq xs ys) refl
 
-pub words_differ : (n : ℕ) (a b : Row) (v : ℕ) → v < n → (get_or a v 0 ≡ get_or b v 0 → ⊥) → false ≡ same (take n a) (take n b)
-words_differ n a b v h f = sym (same_not (λ e. f (sym (get_or-take n a v 0 h) ∙ ap (λ (r : Row). get_or r v 0) e ∙ get_or-take n b v 0 h)))
+pub words_same : (xs ys : Row) → not (pointwise nat_eq xs ys) ≡ false → same xs ys ≡ true
+words_same xs ys e = eq_same ((compares xs ys).0 (not-false (pointwise nat_eq xs ys) e))
+
+pub words_differ : (xs ys : Row) → not (pointwise nat_eq xs ys) ≡ true → same xs ys ≡ false
+words_differ xs ys e = same_not (λ p. absurd (false≢true (sym (not-true (pointwise nat_eq xs ys) e) ∙ (compares xs ys).1 p)))
 
 -- a word below n given to a padded row leaves it padded
 pub padded_set : (n : ℕ) (row : Row) (v x : ℕ) → v < n → n ≤ length row → Padded n row → Padded n (set row v x)
@@ -72,13 +79,13 @@ many_inside (suc n) len count = div-mul-le_self len (suc n)
 
 module _ (rows : List Row) (at : ℕ) (r : Row) where
   abbrev lacking : Reached
-  lacking = record { at = at; lacks = true; missing = eight r }
+  lacking = record { at = at; missing = Some (eight r) }
 
-  pub meet_past : length rows ≤ at → meet rows (agreed at) r ≡ record { at = at; lacks = true; missing = eight r }
+  pub meet_past : length rows ≤ at → meet rows (agreed at) r ≡ record { at = at; missing = Some (eight r) }
   unfolding meet
   meet_past h = ap (λ (b : Bool). pick (b && same (get_or rows at []) r) (agreed (at + 1)) lacking) (le-ltb at (length rows) h)
 
-  pub meet_other : same (get_or rows at []) r ≡ false → meet rows (agreed at) r ≡ record { at = at; lacks = true; missing = eight r }
+  pub meet_other : same (get_or rows at []) r ≡ false → meet rows (agreed at) r ≡ record { at = at; missing = Some (eight r) }
   unfolding meet
   meet_other e = ap (λ (b : Bool). pick (ltb at (length rows) && b) (agreed (at + 1)) lacking) e ∙ go (ltb at (length rows))
     where
@@ -105,18 +112,18 @@ unfolding meets
 meets_append rows s [] ys = refl
 meets_append rows s (x ∷ xs) ys = meets_append rows (meet rows s x) xs ys
 
-pub meets_lacking : (rows : List Row) (s : Reached) (xs : List Row) → s.lacks ≡ true → meets rows s xs ≡ s
+pub meets_lacking : (rows : List Row) (s : Reached) (xs : List Row) → is_some s.missing ≡ true → meets rows s xs ≡ s
 unfolding meets meet
 meets_lacking rows s [] e = refl
 meets_lacking rows s (x ∷ xs) e =
-    let t : meet rows s x ≡ s = ap (λ (b : Bool). pick b s (pick (ltb s.at (length rows) && same (get_or rows s.at []) x) (agreed (s.at + 1)) (record { at = s.at; lacks = true; missing = eight x }))) e in
+    let t : meet rows s x ≡ s = ap (λ (b : Bool). pick b s (pick (ltb s.at (length rows) && same (get_or rows s.at []) x) (agreed (s.at + 1)) (record { at = s.at; missing = Some (eight x) }))) e in
     ap (λ (u : Reached). meets rows u xs) t ∙ meets_lacking rows s xs e
 
 -- ---- what it comes to
 
 -- the verdict of a walk that has come to its end
 unfoldable pub ended : Reached → Checked
-ended s = record { number = 0; verdict = pick s.lacks 3 1; row = 0; missing = s.missing }
+ended s = record { number = 0; verdict = pick (is_some s.missing) 3 1; row = 0; missing = unwrap_or s.missing no_row }
 
 -- the k rows listed from a place on are the first k of all
 abbrev Same : List Row → ℕ → List Row → ℕ → Type 0
@@ -132,7 +139,7 @@ same_more rows at r all k h e f (suc j) l =
 -- either the walk agrees to its end, or the row that it names is the first that differs
 data Came (rows : List Row) (at : ℕ) (all : List Row) : Type 0 where
   whole : meets rows (agreed at) all ≡ agreed (at + length all) → differs (drop at rows) all ≡ accepted → Same rows at all (length all) → Came rows at all
-  short : (k : ℕ) (r : Row) → meets rows (agreed at) all ≡ record { at = at + k; lacks = true; missing = eight r } → differs (drop at rows) all ≡ missing r → Same rows at all k → Came rows at all
+  short : (k : ℕ) (r : Row) → meets rows (agreed at) all ≡ record { at = at + k; missing = Some (eight r) } → differs (drop at rows) all ≡ missing r → Same rows at all k → Came rows at all
 
 came : (rows : List Row) (at : ℕ) (all : List Row) → Came rows at all
 unfolding meets differs
@@ -140,12 +147,12 @@ came rows at [] = whole (ap agreed (let e : at ≡ at + 0 = omega arith in e)) r
 came rows at (r ∷ all) = go (ltb at (length rows)) refl (same (get_or rows at []) r) refl (came rows (at + 1) all)
   where
     -- it stops at this row
-    stop : meet rows (agreed at) r ≡ record { at = at; lacks = true; missing = eight r } → differs (drop at rows) (r ∷ all) ≡ missing r → Came rows at (r ∷ all)
+    stop : meet rows (agreed at) r ≡ record { at = at; missing = Some (eight r) } → differs (drop at rows) (r ∷ all) ≡ missing r → Came rows at (r ∷ all)
     stop e d =
         short 0 r
         (ap (λ (s : Reached). meets rows s all) e
-        ∙ meets_lacking rows (record { at = at; lacks = true; missing = eight r }) all refl
-        ∙ ap {B = Reached} (λ (k : ℕ). record { at = k; lacks = true; missing = eight r }) (let z : at ≡ at + 0 = omega arith in z))
+        ∙ meets_lacking rows (record { at = at; missing = Some (eight r) }) all refl
+        ∙ ap {B = Reached} (λ (k : ℕ). record { at = k; missing = Some (eight r) }) (let z : at ≡ at + 0 = omega arith in z))
         d
         (λ j h. absurd (omega arith))
 
@@ -167,7 +174,7 @@ came rows at (r ∷ all) = go (ltb at (length rows)) refl (same (get_or rows at 
         (same_more rows at r all (length all) h e f)
     next h true e (short k q m d f) =
         short (suc k) q
-        (ap (λ (s : Reached). meets rows s all) (meet_next rows at r h e) ∙ m ∙ ap {B = Reached} (λ (i : ℕ). record { at = i; lacks = true; missing = eight q }) (let z : at + 1 + k ≡ at + suc k = omega arith in z))
+        (ap (λ (s : Reached). meets rows s all) (meet_next rows at r h e) ∙ m ∙ ap {B = Reached} (λ (i : ℕ). record { at = i; missing = Some (eight q) }) (let z : at + 1 + k ≡ at + suc k = omega arith in z))
         (by_row h e ∙ d)
         (same_more rows at r all k h e f)
 
@@ -197,9 +204,9 @@ meets_same rows all {s} e k h = go (came rows 0 all)
     go (short i r m d f) = first f (ap (λ (u : Reached). u.at) (e ∙ m))
 
 -- a walk that lacks nothing has nothing in its third field
-pub meets_agreed : (rows : List Row) (at : ℕ) (all : List Row) {s : Reached} → s ≡ meets rows (agreed at) all → s.lacks ≡ false → s ≡ agreed s.at
+pub meets_agreed : (rows : List Row) (at : ℕ) (all : List Row) {s : Reached} → s ≡ meets rows (agreed at) all → is_some s.missing ≡ false → s ≡ agreed s.at
 meets_agreed rows at all {s} e n = go (came rows at all)
   where
     go : Came rows at all → s ≡ agreed s.at
     go (whole m d f) = let t : s ≡ agreed (at + length all) = e ∙ m in t ∙ ap (λ (u : Reached). agreed u.at) (sym t)
-    go (short k r m d f) = let t : s.lacks ≡ true = ap (λ (u : Reached). u.lacks) (e ∙ m) in let z : true ≡ false = sym t ∙ n in let y : ◌≡◌ {A = ℕ} 0 1 = cc in absurd (omega arith)
+    go (short k r m d f) = let t : is_some s.missing ≡ true = ap (λ (u : Reached). is_some u.missing) (e ∙ m) in let z : true ≡ false = sym t ∙ n in let y : ◌≡◌ {A = ℕ} 0 1 = cc in absurd (omega arith)

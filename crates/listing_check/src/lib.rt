@@ -10,7 +10,7 @@
 #![tactic(auto)]
 
 ghost use Rattle.std.specs.Prelude.{◌≡◌, ◌*◌, ◌-◌, ◌≤◌, length, take, drop};
-ghost use Rattle.relation.specs.Rows.{cut, same};
+ghost use Rattle.relation.specs.Rows.{cut};
 ghost use Rattle.join_query.specs.Query.{max_variables, order_of, atoms_of};
 ghost use Rattle.plain.specs.Plain.{plainly};
 ghost use Rattle.plain_atoms.specs.Atoms.{Passed};
@@ -18,66 +18,38 @@ ghost use Rattle.listing_verdict.specs.Checked.{says, complete, Checks};
 ghost use Rattle.listing_verdict.specs.Verdict.{how_many, verdict};
 ghost use Rattle.listing_check.specs.Walk.{meet, meets, Padded, Agrees};
 
-use join_checks::refusal;
+use join_checks::check;
 use join_query::{Query, Tables};
 use listed_rows::{first_wrong, row_at};
 use listing_verdict::Checked;
-use plain_atoms::{all_hold, column, holder};
-use plain_keys::next_key;
+use plain_atoms::{all_hold, holder};
+use plain_keys::{Row, next_key};
 
-// How many rows of the two listings agree; and whether the complete one then has a row that is not the next one listed, with that row.
+// How many rows of the two listings agree; and the row of the complete one that is not the next one listed, if it then has one.
 #[derive(Clone, Copy)]
 pub struct Reached {
     pub at: usize,
-    pub lacks: bool,
-    pub missing: [u64; Query::MAX_VARIABLES],
-}
-
-// Whether two rows have the same first n words.
-fn same_words(n: usize, a: [u64; Query::MAX_VARIABLES], b: [u64; Query::MAX_VARIABLES]) -> bool
-    requires { n ≤ max_variables }
-    ensures { result ≡ same (take n a) (take n b) }
-{
-    let mut v = 0;
-    while v < n {
-        if a[v] != b[v] {
-            return false;
-        }
-        v += 1;
-    }
-    true
+    pub missing: Option<Row>,
 }
 
 // Compares an answer with the row listed behind those that agree.
-fn meet(
-    listing: &[u64],
-    n: usize,
-    rows: usize,
-    found: [u64; Query::MAX_VARIABLES],
-    met: Reached,
-) -> Reached
+fn meet(listing: &[u64], n: usize, rows: usize, found: Row, met: Reached) -> Reached
     requires { (n ≤ max_variables) × (rows * n ≤ length listing.now) × Padded n found × Agrees met }
     ensures { result ≡ meet (cut rows n listing.now) met (take n found) }
 {
     let at = met.at;
+    let missing = Some(found);
     if at >= rows {
-        return Reached {
-            at,
-            lacks: true, // no row is listed there
-            missing: found,
-        };
+        return Reached { at, missing }; // no row is listed there
     }
     let next = row_at(listing, n, at);
-    if !same_words(n, next, found) {
-        return Reached {
-            at,
-            lacks: true,
-            missing: found,
-        };
+    if next[..n] != found[..n] {
+        return Reached { at, missing };
     }
-    let mut more = met;
-    more.at = at + 1;
-    more
+    Reached {
+        at: at + 1,
+        missing: None,
+    }
 }
 
 // Compares the rows that complete `found` by words for the last `left` variables of the order with those listed behind the ones that agree, until one is missing.
@@ -86,7 +58,7 @@ fn search(
     tables: Tables,
     query: Query,
     left: usize,
-    found: [u64; Query::MAX_VARIABLES],
+    found: Row,
     listing: &[u64],
     rows: usize,
     from: Reached,
@@ -98,18 +70,17 @@ fn search(
         return meet(listing, query.n, rows, found, from);
     }
     let v = query.order[query.n - left];
-    let first = holder(query, v);
+    let (first, c) = holder(query, v);
     let a = query.atoms[first];
-    let c = column(a, v);
     let mut row = found;
     row[v] = 0; // so that the least key of all is tried first
     let mut met = from;
     let mut next = next_key(pool, tables, a, row, c, false);
-    while next.found {
-        row[v] = next.key;
+    while let Some(key) = next {
+        row[v] = key;
         if all_hold(pool, tables, query, row, v, first + 1) {
             met = search(pool, tables, query, left - 1, row, listing, rows, met);
-            if met.lacks {
+            if met.missing.is_some() {
                 return met;
             }
         }
@@ -136,8 +107,7 @@ fn verdict(pool: &[u64], tables: Tables, query: Query, listing: &[u64], rows: us
     let none = [0u64; Query::MAX_VARIABLES];
     let start = Reached {
         at: 0,
-        lacks: false,
-        missing: none,
+        missing: None,
     };
     let end = search(pool, tables, query, query.n, none, listing, rows, start);
     let row = first_wrong(pool, tables, query, listing, rows, end.at);
@@ -149,11 +119,10 @@ fn verdict(pool: &[u64], tables: Tables, query: Query, listing: &[u64], rows: us
             missing: none,
         };
     }
-    let missing = end.missing; // zeros, where none is
-    let mut verdict = Checked::ACCEPTED;
-    if end.lacks {
-        verdict = Checked::MISSING;
-    }
+    let (verdict, missing) = match end.missing {
+        Some(row) => (Checked::MISSING, row),
+        None => (Checked::ACCEPTED, none),
+    };
     Checked {
         number: 0,
         verdict,
@@ -173,14 +142,12 @@ pub fn check_listing(
 ) -> Checked
     ensures { Checks pool.now tables query listing.now count result }
 {
-    let number = refusal(pool, tables, query, listing.len());
-    if number != 0 {
-        let none = [0u64; Query::MAX_VARIABLES];
+    if let Err(refused) = check(pool, tables, query, listing.len()) {
         return Checked {
-            number,
+            number: refused.number(),
             verdict: Checked::UNCHECKED,
             row: 0,
-            missing: none,
+            missing: [0u64; Query::MAX_VARIABLES],
         };
     }
     let rows = how_many(query.n, listing.len(), count);

@@ -23,7 +23,7 @@ use Rattle.plain.specs.Plain.{column, holder, keys_at, tried, all_hold}
 use Rattle.plain.proofs.Columns.{Holds, holder_in, holder_is}
 use Rattle.plain.proofs.Rest.{tried_before, behind_holder}
 use Rattle.plain_keys.specs.Keys.{words, bound, head_of, Readable}
-use Rattle.plain_keys.specs.declared.Next.{Next}
+use Rattle.std.specs.Prelude.{Option}
 use Rattle.plain_atoms.specs.Atoms.{First}
 use Rattle.plain_atoms.proofs.Searching.{asked, searched}
 
@@ -84,7 +84,7 @@ module _ {pool : List ℕ} {ts : Tables} {q : Query} {len : ℕ} (z : Accepted p
       inside = omega (arith, long, b, (sized z).few)
 
       -- the next of its keys is the next to try
-      pub next_tried : (past : Bool) {c : ℕ} {x : Next} → c ≡ column v (vars_of (atom_at q r)) → x ≡ head_of (from (bound past (get_or (words (atom_at q r) (set row v k)) c 0)) (keys_under (take c (words (atom_at q r) (set row v k))) (rows_at pool ts (atom_at q r)))) → x ≡ head_of (from (bound past k) (tried v found (atoms_of pool ts q)))
+      pub next_tried : (past : Bool) {c : ℕ} {x : Option ℕ} → c ≡ column v (vars_of (atom_at q r)) → x ≡ head_of (from (bound past (get_or (words (atom_at q r) (set row v k)) c 0)) (keys_under (take c (words (atom_at q r) (set row v k))) (rows_at pool ts (atom_at q r)))) → x ≡ head_of (from (bound past k) (tried v found (atoms_of pool ts q)))
       next_tried past e p =
           asked pool ts (atom_at q r) v (set row v k) past e (omega (arith, e, first_in)) p
           ∙ ap (λ (y : ℕ). head_of (from (bound past y) (keys_at v (set row v k) (atom_of pool ts (atom_at q r))))) (get_or-set_same row v k 0 inside)

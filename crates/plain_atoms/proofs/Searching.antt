@@ -8,7 +8,8 @@ use mathlib.Core.Bool.{Bool, true, false, ◌&&◌}
 use mathlib.Core.List.{List}
 use lib.ListN.{length, get_or, take, drop, length-take, get_or-eq_default}
 use lib.Seq.{take-take, get_or-take}
-use lib.Dec.{eqb}
+use Rattle.std.specs.Prelude.{Option, Some, nat_eq}
+use Rattle.std.specs.Option.{option_eq}
 use borrow.Author.Tests.{eq-eqb, ne_eqb}
 use Rattle.relation.specs.Order.{Row, pick}
 use Rattle.relation.specs.Lists.{Ascends}
@@ -27,8 +28,7 @@ use Rattle.join_query.proofs.Accepted.{sized, names, lists, sound, sound_maker, 
 use Rattle.plain.specs.Plain.{column, keys_at, holds, all_hold}
 use Rattle.plain.proofs.Rest.{rest_next, rest_none}
 use Rattle.plain_keys.specs.Keys.{words, bound, head_of}
-use Rattle.plain_keys.specs.declared.Next.{Next}
-use Rattle.plain_keys.proofs.Owners.{found_has, none_has, readable_wide}
+use Rattle.plain_keys.proofs.Owners.{asked_has, readable_wide}
 use Rattle.plain_keys.proofs.Found.{words_at}
 use Rattle.plain_atoms.specs.Atoms.{Searched}
 use Rattle.plain_atoms.proofs.Places.{column_var, take_part}
@@ -37,7 +37,7 @@ use Rattle.plain_atoms.proofs.Places.{column_var, take_part}
 
 module _ (pool : List ℕ) (ts : Tables) (a : Atom) (v : ℕ) (row : Row) where
   -- what a search of the atom's rows finds beside the row's words for the variables before v
-  pub asked : (past : Bool) {c : ℕ} {x : Next} → c ≡ column v (vars_of a) → c < length (vars_of a) → x ≡ head_of (from (bound past (get_or (words a row) c 0)) (keys_under (take c (words a row)) (rows_at pool ts a))) → x ≡ head_of (from (bound past (get_or row v 0)) (keys_at v row (atom_of pool ts a)))
+  pub asked : (past : Bool) {c : ℕ} {x : Option ℕ} → c ≡ column v (vars_of a) → c < length (vars_of a) → x ≡ head_of (from (bound past (get_or (words a row) c 0)) (keys_under (take c (words a row)) (rows_at pool ts a))) → x ≡ head_of (from (bound past (get_or row v 0)) (keys_at v row (atom_of pool ts a)))
   unfolding keys_at
   asked past {c} e h p =
       let l : c < length a.variables = omega (arith, length-take a.len a.variables) in
@@ -67,13 +67,9 @@ module _ (pool : List ℕ) (ts : Tables) (a : Atom) (v : ℕ) (row : Row) where
         keys_ascend (take (column v (vars_of a)) (part (vars_of a) row)) (readable_wide r)
         (omega (arith, r.short, length-take (column v (vars_of a)) (part (vars_of a) row)))
 
-    module _ {x : Next} (p : x ≡ head_of (from (get_or row v 0) keys)) where
-      -- a key is found: it is the word, or the word is not among them
-      pub holds_found : x.found ≡ true → eqb x.key (get_or row v 0) ≡ holds v row (atom_of pool ts a)
-      holds_found f = found_has (get_or row v 0) keys rise p f ∙ sym complete
-
-      pub holds_none : x.found ≡ false → x.found ≡ holds v row (atom_of pool ts a)
-      holds_none f = none_has (get_or row v 0) keys rise p f ∙ sym complete
+    -- whether the word is the key that a search for it finds
+    pub holds_asked : {c : ℕ} {x : Option ℕ} → c ≡ column v (vars_of a) → x ≡ head_of (from (get_or (words a row) c 0) (keys_under (take c (words a row)) (rows_at pool ts a))) → option_eq nat_eq x (Some (get_or row v 0)) ≡ holds v row (atom_of pool ts a)
+    holds_asked f p = asked_has (get_or row v 0) keys rise (asked false f (omega (arith, e, f)) p) ∙ sym complete
 
 -- ---- a query that passed
 

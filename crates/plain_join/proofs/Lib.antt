@@ -1,3 +1,4 @@
+pub mod Refused
 pub mod Trying
 mod Joining
 pub mod Determined

@@ -28,13 +28,14 @@ use Rattle.plain.specs.Plain.{tried, all_hold, plainly}
 use Rattle.plain.proofs.Plain.{keeps, tried_ascend}
 use Rattle.plain.proofs.Rest.{plainly_before}
 use Rattle.plain_keys.specs.Keys.{head_of}
-use Rattle.plain_keys.specs.declared.Next.{Next}
+use Rattle.std.specs.Prelude.{Option, Some, None}
 
 -- the keys left where x is the next
-abbrev pub todo : List ℕ → Next → List ℕ
-todo ks x = pick x.found (x.key ∷ from (suc x.key) ks) []
+abbrev pub todo : List ℕ → Option ℕ → List ℕ
+todo ks None = []
+todo ks (Some k) = k ∷ from (suc k) ks
 
-pub todo_is : {ks : List ℕ} → Ascends ◌<◌ ks → (b : ℕ) {x : Next} → x ≡ head_of (from b ks) → todo ks x ≡ from b ks
+pub todo_is : {ks : List ℕ} → Ascends ◌<◌ ks → (b : ℕ) {x : Option ℕ} → x ≡ head_of (from b ks) → todo ks x ≡ from b ks
 unfolding head_of
 todo_is {ks} s b e = ap (todo ks) e ∙ go (from b ks) refl
   where
@@ -46,8 +47,8 @@ todo_is {ks} s b e = ap (todo ks) e ∙ go (from b ks) refl
         (sym (from_later s (let z : b ≤ suc k = omega arith in z)) ∙ ap (from (suc k)) d ∙ from_past (subst (Ascends ◌<◌) d (from_ascends b s)))
 
 -- the next is one of them
-pub next_in : {ks : List ℕ} → Ascends ◌<◌ ks → (b : ℕ) {x : Next} → x ≡ head_of (from b ks) → x.found ≡ true → x.key ∈ ks
-next_in {ks} s b {x} e f = let m : x.key ∈ todo ks x = rw f (hd refl) in in_from b ks (rw (todo_is s b e) at m)
+pub next_in : {ks : List ℕ} → Ascends ◌<◌ ks → (b : ℕ) {x : Option ℕ} → x ≡ head_of (from b ks) → (k : ℕ) → x ≡ Some k → k ∈ ks
+next_in {ks} s b {x} e k f = let m : k ∈ todo ks x = rw f (hd refl) in in_from b ks (rw (todo_is s b e) at m)
 
 -- what a key has below it
 abbrev pub rows_under : ℕ → List meaning.Atom → ℕ → List ℕ → Row → ℕ → List Row
@@ -117,20 +118,22 @@ module _ {pool : List ℕ} {ts : Tables} {q : Query} {len : ℕ} (z : Accepted p
 
   module _ (w₀ : List ℕ) (first : ℕ) where
     -- the keys left lead to the end, and the row has the words given
-    pub record Trying (window : List ℕ) (row : Row) (next : Next) (so : Written) : Type 0 where
+    pub record Trying (window : List ℕ) (row : Row) (next : Option ℕ) (so : Written) : Type 0 where
       pub ends : emits q.n (written window so.rows so.full) (flat_map f (todo ks next)) ≡ emits q.n (written w₀ first false) (plainly q.n (drop depth (order_of q)) atoms found)
+      pub room : so.full ≡ false
       pub window_long : length window ≡ length w₀
       pub fits : so.rows * q.n ≤ length w₀
       pub same : (x : ℕ) → set row v x ≡ set found v x
       pub row_long : length row ≡ max_variables
-      pub among : next.found ≡ true → next.key ∈ ks
+      pub among : (k : ℕ) → next ≡ Some k → k ∈ ks
 
-    pub trying_same : {w window : List ℕ} {s so : Written} {next : Next} {row : Row} → w ≡ window → s ≡ so → Trying w row next s → Trying window row next so
+    pub trying_same : {w window : List ℕ} {s so : Written} {next : Option ℕ} {row : Row} → w ≡ window → s ≡ so → Trying w row next s → Trying window row next so
     trying_same {w} {window} {s} {so} {next} {row} d e t = subst (λ (x : List ℕ). Trying x row next so) d (subst (Trying w row next) e t)
 
-    pub trying_start : {next : Next} → next ≡ head_of (from 0 (tried (get_or q.order (q.n - left) 0) found (atoms_of pool ts q))) → length found ≡ max_variables → Fits q.n (length w₀) first → Trying w₀ found next (record { rows = first; full = false })
+    pub trying_start : {next : Option ℕ} → next ≡ head_of (from 0 (tried (get_or q.order (q.n - left) 0) found (atoms_of pool ts q))) → length found ≡ max_variables → Fits q.n (length w₀) first → Trying w₀ found next (record { rows = first; full = false })
     trying_start {next} e o g = record {
       ends = ap (λ (m : List ℕ). emits q.n (written w₀ first false) (flat_map f m)) (todo_is rise 0 e ∙ from_zero ks) ∙ ap (emits q.n (written w₀ first false)) (sym rows_are);
+      room = refl;
       window_long = refl;
       fits = g.inside;
       same = λ x. refl;
@@ -138,62 +141,65 @@ module _ {pool : List ℕ} {ts : Tables} {q : Query} {len : ℕ} (z : Accepted p
       among = next_in rise 0 e;
     }
 
-    module _ {window : List ℕ} {row : Row} {next : Next} {so : Written} (t : Trying window row next so) where
+    module _ {window : List ℕ} {row : Row} {next : Option ℕ} {so : Written} (t : Trying window row next so) where
       pub trying_fits : Fits q.n (length window) so.rows
       trying_fits = record {
         inside = omega (arith, t.fits, t.window_long);
         few = omega (arith, t.fits, t.window_long, le-mul_of_pos_right so.rows (let p : 0 < q.n = omega arith in p));
       }
 
-      -- no key is left, or no room
-      pub trying_done : next.found ≡ false → written window so.rows so.full ≡ emits q.n (written w₀ first false) (plainly q.n (drop (q.n - left) (order_of q)) (atoms_of pool ts q) found)
+      -- no key is left
+      pub trying_done : next ≡ None → written window so.rows so.full ≡ emits q.n (written w₀ first false) (plainly q.n (drop (q.n - left) (order_of q)) (atoms_of pool ts q) found)
       unfolding flat_map emits
-      trying_done e = sym (ap (λ (b : Bool). emits q.n (written window so.rows so.full) (flat_map f (pick b (next.key ∷ from (suc next.key) ks) []))) e) ∙ t.ends
+      trying_done e = sym (ap (λ (x : Option ℕ). emits q.n (written window so.rows so.full) (flat_map f (todo ks x))) e) ∙ t.ends
 
-      pub trying_full : so.full ≡ true → written window so.rows so.full ≡ emits q.n (written w₀ first false) (plainly q.n (drop (q.n - left) (order_of q)) (atoms_of pool ts q) found)
-      trying_full u = sym (emits_full q.n (written window so.rows so.full) (flat_map f (todo ks next)) u) ∙ t.ends
-
-      module _ (e : next.found ≡ true) (u : so.full ≡ false) where
-        key_first : emits q.n (emits q.n (written window so.rows false) (f next.key)) (flat_map f (from (suc next.key) ks)) ≡ emits q.n (written w₀ first false) (plainly q.n (drop depth (order_of q)) atoms found)
+      module _ {key : ℕ} (e : next ≡ Some key) where
+        key_first : emits q.n (emits q.n (written window so.rows false) (f key)) (flat_map f (from (suc key) ks)) ≡ emits q.n (written w₀ first false) (plainly q.n (drop depth (order_of q)) atoms found)
         unfolding flat_map
         key_first =
-            sym (emits_append q.n (written window so.rows false) (f next.key) (flat_map f (from (suc next.key) ks)))
-            ∙ sym (ap (λ (b : Bool). emits q.n (written window so.rows false) (flat_map f (pick b (next.key ∷ from (suc next.key) ks) []))) e)
-            ∙ sym (ap (λ (b : Bool). emits q.n (written window so.rows b) (flat_map f (todo ks next))) u)
+            sym (emits_append q.n (written window so.rows false) (f key) (flat_map f (from (suc key) ks)))
+            ∙ sym (ap (λ (x : Option ℕ). emits q.n (written window so.rows false) (flat_map f (todo ks x))) e)
+            ∙ sym (ap (λ (b : Bool). emits q.n (written window so.rows b) (flat_map f (todo ks next))) t.room)
             ∙ t.ends
 
         -- the rows of the next key, where it passes the tests and where it does not
-        pub under_key : {s : Progress} → all_hold v (set row v next.key) atoms ≡ true → s ≡ emits q.n (written window so.rows false) (plainly q.n vs atoms (set row v next.key)) → s ≡ emits q.n (written window so.rows false) (rows_under q.n (atoms_of pool ts q) (get_or q.order (q.n - left) 0) (drop (q.n - (left - 1)) (order_of q)) found next.key)
+        pub under_key : {s : Progress} → all_hold v (set row v key) atoms ≡ true → s ≡ emits q.n (written window so.rows false) (plainly q.n vs atoms (set row v key)) → s ≡ emits q.n (written window so.rows false) (rows_under q.n (atoms_of pool ts q) (get_or q.order (q.n - left) 0) (drop (q.n - (left - 1)) (order_of q)) found key)
         under_key a p =
             p
-            ∙ ap (λ (r : Row). emits q.n (written window so.rows false) (plainly q.n vs atoms r)) (t.same next.key)
-            ∙ ap (λ (b : Bool). emits q.n (written window so.rows false) (pick b (plainly q.n vs atoms (set found v next.key)) [])) (sym (ap (λ (r : Row). all_hold v r atoms) (sym (t.same next.key)) ∙ a))
+            ∙ ap (λ (r : Row). emits q.n (written window so.rows false) (plainly q.n vs atoms r)) (t.same key)
+            ∙ ap (λ (b : Bool). emits q.n (written window so.rows false) (pick b (plainly q.n vs atoms (set found v key)) [])) (sym (ap (λ (r : Row). all_hold v r atoms) (sym (t.same key)) ∙ a))
 
-        pub under_none : all_hold v (set row v next.key) atoms ≡ false → written window so.rows so.full ≡ emits q.n (written window so.rows false) (rows_under q.n (atoms_of pool ts q) (get_or q.order (q.n - left) 0) (drop (q.n - (left - 1)) (order_of q)) found next.key)
+        pub under_none : all_hold v (set row v key) atoms ≡ false → written window so.rows so.full ≡ emits q.n (written window so.rows false) (rows_under q.n (atoms_of pool ts q) (get_or q.order (q.n - left) 0) (drop (q.n - (left - 1)) (order_of q)) found key)
         unfolding emits
         under_none a =
-            ap (written window so.rows) u
-            ∙ ap (λ (b : Bool). emits q.n (written window so.rows false) (pick b (plainly q.n vs atoms (set found v next.key)) [])) (sym (ap (λ (r : Row). all_hold v r atoms) (sym (t.same next.key)) ∙ a))
+            ap (written window so.rows) t.room
+            ∙ ap (λ (b : Bool). emits q.n (written window so.rows false) (pick b (plainly q.n vs atoms (set found v key)) [])) (sym (ap (λ (r : Row). all_hold v r atoms) (sym (t.same key)) ∙ a))
 
-        wide : (b : Bool) → Width q.n (pick b (plainly q.n vs atoms (set found v next.key)) [])
-        wide true r m = (keeps q.n atoms vs (set found v next.key) (omega (arith, ap (length {A = ℕ}) (t.same next.key), length-set row v next.key, t.row_long, (sized z).few)) m).0
+        wide : (b : Bool) → Width q.n (pick b (plainly q.n vs atoms (set found v key)) [])
+        wide true r m = (keeps q.n atoms vs (set found v key) (omega (arith, ap (length {A = ℕ}) (t.same key), length-set row v key, t.row_long, (sized z).few)) m).0
         wide false r m = absurd (not_in_nil m)
 
         -- fewer keys are left
-        pub trying_less : {then : Next} → then ≡ head_of (from (suc next.key) (tried (get_or q.order (q.n - left) 0) found (atoms_of pool ts q))) → length (todo ks then) < length (todo ks next)
-        trying_less {then} c = omega (arith, ap (length {A = ℕ}) (todo_is rise (suc next.key) c), ap (λ (x : Bool). length (pick x (next.key ∷ from (suc next.key) ks) [])) e)
+        pub trying_less : {then : Option ℕ} → then ≡ head_of (from (suc key) (tried (get_or q.order (q.n - left) 0) found (atoms_of pool ts q))) → length (todo ks then) < length (todo ks next)
+        trying_less {then} c = omega (arith, ap (length {A = ℕ}) (todo_is rise (suc key) c), ap (λ (x : Option ℕ). length (todo ks x)) e)
 
-        pub trying_next : {w : List ℕ} {more : Written} → written w more.rows more.full ≡ emits q.n (written window so.rows false) (rows_under q.n (atoms_of pool ts q) (get_or q.order (q.n - left) 0) (drop (q.n - (left - 1)) (order_of q)) found next.key) → {then : Next} → then ≡ head_of (from (suc next.key) (tried (get_or q.order (q.n - left) 0) found (atoms_of pool ts q))) → Trying w (set row (get_or q.order (q.n - left) 0) next.key) then more
-        trying_next {w} {more} p {then} c =
-            let b = all_hold v (set found v next.key) atoms in
-            record {
-              ends =
-                  ap (λ (m : List ℕ). emits q.n (written w more.rows more.full) (flat_map f m)) (todo_is rise (suc next.key) c)
-                  ∙ ap (λ (s : Progress). emits q.n s (flat_map f (from (suc next.key) ks))) p
-                  ∙ key_first;
-              window_long = ap (λ (s : Progress). length s.words) p ∙ emits_length q.n (f next.key) (written window so.rows false) (wide b) ∙ t.window_long;
-              fits = omega (arith, ap (λ (s : Progress). s.count * q.n) p, emits_fits q.n (f next.key) (written window so.rows false) (wide b) (omega (arith, t.fits, t.window_long)), t.window_long);
-              same = λ x. set-set row v next.key x ∙ t.same x;
-              row_long = length-set row v next.key ∙ t.row_long;
-              among = next_in rise (suc next.key) c;
-            }
+        module _ {w : List ℕ} {more : Written} (p : written w more.rows more.full ≡ emits q.n (written window so.rows false) (rows_under q.n (atoms_of pool ts q) (get_or q.order (q.n - left) 0) (drop (q.n - (left - 1)) (order_of q)) found key)) where
+          -- no room is left
+          pub trying_full : more.full ≡ true → written w more.rows more.full ≡ emits q.n (written w₀ first false) (plainly q.n (drop (q.n - left) (order_of q)) (atoms_of pool ts q) found)
+          trying_full u = sym (emits_full q.n (written w more.rows more.full) (flat_map f (from (suc key) ks)) u) ∙ ap (λ (s : Progress). emits q.n s (flat_map f (from (suc key) ks))) p ∙ key_first
+
+          pub trying_next : more.full ≡ false → {then : Option ℕ} → then ≡ head_of (from (suc key) (tried (get_or q.order (q.n - left) 0) found (atoms_of pool ts q))) → Trying w (set row (get_or q.order (q.n - left) 0) key) then more
+          trying_next u {then} c =
+              let b = all_hold v (set found v key) atoms in
+              record {
+                ends =
+                    ap (λ (m : List ℕ). emits q.n (written w more.rows more.full) (flat_map f m)) (todo_is rise (suc key) c)
+                    ∙ ap (λ (s : Progress). emits q.n s (flat_map f (from (suc key) ks))) p
+                    ∙ key_first;
+                room = u;
+                window_long = ap (λ (s : Progress). length s.words) p ∙ emits_length q.n (f key) (written window so.rows false) (wide b) ∙ t.window_long;
+                fits = omega (arith, ap (λ (s : Progress). s.count * q.n) p, emits_fits q.n (f key) (written window so.rows false) (wide b) (omega (arith, t.fits, t.window_long)), t.window_long);
+                same = λ x. set-set row v key x ∙ t.same x;
+                row_long = length-set row v key ∙ t.row_long;
+                among = next_in rise (suc key) c;
+              }

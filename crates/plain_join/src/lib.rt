@@ -19,41 +19,44 @@ ghost use Rattle.plain.specs.Plain.{plainly};
 ghost use Rattle.plain_atoms.specs.Atoms.{Passed};
 ghost use Rattle.plain_join.specs.Outcome.{PlainJoins};
 
-use join_checks::refusal;
+use join_checks::check;
 use join_query::{Query, Tables};
 use join_window::{Written, emit};
-use plain_atoms::{all_hold, column, holder};
+use plain_atoms::{all_hold, holder};
 use plain_keys::{Row, next_key};
+use refusal::Refusal;
 
-// Writes the rows that complete `found` by words for the last `left` variables of the order, behind the first `rows` rows of the window, until it is full.
-fn search(
-    pool: &[u64],
+// What is asked: a query, with the tables and the pool in which its atoms' rows lie.
+#[derive(Clone, Copy)]
+struct Asked<'a> {
+    pool: &'a [u64],
     tables: Tables,
     query: Query,
-    left: usize,
-    mut found: Row,
-    window: &mut [u64],
-    rows: usize,
-) -> Written
-    requires { Passed pool.now tables query × (left ≤ query.n) × Fits query.n (length window.old) rows }
-    ensures { written window.new result.rows result.full ≡ emits query.n (written window.old rows false) (plainly query.n (drop (query.n - left) (order_of query)) (atoms_of pool.now tables query) found) }
+}
+
+// Writes the rows that complete `found` by words for the last `left` variables of the order, behind the first `rows` rows of the window, until it is full.
+fn search(asked: Asked, left: usize, mut found: Row, window: &mut [u64], rows: usize) -> Written
+    requires { Passed asked.pool.now asked.tables asked.query × (left ≤ asked.query.n) × Fits asked.query.n (length window.old) rows }
+    ensures { let q = asked.entry.query in written window.new result.rows result.full ≡ emits q.n (written window.old rows false) (plainly q.n (drop (q.n - left) (order_of q)) (atoms_of asked.entry.pool.now asked.entry.tables q) found) }
 {
     if left == 0 {
-        return emit(window, found, query.n, rows);
+        return emit(window, &found, asked.query.n, rows);
     }
-    let v = query.order[query.n - left];
-    let first = holder(query, v);
-    let a = query.atoms[first];
-    let c = column(a, v);
+    let v = asked.query.order[asked.query.n - left];
+    let (first, c) = holder(asked.query, v);
+    let a = asked.query.atoms[first];
     found[v] = 0; // so that the least key of all is tried first
-    let mut next = next_key(pool, tables, a, found, c, false);
+    let mut next = next_key(asked.pool, asked.tables, a, found, c, false);
     let mut written = Written { rows, full: false };
-    while next.found && !written.full {
-        found[v] = next.key;
-        if all_hold(pool, tables, query, found, v, first + 1) {
-            written = search(pool, tables, query, left - 1, found, window, written.rows);
+    while let Some(key) = next {
+        found[v] = key;
+        if all_hold(asked.pool, asked.tables, asked.query, found, v, first + 1) {
+            written = search(asked, left - 1, found, window, written.rows);
+            if written.full {
+                return written;
+            }
         }
-        next = next_key(pool, tables, a, found, c, true);
+        next = next_key(asked.pool, asked.tables, a, found, c, true);
     }
     written
 }
@@ -70,13 +73,21 @@ pub struct PlainJoined {
 pub fn plain_join(pool: &[u64], tables: Tables, query: Query, window: &mut [u64]) -> PlainJoined
     ensures { PlainJoins pool.now tables query window.old result window.new }
 {
-    let number = refusal(pool, tables, query, window.len());
-    if number != 0 {
+    if let Err(refused) = check(pool, tables, query, window.len()) {
+        let number = refused.number();
         return PlainJoined { number, rows: 0 };
     }
-    let row = [0u64; Query::MAX_VARIABLES];
-    let written = search(pool, tables, query, query.n, row, window, 0);
-    let number = if written.full { 12 } else { 0 };
+    let asked = Asked {
+        pool,
+        tables,
+        query,
+    };
+    let written = search(asked, query.n, [0; Query::MAX_VARIABLES], window, 0);
+    let number = if written.full {
+        Refusal::Full.number()
+    } else {
+        0
+    };
     let rows = written.rows;
     PlainJoined { number, rows }
 }

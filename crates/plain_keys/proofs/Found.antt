@@ -1,60 +1,93 @@
--- What the place found by halves says of the keys: from it on they are the run from the key sought on, so its word is the first of these, and the key sought is one of
--- them exactly where it is that word.
-use Prim.Native.Nat.{ℕ, zero, suc, ◌+◌, ◌-◌, ◌≤◌, ◌<◌}
+-- What the library's two searches of an ascending run of keys say: which of them a word is, if it is one; and where those from a word on begin.
+use Prim.Native.Nat.{ℕ, zero, suc, ◌≤◌, ◌<◌}
 use native.Mathlib.Omega.{arith}
 use native.Mathlib.Decide.{dec_lt}
+use native.Mathlib.Nat.{eq-or-lt_of_le}
 use mathlib.Core.Path.{◌≡◌, refl, sym, subst, ap, ◌∙◌}
-use mathlib.Core.Bool.{Bool, true, false}
+use mathlib.Core.Bool.{Bool, true, false, ◌&&◌, ◌||◌}
+use mathlib.Core.Logic.{⊎_elim}
 use mathlib.Core.List.{List, [], ◌∷◌, ◌++◌, append_assoc}
+use Rattle.std.specs.Prelude.{Option, Some, None, Result, Ok, Err, MatchResult, slice_get}
+use Rattle.std.proofs.lemmas.Option.{slice_get_past, slice_get-get_or}
+use Rattle.std.specs.Option.{option_copied}
+use Rattle.std.specs.Slice.{IsItemAt}
+use Rattle.std.proofs.Common.{Bor}
+use Rattle.std.specs.Result.{result_ok}
+use Rattle.std.specs.Ordering.{nat_cmp}
+use Rattle.std.proofs.lemmas.List.Sorted.{searched}
+use Rattle.std.specs.List.Sorted.{IsPartitionedBy, IsPartitionPoint, IsBinarySearchResult}
+use Rattle.std.proofs.lemmas.Grind.{common_steps}
 use lib.ListN.{length, get_or, take, drop}
-use lib.Seq.{slice, slice_empty, slice-cons, length-slice, drop-drop, split_at, take-take, get_or-take, length-take-le}
+use lib.Seq.{split_at, take-take, get_or-take, length-take-le}
+use lib.Dec.{eqb, ltb}
+use borrow.Author.Tests.{ltb-true, ltb-false, lt-ltb}
 use Rattle.relation.specs.Order.{Row}
-use Rattle.relation.specs.Lists.{◌∈◌, not_in_nil, Ascends}
+use Rattle.relation.specs.Lists.{◌∈◌, Ascends}
 use Rattle.relation.specs.Rows.{Width}
 use Rattle.relation.specs.Layers.{keys_under}
 use Rattle.relation.specs.Runs.{from}
-use Rattle.relation.proofs.Runs.{from_in, from_ascends, from_drop, head_least}
+use Rattle.relation.proofs.Lists.{get_or_any, in_get_or}
+use Rattle.relation.proofs.Runs.{from_drop}
 use Rattle.query.specs.Meaning.{part}
 use Rattle.query.proofs.Meet.{none_left}
-use Rattle.query.proofs.Beyond.{in_keys, keys_in, keys_ascend}
-use Rattle.plain_keys.specs.Keys.{bound, Least, head_of}
-use Rattle.plain_keys.proofs.Descent.{Under, slice_at}
+use Rattle.query.proofs.Beyond.{in_keys, keys_in}
+use Rattle.plain_keys.specs.Keys.{bound, head_of}
+use Rattle.plain_keys.proofs.Descent.{ascends_at}
 
-module _ {keys : List ℕ} {rows : List Row} {p : Row} {f e : ℕ} (u : Under keys rows p f e) {key r : ℕ} (l : Least keys f e key r) where
-  cut : from key (keys_under p rows) ≡ slice r e keys
-  cut =
-      let n = length-slice f e keys u.rising.inside in
-      let z : f + (r - f) ≡ r = omega (arith, l.low) in
-      ap (from key) (sym u.run)
-      ∙ from_drop key (slice f e keys) (r - f) (omega (arith, n, l.low, l.high))
-      (λ i h.
-      let w : f + i - f ≡ i = omega arith in
-      let x = slice_at keys f e (f + i) (omega arith) (omega (arith, l.low, l.high)) in
-      let y = l.below (f + i) (omega arith) (omega (arith, l.low)) in
-      rw (← w) (rw x y))
-      (λ h. rw (slice_at keys f e r l.low (omega (arith, h, n, l.low))) (l.reached (omega (arith, h, n, l.low))))
-      ∙ drop-drop (r - f) f (take e keys)
-      ∙ ap (λ (x : ℕ). slice x e keys) z
+module _ {keys : List ℕ} (s : Ascends ◌<◌ keys) where
+  rises : (i j : ℕ) → i ≤ j → j < length keys → get_or keys i 0 ≤ get_or keys j 0
+  rises i j h l = ⊎_elim (λ (q : i ≡ j). rw q (omega arith)) (λ (q : i < j). let z = ascends_at s i j q l in omega (arith, z)) (eq-or-lt_of_le h)
 
-  pub head_none : r ≡ e → record { found = false; key = 0 } ≡ head_of (from key (keys_under p rows))
-  unfolding head_of
-  head_none d = ap head_of (sym (cut ∙ ap (λ (x : ℕ). slice x e keys) d ∙ slice_empty e keys))
+  module _ (word : ℕ) (r : Result ℕ ℕ) (b : IsBinarySearchResult (λ y. nat_cmp y word) keys r) where
+    pub is_at : {i : ℕ} → result_ok r ≡ Some i → (i < length keys) × (get_or keys i 0 ≡ word)
+    is_at {i} e = go r e (searched keys word r b rises)
+      where
+        go : (r : Result ℕ ℕ) → result_ok r ≡ Some i → MatchResult r (λ i. (i < length keys) × (get_or keys i 0 ≡ word)) (λ i. (i ≤ length keys) × ((k : ℕ) → k < i → get_or keys k 0 < word) × ((k : ℕ) → i ≤ k → k < length keys → word < get_or keys k 0)) → (i < length keys) × (get_or keys i 0 ≡ word)
+        go (Ok j) e m = let q : j ≡ i = cc in subst (λ (i : ℕ). (i < length keys) × (get_or keys i 0 ≡ word)) q m
+        go (Err j) e m = absurd (cc)
 
-  here : r < e → from key (keys_under p rows) ≡ get_or keys r 0 ∷ slice (suc r) e keys
-  here h = cut ∙ slice-cons r e keys 0 h u.rising.inside
+    pub is_none : result_ok r ≡ None → word ∈ keys → ⊥
+    is_none e m = go r e (searched keys word r b rises)
+      where
+        go : (r : Result ℕ ℕ) → result_ok r ≡ None → MatchResult r (λ i. (i < length keys) × (get_or keys i 0 ≡ word)) (λ i. (i ≤ length keys) × ((k : ℕ) → k < i → get_or keys k 0 < word) × ((k : ℕ) → i ≤ k → k < length keys → word < get_or keys k 0)) → ⊥
+        go (Ok j) e t = cc
+        go (Err j) e t =
+            let w = in_get_or 0 m in
+            elim (dec_lt w.0 j) [ yes l ↦ omega (arith, w.2, t.1 w.0 l) | no n ↦ omega (arith, w.2, t.2 w.0 (omega arith) w.1) ]
 
-  pub head_some : r < e → record { found = true; key = get_or keys r 0 } ≡ head_of (from key (keys_under p rows))
-  unfolding head_of
-  head_some h = ap head_of (sym (here h))
+-- whether a key comes before the one sought, as the search tests it
+abbrev pub early : Bool → ℕ → ℕ → Bool
+early past word key = ltb key word || (past && eqb key word)
 
-  pub not_there : r ≡ e → key ∈ keys_under p rows → ⊥
-  not_there d m = not_in_nil (subst (λ (x : List ℕ). key ∈ x) (cut ∙ ap (λ (x : ℕ). slice x e keys) d ∙ slice_empty e keys) (from_in key (keys_under p rows) (omega arith) m))
+early_is : (past : Bool) (word key : ℕ) → early past word key ≡ ltb key (bound past word)
+early_is false word key = grind (arith, common_steps)
+early_is true word key = grind (arith, common_steps)
 
-  pub not_it : {a : ℕ} → Width a rows → length p < a → r < e → (get_or keys r 0 ≡ key → ⊥) → key ∈ keys_under p rows → ⊥
-  not_it w b h n m =
-      let k : key ∈ (get_or keys r 0 ∷ slice (suc r) e keys) = subst (λ (x : List ℕ). key ∈ x) (here h) (from_in key (keys_under p rows) (omega arith) m) in
-      let s : Ascends ◌<◌ (get_or keys r 0 ∷ slice (suc r) e keys) = subst (Ascends ◌<◌) (here h) (from_ascends key (keys_ascend p w b)) in
-      n (omega (arith, head_least s key k, l.reached h))
+-- what `get` finds at a place, copied
+pub item_copied : (keys : List ℕ) (at : ℕ) (x : Option (Bor ℕ)) → IsItemAt keys at x → option_copied x ≡ slice_get keys at
+item_copied keys at None h = sym (slice_get_past keys at h.3)
+item_copied keys at (Some b) h = sym (slice_get-get_or keys at 0 h.3.0 ∙ ap (λ (k : ℕ). Some k) (sym (h.3.1 0)))
+
+head_at : (keys : List ℕ) (at : ℕ) → at ≤ length keys → slice_get keys at ≡ head_of (drop at keys)
+unfolding head_of
+head_at [] zero h = refl
+head_at [] (suc at) h = absurd (omega arith)
+head_at (x ∷ keys) zero h = refl
+head_at (x ∷ keys) (suc at) h = head_at keys at (omega arith)
+
+module _ {keys : List ℕ} (s : Ascends ◌<◌ keys) (past : Bool) (word : ℕ) where
+  pub parted : IsPartitionedBy (early past word) keys
+  parted i j d h l e =
+      let a = ltb-true (get_or keys j d) (bound past word) (sym (early_is past word (get_or keys j d)) ∙ e) in
+      early_is past word (get_or keys i d) ∙ lt-ltb (get_or keys i d) (bound past word) (omega (arith, a, rises s i j h l, get_or_any keys i d 0 (omega arith), get_or_any keys j d 0 l))
+
+  -- the key at that point is the first of those from the bound on
+  pub first_from : {at : ℕ} → IsPartitionPoint (λ w. early past word w ≡ true) (λ w. early past word w ≡ false) keys at → at ≤ length keys → slice_get keys at ≡ head_of (from (bound past word) keys)
+  first_from {at} p l =
+      head_at keys at l
+      ∙ ap head_of (sym (from_drop (bound past word) keys at l
+      (λ i h. ltb-true (get_or keys i 0) (bound past word) (sym (early_is past word (get_or keys i 0)) ∙ p.0 i 0 (omega arith) h))
+      (λ h. ltb-false (get_or keys at 0) (bound past word) (sym (early_is past word (get_or keys at 0)) ∙ p.1 at 0 (omega arith) h))))
 
 -- words that no row begins with have no keys behind them
 pub missing : (words : List ℕ) (d len : ℕ) {a : ℕ} {rows : List Row} → Width a rows → d < len → len ≤ length words → len < a → (get_or words d 0 ∈ keys_under (take d words) rows → ⊥) → keys_under (take len words) rows ≡ []
@@ -73,38 +106,7 @@ words_at [] row d h = absurd (omega arith)
 words_at (x ∷ xs) row zero h = refl
 words_at (x ∷ xs) row (suc d) h = words_at xs row d (omega arith)
 
--- column d is searched: the last one for the bound that is sought, one before it for the word itself
-pub record Looked (keys : List ℕ) (rows : List Row) (words : Row) (len : ℕ) (past : Bool) (d f e at : ℕ) : Type 0 where
-  pub under : Under keys rows (take d words) f e
-  pub flag : Bool
-  pub least : Least keys f e (bound flag (get_or words d 0)) at
-  pub last : d ≡ len → flag ≡ past
-  pub before : (d ≡ len → ⊥) → flag ≡ false
-
-module _ {keys : List ℕ} {rows : List Row} {words : Row} {len : ℕ} {past : Bool} {d f e at : ℕ} (k : Looked keys rows words len past d f e at) where
-  at_last : d ≡ len → Under keys rows (take len words) f e × Least keys f e (bound past (get_or words len 0)) at
-  at_last g = (
-    subst (λ (n : ℕ). Under keys rows (take n words) f e) g k.under,
-    subst (λ (n : ℕ). Least keys f e (bound past (get_or words n 0)) at) g (subst (λ (b : Bool). Least keys f e (bound b (get_or words d 0)) at) (k.last g) k.least),
-  )
-
-  pub looked_some : d ≡ len → at < e → record { found = true; key = get_or keys at 0 } ≡ head_of (from (bound past (get_or words len 0)) (keys_under (take len words) rows))
-  looked_some g h = let z = at_last g in head_some z.0 z.1 h
-
-  -- no key, or not the word, in a column before the last
-  pub looked_none : {a : ℕ} → Width a rows → len < a → len ≤ length words → d ≤ len → (at < e → (d ≡ len → ⊥) × (get_or keys at 0 ≡ get_or words d 0 → ⊥)) → record { found = false; key = 0 } ≡ head_of (from (bound past (get_or words len 0)) (keys_under (take len words) rows))
-  unfolding head_of from
-  looked_none {a} w b n h g = go (dec_lt d len)
-    where
-      top : (at < e → ⊥) → at ≡ e
-      top z = omega (arith, k.least.high, z)
-
-      gone : Least keys f e (get_or words d 0) at → d < len → Dec (at < e) → get_or words d 0 ∈ keys_under (take d words) rows → ⊥
-      gone l j (yes i) = not_it k.under l w (omega (arith, length-take-le d words (omega arith))) i (g i).1
-      gone l j (no i) = not_there k.under l (top i)
-
-      go : Dec (d < len) → record { found = false; key = 0 } ≡ head_of (from (bound past (get_or words len 0)) (keys_under (take len words) rows))
-      go (yes j) =
-          let l = subst (λ (x : Bool). Least keys f e (bound x (get_or words d 0)) at) (k.before (λ z. omega arith)) k.least in
-          ap (λ (ks : List ℕ). head_of (from (bound past (get_or words len 0)) ks)) (sym (missing words d len w j n b (gone l j (dec_lt at e))))
-      go (no j) = let q : d ≡ len = omega arith in let z = at_last q in head_none z.0 z.1 (top (λ i. (g i).0 q))
+-- so no row begins with the words up to it
+pub head_missing : (words : List ℕ) (d len bound : ℕ) {a : ℕ} {rows : List Row} → Width a rows → d < len → len ≤ length words → len < a → (get_or words d 0 ∈ keys_under (take d words) rows → ⊥) → None ≡ head_of (from bound (keys_under (take len words) rows))
+unfolding head_of from
+head_missing words d len bound w h l b n = ap (λ (ks : List ℕ). head_of (from bound ks)) (sym (missing words d len w h l b n))

@@ -1,4 +1,3 @@
-mod Halves
 mod Descent
 pub mod Found
 mod Heads

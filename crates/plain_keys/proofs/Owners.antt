@@ -6,8 +6,9 @@ use mathlib.Core.Path.{◌≡◌, refl, sym, subst, ap, ◌∙◌}
 use mathlib.Core.Bool.{Bool, true, false, false≢true}
 use mathlib.Core.List.{List, [], ◌∷◌}
 use lib.ListN.{length, get_or, take, drop, length-drop}
-use lib.Dec.{eqb}
-use borrow.Author.Tests.{eqb-true, eq-eqb}
+use Rattle.std.specs.Prelude.{Option, Some, is_some, nat_eq}
+use Rattle.std.specs.Option.{option_eq}
+use borrow.Author.Tests.{eq-eqb, ne_eqb}
 use lib.Seq.{drop-cons, get_or-take, length-take-le}
 use Rattle.relation.specs.Order.{Row}
 use Rattle.relation.specs.Lists.{◌∈◌, hd, not_in_nil, Ascends}
@@ -26,53 +27,24 @@ use Rattle.join_query.specs.declared.Atom.{Atom}
 use Rattle.join_query.specs.declared.Tables.{Tables}
 use Rattle.join_query.proofs.Accepted.{table_wide, rows_plain, rows_laid}
 use Rattle.plain_keys.specs.Keys.{head_of, Readable}
-use Rattle.plain_keys.specs.declared.Next.{Next}
 use Rattle.plain_keys.proofs.Heads.{lesser, lesser_merge}
 use Rattle.plain_keys.proofs.Found.{missing}
 
 -- ---- a key sought and found
 
--- the least key not below k is k
-pub record Hit (k : ℕ) (x : Next) : Type 0 where
-  pub found : x.found ≡ true
-  pub same : x.key ≡ k
+-- a search for k says whether it is one of them
+pub asked_has : (k : ℕ) (xs : List ℕ) → Ascends ◌<◌ xs → {x : Option ℕ} → x ≡ head_of (from k xs) → option_eq nat_eq x (Some k) ≡ has xs k
+unfolding head_of
+asked_has k xs s p = ap (λ (y : Option ℕ). option_eq nat_eq y (Some k)) p ∙ go (from k xs) refl (has xs k) refl
+  where
+    there : {l : List ℕ} → from k xs ≡ l → k ∈ xs → k ∈ l
+    there e m = subst (λ (l : List ℕ). k ∈ l) e (from_in k xs (omega arith) m)
 
-module _ (k : ℕ) (xs : List ℕ) where
-  pub hit_in : Hit k (head_of (from k xs)) → k ∈ xs
-  unfolding head_of
-  hit_in h = in_from k xs (go (from k xs) h)
-    where
-      go : (l : List ℕ) → Hit k (head_of l) → k ∈ l
-      go [] h = absurd (false≢true h.found)
-      go (y ∷ l) h = hd (sym h.same)
-
-  pub in_hit : Ascends ◌<◌ xs → k ∈ xs → Hit k (head_of (from k xs))
-  unfolding head_of
-  in_hit s m = go (from k xs) (from_ascends k s) (λ y i. from_least k s i) (from_in k xs (omega arith) m)
-    where
-      go : (l : List ℕ) → Ascends ◌<◌ l → ((y : ℕ) → y ∈ l → k ≤ y) → k ∈ l → Hit k (head_of l)
-      go [] s f m = absurd (not_in_nil m)
-      go (y ∷ l) s f m = record { found = refl; same = omega (arith, head_least s k m, f y (hd refl)) }
-
-  -- so a search for k says whether it is one of them
-  module _ (s : Ascends ◌<◌ xs) {x : Next} (p : x ≡ head_of (from k xs)) where
-    hit : k ∈ xs → Hit k x
-    hit m = subst (Hit k) (sym p) (in_hit s m)
-
-    pub found_has : x.found ≡ true → eqb x.key k ≡ has xs k
-    found_has f = go (eqb x.key k) refl (has xs k) refl
-      where
-        go : (b : Bool) → eqb x.key k ≡ b → (c : Bool) → has xs k ≡ c → b ≡ has xs k
-        go true d c g = sym (in_has (hit_in (subst (Hit k) p (record { found = f; same = eqb-true x.key k d }))))
-        go false d false g = sym g
-        go false d true g = absurd (false≢true (sym d ∙ eq-eqb x.key k (hit (has_in xs k g)).same))
-
-    pub none_has : x.found ≡ false → x.found ≡ has xs k
-    none_has f = f ∙ go (has xs k) refl
-      where
-        go : (c : Bool) → has xs k ≡ c → false ≡ has xs k
-        go false g = sym g
-        go true g = absurd (false≢true (sym f ∙ (hit (has_in xs k g)).found))
+    go : (l : List ℕ) → from k xs ≡ l → (c : Bool) → has xs k ≡ c → option_eq nat_eq (head_of l) (Some k) ≡ has xs k
+    go [] e true g = absurd (not_in_nil (there e (has_in xs k g)))
+    go [] e false g = sym g
+    go (y ∷ l) e true g = eq-eqb y k (omega (arith, head_least (subst (Ascends ◌<◌) e (from_ascends k s)) k (there e (has_in xs k g)), from_least k s (subst (λ (l : List ℕ). y ∈ l) (sym e) (hd refl)))) ∙ sym g
+    go (y ∷ l) e false g = ne_eqb y k (λ q. absurd (false≢true (sym g ∙ in_has (subst (λ (z : ℕ). z ∈ xs) q (in_from k xs (subst (λ (l : List ℕ). y ∈ l) (sym e) (hd refl))))))) ∙ sym g
 
 -- ---- an atom
 
@@ -96,10 +68,10 @@ module _ {pool : List ℕ} {ts : Tables} {a : Atom} {len : ℕ} (r : Readable po
     rows_are : rows_at pool ts a ≡ laid school maker
     rows_are = rows_laid pool ts a e
 
-    pub first_heads : (bound : ℕ) {s m : Next} → s ≡ head_of (from bound (keys_under [] (rows_in pool (table_at ts a.table)))) → m ≡ head_of (from bound (keys_under [] (rows_in pool (table_at ts a.maker)))) → lesser s m ≡ head_of (from bound (keys_under [] (rows_at pool ts a)))
+    pub first_heads : (bound : ℕ) {s m : Option ℕ} → s ≡ head_of (from bound (keys_under [] (rows_in pool (table_at ts a.table)))) → m ≡ head_of (from bound (keys_under [] (rows_in pool (table_at ts a.maker)))) → lesser s m ≡ head_of (from bound (keys_under [] (rows_at pool ts a)))
     first_heads bound {s} {m} p q =
         let h : 0 < width = omega (arith, r.short) in
-        ap (λ (x : Next). lesser x m) p
+        ap (λ (x : Option ℕ). lesser x m) p
         ∙ ap (lesser (head_of (from bound (keys_under [] school)))) q
         ∙ lesser_merge bound (keys_ascend [] schools h) (keys_ascend [] makers h)
         ∙ ap (λ (l : List ℕ). head_of (from bound l)) (sym (laid_firsts schools makers h) ∙ ap (keys_under []) (sym rows_are))
@@ -145,7 +117,7 @@ module _ {pool : List ℕ} {ts : Tables} {a : Atom} {len : ℕ} (r : Readable po
           ∙ sym (keys_split (rows_at pool ts a))
 
       -- a key that the school's table has under these words says that it has the first of them
-      pub school_found : (bound : ℕ) {x : Next} → x ≡ head_of (from bound (keys_under (take len words) (rows_in pool (table_at ts a.table)))) → x.found ≡ true → has (keys_under [] (rows_in pool (table_at ts a.table))) (get_or words 0 0) ≡ true
+      pub school_found : (bound : ℕ) {x : Option ℕ} → x ≡ head_of (from bound (keys_under (take len words) (rows_in pool (table_at ts a.table)))) → is_some x ≡ true → has (keys_under [] (rows_in pool (table_at ts a.table))) (get_or words 0 0) ≡ true
       unfolding head_of from
       school_found bound {x} p f = go (has (keys_under [] school) k) refl
         where
@@ -153,7 +125,7 @@ module _ {pool : List ℕ} {ts : Tables} {a : Atom} {len : ℕ} (r : Readable po
           go true z = refl
           go false z =
               let n = missing words 0 len schools h l r.short (λ m. false≢true (sym z ∙ in_has m)) in
-              absurd (false≢true (ap (λ (y : Next). y.found) (sym (p ∙ ap (λ (ks : List ℕ). head_of (from bound ks)) n)) ∙ f))
+              absurd (false≢true (ap is_some (sym (p ∙ ap (λ (ks : List ℕ). head_of (from bound ks)) n)) ∙ f))
 
   -- whichever they are, its rows are as wide as its table's
   pub readable_wide : Width (table_at ts a.table).arity (rows_at pool ts a)

@@ -1,35 +1,38 @@
--- Internal: contracts of the search for keys: places whose keys ascend, the first key of a run, and what a search may rely on.
-use Rattle.std.specs.Prelude.{ℕ, suc, ◌≤◌, ◌<◌, ◌≡◌, Bool, true, false, List, [], ◌∷◌, length, get_or}
+-- Internal: contracts of the search for keys: the group of an interval, the first key of a run, and what a search may rely on.
+use Rattle.std.specs.Prelude.{ℕ, suc, ◌+◌, ◌-◌, ◌≤◌, ◌<◌, ◌≡◌, Bool, true, List, [], ◌∷◌, length, get_or, take, drop, Option, Some, None}
 use Rattle.relation.specs.Order.{Row, pick}
 use Rattle.query.specs.Meaning.{part}
-use Rattle.column_trie.specs.Table.{Undamaged}
+use Rattle.column_trie.specs.Table.{layer_in, data_len_at, Undamaged}
+use Rattle.column_trie.specs.declared.ColumnTrie.{ColumnTrie}
 use Rattle.laid_over.specs.Shape.{SameShape}
 use Rattle.join_query.specs.Query.{max_tables, max_variables, table_at, var_at}
 use Rattle.join_query.specs.declared.Atom.{Atom}
 use Rattle.join_query.specs.declared.Tables.{Tables}
-use Rattle.plain_keys.specs.declared.Next.{Next}
 
 -- the least key that is sought: one from `key` on, or above it
 abbrev pub bound : Bool → ℕ → ℕ
 bound past key = pick past (suc key) key
 
--- the keys from place `from` up to place `to` ascend
-pub record Rising (keys : List ℕ) (from to : ℕ) : Type 0 where
-  pub forward : from ≤ to
-  pub inside : to ≤ length keys
-  pub rises : (i j : ℕ) → from ≤ i → i < j → j < to → get_or keys i 0 < get_or keys j 0
+-- where the group of interval i of layer d begins among the layer's keys; it ends where the next one's does
+abbrev pub group_at : List ℕ → ColumnTrie → ℕ → ℕ → ℕ
+group_at pool t d i = get_or (layer_in pool t d).intervals i (data_len_at t d)
 
--- r is the first of these places whose key is not below the one sought, or their end
-pub record Least (keys : List ℕ) (from to key r : ℕ) : Type 0 where
-  pub low : from ≤ r
-  pub high : r ≤ to
-  pub below : (i : ℕ) → from ≤ i → i < r → get_or keys i 0 < key
-  pub reached : r < to → key ≤ get_or keys r 0
+-- its keys
+abbrev pub group_keys : List ℕ → ColumnTrie → ℕ → ℕ → List ℕ
+group_keys pool t d i = take (group_at pool t d (i + 1) - group_at pool t d i) (drop (group_at pool t d i) (layer_in pool t d).keys)
+
+-- a group that lies among the layer's keys, in a table that lies undamaged in the pool
+pub record Grouped (pool : List ℕ) (t : ColumnTrie) (d i : ℕ) : Type 0 where
+  pub sound : Undamaged pool t
+  pub column : d < t.arity
+  pub few : i ≤ length pool
+  pub forward : group_at pool t d i ≤ group_at pool t d (i + 1)
+  pub inside : group_at pool t d (i + 1) ≤ length (layer_in pool t d).keys
 
 -- the first key of a run, if it has one
-unfoldable pub head_of : List ℕ → Next
-head_of [] = record { found = false; key = 0 }
-head_of (k ∷ ks) = record { found = true; key = k }
+unfoldable pub head_of : List ℕ → Option ℕ
+head_of [] = None
+head_of (k ∷ ks) = Some k
 
 -- the words that a row has for an atom's variables, column by column
 abbrev pub words : Atom → Row → Row

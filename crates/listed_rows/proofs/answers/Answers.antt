@@ -18,9 +18,6 @@ few s = (sized s.requires.accepted).few
 long : (s : Start) → length s.args.row ≡ max_variables
 long s = search rules
 
-pub loop-v-init : goal.loop-v-init
-loop-v-init c = (omega arith, λ x h. absurd (omega arith))
-
 pub all_hold-requires : goal.all_hold-requires
 all_hold-requires c = (c.requires, omega (arith, few (goal.at.all_hold-requires c).Start, c.loop-v-test.true))
 
@@ -30,8 +27,8 @@ returns-then-not-all_hold c =
 
 pub loop-v-preserved : goal.loop-v-preserved
 loop-v-preserved c =
-    (omega arith, below_more _ c.loop-v.v c.loop-v.invariant.1 (sym c.all_hold.ensures ∙ c.if-not-all_hold.false))
+    below_more _ c.loop-v.v c.loop-v.invariant (sym c.all_hold.ensures ∙ c.if-not-all_hold.false)
 
 pub returns : goal.returns
 returns c =
-    all_pass (passes c.requires.accepted) c.args.row (omega (arith, few (goal.at.returns c).Start, long (goal.at.returns c).Start)) (λ v h. c.loop-v.invariant.1 v (omega (arith, c.loop-v-test.false)))
+    all_pass (passes c.requires.accepted) c.args.row (omega (arith, few (goal.at.returns c).Start, long (goal.at.returns c).Start)) (λ v h. c.loop-v.invariant v (omega (arith, c.loop-v-test.false)))

@@ -33,7 +33,7 @@ module _ (t : In-loop-d) where
   below = omega (arith, low, t.requires.few)
 
 pub loop-d-init : goal.loop-d-init
-loop-d-init c = (omega arith, refl)
+loop-d-init c = refl
 
 pub offset_bounds-q-d : goal.offset_bounds-q-d
 offset_bounds-q-d c = omega (arith, c.requires.few)
@@ -53,17 +53,17 @@ offset_bounds-b-v c = omega (arith, below (goal.at.offset_bounds-b-v c).In-loop-
 pub bounds-b-v : goal.bounds-b-v
 bounds-b-v c = omega (arith, below (goal.at.bounds-b-v c).In-loop-d)
 
-pub returns-then-x-y : goal.returns-then-x-y
-returns-then-x-y c =
+pub returns-then-a-v : goal.returns-then-a-v
+returns-then-a-v c =
     let a = c.args in
-    sym (c.loop-d.invariant.1 ∙ other_word (order_of a.q) a.a a.b c.loop-d.d (get_or a.q.order c.loop-d.d 0) (inside (goal.at.returns-then-x-y c).In-loop-d) (variable (goal.at.returns-then-x-y c).In-loop-d) c.if-x-y.true)
+    sym (c.loop-d.invariant ∙ other_word (order_of a.q) a.a a.b c.loop-d.d (get_or a.q.order c.loop-d.d 0) (inside (goal.at.returns-then-a-v c).In-loop-d) (variable (goal.at.returns-then-a-v c).In-loop-d) c.if-a-v.true)
 
 pub loop-d-preserved : goal.loop-d-preserved
 loop-d-preserved c =
     let a = c.args in
-    (omega arith, c.loop-d.invariant.1 ∙ same_word (order_of a.q) a.a a.b c.loop-d.d (get_or a.q.order c.loop-d.d 0) (inside (goal.at.loop-d-preserved c).In-loop-d) (variable (goal.at.loop-d-preserved c).In-loop-d) c.if-x-y.false)
+    (c.loop-d.invariant ∙ same_word (order_of a.q) a.a a.b c.loop-d.d (get_or a.q.order c.loop-d.d 0) (inside (goal.at.loop-d-preserved c).In-loop-d) (variable (goal.at.loop-d-preserved c).In-loop-d) c.if-a-v.false)
 
 pub returns : goal.returns
 returns c =
     let a = c.args in
-    sym (c.loop-d.invariant.1 ∙ no_word (order_of a.q) a.a a.b c.loop-d.d (drop_of_length-le (order_of a.q) {i = c.loop-d.d} (omega (arith, c.requires.permutation.size, c.loop-d-test.false))))
+    sym (c.loop-d.invariant ∙ no_word (order_of a.q) a.a a.b c.loop-d.d (drop_of_length-le (order_of a.q) {i = c.loop-d.d} (omega (arith, c.requires.permutation.size, c.loop-d-test.false))))

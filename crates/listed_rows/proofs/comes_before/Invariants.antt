@@ -1,4 +1,3 @@
-use Prim.Native.Nat.{◌-◌, ◌≤◌}
 use mathlib.Core.Path.{◌≡◌}
 use lib.ListN.{drop}
 use Rattle.join_query.specs.Query.{order_of}
@@ -7,7 +6,4 @@ use Rattle.query.specs.Meaning.{part}
 use Rattle.listed_rows.proofs.comes_before.Given as goal
 
 abbrev pub invariant-loop-d : goal.invariant-loop-d
-invariant-loop-d l = (l.d ≤ l.q.n) × (before (part (order_of l.q) l.a) (part (order_of l.q) l.b) ≡ before (part (drop l.d (order_of l.q)) l.a) (part (drop l.d (order_of l.q)) l.b))
-
-abbrev pub decreases-loop-d : goal.decreases-loop-d
-decreases-loop-d l = l.q.n - l.d
+invariant-loop-d l = before (part (order_of l.q) l.a) (part (order_of l.q) l.b) ≡ before (part (drop l.d (order_of l.q)) l.a) (part (drop l.d (order_of l.q)) l.b)

@@ -21,7 +21,7 @@ tested t b e =
     good_any (order_of a.query) (complete a.pool.now a.tables a.query) a.query.n a.listing.now a.rows (t.loop-i.i + 1) t.loop-i.i t.loop-i-test.true (omega arith) ∙ sym e
 
 pub loop-i-init : goal.loop-i-init
-loop-i-init c = (c.requires.2, c.requires.3)
+loop-i-init c = c.requires.3
 
 pub good-requires : goal.good-requires
 good-requires c = (c.requires.0, row_inside c.loop-i.i c.args.rows c.args.query.n (length c.args.listing.now) c.loop-i-test.true c.requires.1)
@@ -29,13 +29,14 @@ good-requires c = (c.requires.0, row_inside c.loop-i.i c.args.rows c.args.query.
 pub returns-then-not-good : goal.returns-then-not-good
 returns-then-not-good c =
     let a = c.args in
-    sym (fail_is a.rows (good (order_of a.query) (complete a.pool.now a.tables a.query) (cut a.rows a.query.n a.listing.now)) c.loop-i.i c.loop-i.invariant.0 c.loop-i.invariant.1 (λ h. tested (goal.at.returns-then-not-good c).In-loop-i c.good.result c.good.ensures ∙ c.if-not-good.true))
+    sym (fail_is a.rows (good (order_of a.query) (complete a.pool.now a.tables a.query) (cut a.rows a.query.n a.listing.now)) c.loop-i.i (omega (arith, c.requires.2)) c.loop-i.invariant (λ h. tested (goal.at.returns-then-not-good c).In-loop-i c.good.result c.good.ensures ∙ c.if-not-good.true))
 
 pub loop-i-preserved : goal.loop-i-preserved
 loop-i-preserved c =
-    (omega arith, below_more _ c.loop-i.i c.loop-i.invariant.1 (tested (goal.at.loop-i-preserved c).In-loop-i c.good.result c.good.ensures ∙ c.if-not-good.false))
+    below_more _ c.loop-i.i c.loop-i.invariant (tested (goal.at.loop-i-preserved c).In-loop-i c.good.result c.good.ensures ∙ c.if-not-good.false)
 
 pub returns : goal.returns
 returns c =
     let a = c.args in
-    sym (fail_is a.rows (good (order_of a.query) (complete a.pool.now a.tables a.query) (cut a.rows a.query.n a.listing.now)) c.loop-i.i c.loop-i.invariant.0 c.loop-i.invariant.1 (λ h. absurd (omega (arith, c.loop-i-test.false))))
+    let e : c.loop-i.i ≡ a.rows = omega (arith, c.requires.2) in
+    sym e ∙ sym (fail_is a.rows (good (order_of a.query) (complete a.pool.now a.tables a.query) (cut a.rows a.query.n a.listing.now)) c.loop-i.i (omega (arith, e)) c.loop-i.invariant (λ h. absurd (omega arith)))

@@ -1,5 +1,5 @@
 -- `first_wrong` meets its contract: the rows before the one that it has come to are good.
-use Prim.Native.Nat.{ℕ, ◌-◌, ◌≤◌, ◌<◌}
+use Prim.Native.Nat.{ℕ, ◌<◌}
 use mathlib.Core.Path.{◌≡◌}
 use mathlib.Core.Bool.{true}
 use Rattle.listing_verdict.specs.Checked.{complete}
@@ -9,7 +9,4 @@ use Rattle.listing_verdict.specs.Verdict.{good}
 use Rattle.listed_rows.proofs.first_wrong.Given as goal
 
 abbrev pub invariant-loop-i : goal.invariant-loop-i
-invariant-loop-i l = (l.i ≤ l.rows) × ((k : ℕ) → k < l.i → good (order_of l.query) (complete l.pool l.tables l.query) (cut l.rows l.query.n l.listing) k ≡ true)
-
-abbrev pub decreases-loop-i : goal.decreases-loop-i
-decreases-loop-i l = l.rows - l.i
+invariant-loop-i l = (k : ℕ) → k < l.i → good (order_of l.query) (complete l.pool l.tables l.query) (cut l.rows l.query.n l.listing) k ≡ true

@@ -1,33 +1,23 @@
--- The goals of `row_at` that the check leaves.
-use lib.ListN.{set}
-use Rattle.relation.specs.Order.{Row}
-use Prim.Native.Nat.{ℕ, ◌+◌, ◌*◌}
+-- `row_at` meets its contract: what is copied stands before the zeros that are left.
+use Prim.Native.Nat.{ℕ, ◌+◌, ◌*◌, ◌-◌}
 use native.Mathlib.Omega.{arith}
-use mathlib.Core.Path.{◌≡◌, refl, ap, ◌∙◌}
-use lib.ListN.{get_or, take, drop}
-use Rattle.listing_verdict.specs.Checked.{eight}
-use Rattle.listed_rows.proofs.Reading.{read_more}
+use mathlib.Core.Path.{◌≡◌, sym, ap, ◌∙◌}
+use mathlib.Core.List.{List, ◌++◌}
+use lib.ListN.{length, take, drop, replicate, length-drop}
+use lib.Seq.{length-take-le}
+use borrow.Author.Rules.{rules}
+use Rattle.std.proofs.lemmas.List.{drop-replicate}
+use Rattle.relation.specs.Order.{Row}
+use Rattle.join_query.specs.Query.{max_variables}
 use Rattle.listed_rows.proofs.row_at.Goals as goal
-
-pub overflow_mul-base : goal.overflow_mul-base
-overflow_mul-base c = omega (arith, c.requires)
-
-pub loop-v-init : goal.loop-v-init
-loop-v-init c = (omega arith, refl)
-
-pub bounds-row-v : goal.bounds-row-v
-bounds-row-v c = omega (arith, c.requires)
-
-pub loop-v-preserved : goal.loop-v-preserved
-loop-v-preserved c =
-    let a = c.args in (
-      omega arith,
-      ap (λ (r : Row). set r c.loop-v.v (get_or a.listing.now (a.i * a.n + c.loop-v.v) 0)) c.loop-v.invariant.1
-          ∙ read_more a.listing.now (a.i * a.n) a.n c.loop-v.v c.requires.0 c.requires.1 c.loop-v-test.true,
-    )
 
 pub returns : goal.returns
 returns c =
     let a = c.args in
-    let e : c.loop-v.v ≡ a.n = omega (arith, c.loop-v.invariant.0, c.loop-v-test.false) in
-    c.loop-v.invariant.1 ∙ ap (λ (n : ℕ). eight (take n (drop (a.i * a.n) a.listing.now))) e
+    let base = a.i * a.n in
+    let row : Row = take a.n (drop base a.listing.now) in
+    let k : base + a.n - base ≡ a.n = omega arith in
+    let copied : c.copy_from_slice.new.self ≡ take (base + a.n - base) (drop base a.listing.now) = search rules in
+    let l : length row ≡ a.n = length-take-le a.n (drop base a.listing.now) (omega (arith, length-drop base a.listing.now)) in
+    ap (λ (w : Row). w ++ drop a.n (replicate max_variables 0)) (copied ∙ ap (λ (m : ℕ). take m (drop base a.listing.now)) k)
+    ∙ ap (λ (w : List ℕ). row ++ w) (drop-replicate a.n max_variables 0) ∙ ap (λ (n : ℕ). row ++ replicate (max_variables - n) 0) (sym l)

@@ -5,6 +5,7 @@ use native.Mathlib.Omega.{arith}
 use mathlib.Core.Path.{◌≡◌, sym, ap, ◌∙◌}
 use mathlib.Core.Bool.{true, false}
 use mathlib.Core.List.{List, []}
+use Rattle.std.specs.Prelude.{is_some}
 use lib.ListN.{length, get_or, set, length-set}
 use lib.Seq.{set-set}
 use borrow.Author.Rules.{rules}
@@ -13,7 +14,7 @@ use Rattle.relation.specs.Runs.{from}
 use Rattle.join_query.specs.Query.{max_variables, atoms_of}
 use Rattle.join_query.specs.declared.Query.{Query}
 use Rattle.join_query.specs.declared.Tables.{Tables}
-use Rattle.join_query.proofs.Accepted.{sized, names, lists}
+use Rattle.join_query.proofs.Accepted.{sized, names}
 use Rattle.plain.specs.Plain.{tried, all_hold}
 use Rattle.plain_keys.specs.Keys.{head_of}
 use Rattle.plain_atoms.specs.Atoms.{Passed}
@@ -24,7 +25,7 @@ use Rattle.listing_check.specs.declared.Reached.{Reached}
 use Rattle.listing_check.proofs.Meeting.{padded_set}
 use Rattle.listing_check.proofs.Walking.{leaf, walking_start, walking_done, walking_padded, under_key, under_none, walking_lacks, walking_next, walking_less}
 use Rattle.listing_check.proofs.+search.Goals as goal
-use Rattle.listing_check.proofs.+search.Goals.{then-all_hold+else-met, else-all_hold}
+use Rattle.listing_check.proofs.+search.Goals.{then-all_hold+else-is_some, else-all_hold}
 
 -- the variable whose turn it is
 module _ {pool : List ℕ} {ts : Tables} {q : Query} (p : Passed pool ts q) {left : ℕ} (s : 0 < left) (h : left ≤ q.n) where
@@ -56,13 +57,10 @@ pub holder-first-requires : goal.holder-first-requires
 holder-first-requires t c = record { pool = c.args.pool.now; tables = c.args.tables; passed = c.requires.0; below = below c.requires.0 (omega (arith, c.if-left-eq0.false)) c.requires.1 }
 
 pub offset_bounds-query-first : goal.offset_bounds-query-first
-offset_bounds-query-first t c = omega (arith, c.holder-first.ensures.inside, (names c.requires.0.accepted).few)
+offset_bounds-query-first t c = omega (arith, c.holder-first.ensures.0.inside, (names c.requires.0.accepted).few)
 
 pub bounds-query-first : goal.bounds-query-first
-bounds-query-first t c = omega (arith, c.holder-first.ensures.inside, (names c.requires.0.accepted).few)
-
-pub column-c-requires : goal.column-c-requires
-column-c-requires t c = (lists c.requires.0.accepted c.holder-first.result c.holder-first.ensures.inside).short
+bounds-query-first t c = omega (arith, c.holder-first.ensures.0.inside, (names c.requires.0.accepted).few)
 
 pub offset_bounds-row-v : goal.offset_bounds-row-v
 offset_bounds-row-v t c = omega (arith, inside c.requires.0 (let s : 0 < c.args.left = omega (arith, c.if-left-eq0.false) in s) c.requires.1)
@@ -73,7 +71,7 @@ bounds-row-v t c = inside c.requires.0 (omega (arith, c.if-left-eq0.false)) c.re
 pub next_key-next-requires : goal.next_key-next-requires
 next_key-next-requires t c =
     let a = c.args in
-    first_reads c.requires.0.accepted (get_or a.query.order (a.query.n - a.left) 0) (below c.requires.0 (omega (arith, c.if-left-eq0.false)) c.requires.1) c.holder-first.ensures c.column-c.ensures.0
+    first_reads c.requires.0.accepted (get_or a.query.order (a.query.n - a.left) 0) (below c.requires.0 (omega (arith, c.if-left-eq0.false)) c.requires.1) c.holder-first.ensures.0 c.holder-first.ensures.1
 
 pub loop-next-init : goal.loop-next-init
 loop-next-init t c =
@@ -88,17 +86,17 @@ loop-next-init t c =
       s,
       h,
       walking_start z a.left s h (set a.found v 0) (cut a.rows a.query.n a.listing.now) a.from
-          (next_tried z v (below p s h) c.holder-first.ensures (set a.found v 0) a.found (λ x. sym (set-set a.found v 0 x)) l 0 false c.column-c.ensures.0 c.next_key-next.ensures)
+          (next_tried z v (below p s h) c.holder-first.ensures.0 (set a.found v 0) a.found (λ x. sym (set-set a.found v 0 x)) l 0 false c.holder-first.ensures.1 c.next_key-next.ensures)
           (length-set a.found v 0 ∙ l) c.requires.4,
     )
 
 -- ---- a key is tried
 
-pub offset_bounds-row-v-in-loop-next : goal.offset_bounds-row-v-in-loop-next
-offset_bounds-row-v-in-loop-next t c = let i = c.loop-next.invariant in omega (arith, inside i.0 i.1 i.2)
+pub offset_bounds-row-v-in-Some : goal.offset_bounds-row-v-in-Some
+offset_bounds-row-v-in-Some t c = let i = c.loop-next.invariant in omega (arith, inside i.0 i.1 i.2)
 
-pub bounds-row-v-in-loop-next : goal.bounds-row-v-in-loop-next
-bounds-row-v-in-loop-next t c = let i = c.loop-next.invariant in inside i.0 i.1 i.2
+pub bounds-row-v-in-Some : goal.bounds-row-v-in-Some
+bounds-row-v-in-Some t c = let i = c.loop-next.invariant in inside i.0 i.1 i.2
 
 pub all_hold-requires : goal.all_hold-requires
 all_hold-requires t c = let i = c.loop-next.invariant in (i.0, inside i.0 i.1 i.2)
@@ -111,31 +109,31 @@ search-met-requires t c =
     let v = get_or a.query.order (a.query.n - a.left) 0 in
     let l : length a.found ≡ max_variables = search rules in
     let p = padded_set a.query.n a.found v 0 (below i.0 i.1 i.2) (omega (arith, (sized z).few, l)) c.requires.3 in
-    (omega (arith, c.decreases, i.1), (i.0, omega (arith, i.2), c.requires.2, walking_padded z a.left i.1 i.2 (set a.found v 0) (cut a.rows a.query.n a.listing.now) a.from i.3 p (length-set a.found v 0 ∙ l), i.3.agrees))
+    (omega (arith, c.decreases, i.1), (i.0, omega (arith, i.2), c.requires.2, walking_padded z a.left i.1 i.2 (set a.found v 0) (cut a.rows a.query.n a.listing.now) a.from i.3 c.in-Some.key p (length-set a.found v 0 ∙ l), i.3.agrees))
 
-pub returns-then-met : goal.returns-then-met
-returns-then-met t c =
+pub returns-then-is_some : goal.returns-then-is_some
+returns-then-is_some t c =
     let a = c.args in
     let i = c.loop-next.invariant in
     let z = i.0.accepted in
     let v = get_or a.query.order (a.query.n - a.left) 0 in
     let g = set a.found v 0 in
-    let k = c.loop-next.next.key in
-    let found = c.loop-next-test.true in
+    let k = c.in-Some.key in
+    let found = c.in-Some.is in
     let lines = cut a.rows a.query.n a.listing.now in
     -- the tests made are those of all atoms
     let tested : c.all_hold.result ≡ all_hold v (set c.loop-next.row v k) (atoms_of a.pool.now a.tables a.query) =
-    rest_holds z v (below i.0 i.1 i.2) c.holder-first.ensures g c.loop-next.row i.3.same i.3.row_long k (i.3.among found) c.all_hold.ensures in
+    rest_holds z v (below i.0 i.1 i.2) c.holder-first.ensures.0 g c.loop-next.row i.3.same i.3.row_long k (i.3.among k found) c.all_hold.ensures in
     walking_lacks z a.left i.1 i.2 g lines a.from i.3 found
     (under_key z a.left i.1 i.2 g lines a.from i.3 found (sym tested ∙ c.if-all_hold.true) c.search-met.ensures)
-    c.if-met.true
+    (sym c.is_some.ensures ∙ c.if-is_some.true)
     ∙ ap (meets lines a.from) (given_before z a.left i.1 i.2 a.found 0)
 
-pub next_key-next-requires-in-loop-next : goal.next_key-next-requires-in-loop-next
-next_key-next-requires-in-loop-next t c =
+pub next_key-next-requires-in-Some : goal.next_key-next-requires-in-Some
+next_key-next-requires-in-Some t c =
     let a = c.args in
     let i = c.loop-next.invariant in
-    first_reads i.0.accepted (get_or a.query.order (a.query.n - a.left) 0) (below i.0 i.1 i.2) c.holder-first.ensures c.column-c.ensures.0
+    first_reads i.0.accepted (get_or a.query.order (a.query.n - a.left) 0) (below i.0 i.1 i.2) c.holder-first.ensures.0 c.holder-first.ensures.1
 
 pub loop-next-smaller : goal.loop-next-smaller
 loop-next-smaller t c =
@@ -144,8 +142,8 @@ loop-next-smaller t c =
     let z = i.0.accepted in
     let v = get_or a.query.order (a.query.n - a.left) 0 in
     let g = set a.found v 0 in
-    walking_less z a.left i.1 i.2 g (cut a.rows a.query.n a.listing.now) a.from i.3 c.loop-next-test.true
-    (next_tried z v (below i.0 i.1 i.2) c.holder-first.ensures g c.loop-next.row i.3.same i.3.row_long c.loop-next.next.key true c.column-c.ensures.0 c.next_key-next-in-loop-next.ensures)
+    walking_less z a.left i.1 i.2 g (cut a.rows a.query.n a.listing.now) a.from i.3 c.in-Some.is
+    (next_tried z v (below i.0 i.1 i.2) c.holder-first.ensures.0 g c.loop-next.row i.3.same i.3.row_long c.in-Some.key true c.holder-first.ensures.1 c.next_key-next-in-Some.ensures)
 
 pub loop-next-preserved : goal.loop-next-preserved
 loop-next-preserved t c =
@@ -154,27 +152,27 @@ loop-next-preserved t c =
     let z = i.0.accepted in
     let v = get_or a.query.order (a.query.n - a.left) 0 in
     let g = set a.found v 0 in
-    let k = c.loop-next.next.key in
-    let found = c.loop-next-test.true in
+    let k = c.in-Some.key in
+    let found = c.in-Some.is in
     let lines = cut a.rows a.query.n a.listing.now in
     -- the tests made are those of all atoms
     let tested : c.all_hold.result ≡ all_hold v (set c.loop-next.row v k) (atoms_of a.pool.now a.tables a.query) =
-    rest_holds z v (below i.0 i.1 i.2) c.holder-first.ensures g c.loop-next.row i.3.same i.3.row_long k (i.3.among found) c.all_hold.ensures in
+    rest_holds z v (below i.0 i.1 i.2) c.holder-first.ensures.0 g c.loop-next.row i.3.same i.3.row_long k (i.3.among k found) c.all_hold.ensures in
     -- the next key of those left
-    let then : c.next_key-next-in-loop-next.result ≡ head_of (from (suc k) (tried v g (atoms_of a.pool.now a.tables a.query))) =
-    next_tried z v (below i.0 i.1 i.2) c.holder-first.ensures g c.loop-next.row i.3.same i.3.row_long k true c.column-c.ensures.0 c.next_key-next-in-loop-next.ensures in (
+    let then : c.next_key-next-in-Some.result ≡ head_of (from (suc k) (tried v g (atoms_of a.pool.now a.tables a.query))) =
+    next_tried z v (below i.0 i.1 i.2) c.holder-first.ensures.0 g c.loop-next.row i.3.same i.3.row_long k true c.holder-first.ensures.1 c.next_key-next-in-Some.ensures in (
       i.0,
       i.1,
       i.2,
       elim c.if-all_hold.branch [
-        | then-all_hold+else-met w ↦
+        | then-all_hold+else-is_some w ↦
             walking_next z a.left i.1 i.2 g lines a.from i.3 found
             (w.met-is ∙ under_key z a.left i.1 i.2 g lines a.from i.3 found (sym tested ∙ w.if-all_hold.true) w.search-met.ensures)
-            (ap (λ (r : Reached). r.lacks) w.met-is ∙ w.if-met.false) then
+            (ap (λ (r : Reached). is_some r.missing) w.met-is ∙ sym w.is_some.ensures ∙ w.if-is_some.false) then
         | else-all_hold w ↦
             walking_next z a.left i.1 i.2 g lines a.from i.3 found
             (w.met-is ∙ under_none z a.left i.1 i.2 g lines a.from i.3 found (sym tested ∙ w.if-all_hold.false))
-            (ap (λ (r : Reached). r.lacks) (w.met-is ∙ i.3.agrees)) then
+            (ap (λ (r : Reached). is_some r.missing) (w.met-is ∙ i.3.agrees)) then
       ],
     )
 
@@ -185,5 +183,5 @@ returns t c =
     let a = c.args in
     let i = c.loop-next.invariant in
     let lines = cut a.rows a.query.n a.listing.now in
-    walking_done i.0.accepted a.left i.1 i.2 (set a.found (get_or a.query.order (a.query.n - a.left) 0) 0) lines a.from i.3 c.loop-next-test.false
+    walking_done i.0.accepted a.left i.1 i.2 (set a.found (get_or a.query.order (a.query.n - a.left) 0) 0) lines a.from i.3 c.in_default.is
     ∙ ap (meets lines a.from) (given_before i.0.accepted a.left i.1 i.2 a.found 0)

@@ -1,32 +1,34 @@
 -- `check_listing` meets its contract: refused by the checks, or the verdict on the rows that there are.
+use native.Mathlib.Omega.{arith}
 use mathlib.Core.Path.{◌≡◌, sym, ◌∙◌}
 use lib.ListN.{length}
 use Rattle.query.specs.Limits.{max_atoms}
-use Rattle.join_query.specs.Query.{Accepted}
+use Rattle.join_query.specs.Query.{join_number, Accepted}
 use Rattle.join_query.proofs.Whole.{length_mapped}
+use Rattle.plain_join.proofs.Refused.{refused_above}
 use Rattle.listing_check.proofs.Meeting.{many_inside}
 use Rattle.listing_check.proofs.Checking.{checks_refused, checks_says}
 use borrow.Author.Rules.{rules}
 use Rattle.listing_check.proofs.check_listing.Goals as goal
-use Rattle.listing_check.proofs.check_listing.Goals.{Else-number-ne0, Start}
+use Rattle.listing_check.proofs.check_listing.Goals.{Start}
 
 -- what the parameter's type says
 whole : (s : Start) → length s.args.query.atoms ≡ max_atoms
 whole s = search (length_mapped, rules)
 
--- where the number is 0, the query is accepted
-accepted : (c : Else-number-ne0) → let a = c.args in Accepted a.pool.now a.tables a.query (length a.listing.now)
-accepted c = record { passed = sym c.refusal-number.ensures ∙ c.if-number-ne0.false; whole = whole c.before.before.before.before.before }
+-- where nothing is refused, the query is accepted
+accepted : (s : Start) → join_number s.args.pool.now s.args.tables s.args.query (length s.args.listing.now) ≡ 0 → let a = s.args in Accepted a.pool.now a.tables a.query (length a.listing.now)
+accepted s e = record { passed = e; whole = whole s }
 
-pub returns-then-number-ne0 : goal.returns-then-number-ne0
-returns-then-number-ne0 c = let a = c.args in checks_refused a.pool.now a.tables a.query a.listing.now a.count c.refusal-number.result c.refusal-number.ensures c.if-number-ne0.true
+pub returns-in-Err : goal.returns-in-Err
+returns-in-Err c = let a = c.args in checks_refused a.pool.now a.tables a.query a.listing.now a.count c.number.result (c.number.ensures ∙ c.in-Err.ensures) (λ e. omega (arith, e, c.number.ensures, refused_above c.in-Err.refused))
 
 pub verdict-requires : goal.verdict-requires
 verdict-requires c =
     let a = c.args in
-    (record { len = length a.listing.now; accepted = accepted (goal.at.verdict-requires c).Else-number-ne0 }, rw c.how_many-rows.ensures (many_inside a.query.n (length a.listing.now) a.count))
+    (record { len = length a.listing.now; accepted = accepted (goal.at.verdict-requires c).Start (sym c.in_default.ensures) }, rw c.how_many-rows.ensures (many_inside a.query.n (length a.listing.now) a.count))
 
 pub returns : goal.returns
 returns c =
     let a = c.args in
-    checks_says a.pool.now a.tables a.query a.listing.now a.count (sym (accepted (goal.at.returns c).Else-number-ne0).passed) c.how_many-rows.ensures c.verdict.ensures
+    checks_says a.pool.now a.tables a.query a.listing.now a.count c.in_default.ensures c.how_many-rows.ensures c.verdict.ensures

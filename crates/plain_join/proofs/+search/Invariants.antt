@@ -11,8 +11,8 @@ abbrev pub decreases-search : goal.decreases-search
 decreases-search l = l.left
 
 abbrev pub invariant-loop-next : goal.invariant-loop-next
-invariant-loop-next l = (p : Passed l.pool l.tables l.query) × (s : 0 < l.left) × (h : l.left ≤ l.query.n) × Trying p.accepted l.left s h l.initial.found l.initial.window l.rows l.window l.found l.next l.written
+invariant-loop-next l = (p : Passed l.asked.pool.now l.asked.tables l.asked.query) × (s : 0 < l.left) × (h : l.left ≤ l.asked.query.n) × Trying p.accepted l.left s h l.initial.found l.initial.window l.rows l.window l.found l.next l.written
 
 -- how many keys are left
 abbrev pub decreases-loop-next : goal.decreases-loop-next
-decreases-loop-next l = length (todo (tried l.v l.initial.found (atoms_of l.pool l.tables l.query)) l.next)
+decreases-loop-next l = length (todo (tried l.v l.initial.found (atoms_of l.asked.pool.now l.asked.tables l.asked.query)) l.next)

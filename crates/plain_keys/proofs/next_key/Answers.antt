@@ -4,10 +4,10 @@ use native.Mathlib.Omega.{arith}
 use native.Mathlib.Decide.{dec_lt}
 use mathlib.Core.Path.{◌≡◌, sym, ap, ◌∙◌}
 use mathlib.Core.Bool.{true, false, false≢true}
-use mathlib.Core.Logic.{inl, inr}
 use mathlib.Core.List.{List, []}
+use Rattle.std.specs.Prelude.{Some, is_some}
 use lib.ListN.{length, get_or, take, length-map}
-use borrow.Author.Tests.{leb-true, leb-false, le-ltb, not-true, not-false}
+use borrow.Author.Tests.{le-ltb, not-true, not-false}
 use Rattle.relation.specs.Order.{Row}
 use Rattle.relation.specs.Runs.{from}
 use Rattle.relation.specs.Layers.{keys_under}
@@ -17,11 +17,11 @@ use Rattle.column_trie.specs.Table.{rows_in}
 use Rattle.join_query.specs.Query.{table_at, rows_at}
 use Rattle.join_query.proofs.Accepted.{rows_plain}
 use Rattle.plain_keys.specs.Keys.{words, bound, head_of}
-use Rattle.plain_keys.proofs.Heads.{lesser, lesser_second, lesser_below, lesser_first}
+use Rattle.plain_keys.proofs.Heads.{lesser, lesser_second, lesser_some, lesser_none, none_lesser}
 use Rattle.plain_keys.proofs.Owners.{first_heads, school_owns, maker_owns, school_found}
 use borrow.Author.Rules.{rules}
 use Rattle.plain_keys.proofs.next_key.Goals as goal
-use Rattle.plain_keys.proofs.next_key.Goals.{After-next_in-m, Joined-s-2, Start, then-not-a-via-then-not-a, then-not-a-via-else-not-a+then-owns, then-len-gt0+then-s, then-len-gt0+else-s, else-len-gt0, then-s-2+then-not-m, then-s-2+else-not-m, else-s-2}
+use Rattle.plain_keys.proofs.next_key.Goals.{After-next_in-m, Start, then-not-a-via-then-not-a, then-not-a-via-else-not-a+then-owns, then-len-gt0+then-is_some, then-len-gt0+else-is_some, else-len-gt0, in_default-via-in-Some+in_default, in_default-via-in_default}
 
 short : (s : Start) → s.args.len ≤ length (words s.args.a s.args.row)
 short s =
@@ -47,11 +47,11 @@ rows s = rows_at s.args.pool.now s.args.tables s.args.a
 laid : (e : After-next_in-m) → e.args.a.laid_over ≡ true
 laid e = not-false e.args.a.laid_over e.if-not-a.false
 
-other : (e : After-next_in-m) → 0 < e.args.len → (e.next_in-s.result.found ≡ false) × (has (keys_under [] (school e)) (get_or (given e) 0 0) ≡ false)
+other : (e : After-next_in-m) → 0 < e.args.len → (is_some e.next_in-s.result ≡ false) × (has (keys_under [] (school e)) (get_or (given e) 0 0) ≡ false)
 other e h =
     elim e.if-len-gt0.branch [
-      | then-len-gt0+then-s x ↦ absurd (false≢true (sym e.if-owns.false ∙ x.value-is ∙ x.if-s.true))
-      | then-len-gt0+else-s x ↦ (x.if-s.false, sym x.owns.ensures ∙ sym x.value-is ∙ e.if-owns.false)
+      | then-len-gt0+then-is_some x ↦ absurd (false≢true (sym e.if-owns.false ∙ x.value-is ∙ x.if-is_some.true))
+      | then-len-gt0+else-is_some x ↦ (sym x.is_some.ensures ∙ x.if-is_some.false, sym x.owns.ensures ∙ sym x.value-is ∙ e.if-owns.false)
       | else-len-gt0 x ↦ absurd (omega (arith, x.if-len-gt0.false, h))
     ]
 
@@ -61,7 +61,7 @@ Joint c = lesser c.next_in-s.result c.next_in-m.result ≡ head_of (from (sought
 both_at : (c : After-next_in-m) → c.args.len ≤ length (given c) → Dec (0 < c.args.len) → Joint c
 both_at c l (yes h) =
     let o = other c h in
-    sym (lesser_second c.next_in-s.result c.next_in-m.result o.0) ∙ c.next_in-m.ensures ∙ ap (λ (k : List ℕ). head_of (from (sought c) k)) (maker_owns c.requires (laid c) (given c) h l o.1)
+    lesser_second c.next_in-s.result c.next_in-m.result o.0 ∙ c.next_in-m.ensures ∙ ap (λ (k : List ℕ). head_of (from (sought c) k)) (maker_owns c.requires (laid c) (given c) h l o.1)
 both_at c l (no n) =
     let z : c.args.len ≡ 0 = omega arith in
     first_heads c.requires (laid c) (sought c)
@@ -87,31 +87,24 @@ returns-then-not-a c =
       | then-not-a-via-else-not-a+then-owns w ↦
           let o = not-false a.a.laid_over w.if-not-a.false in
           elim w.if-len-gt0.branch [
-            | then-len-gt0+then-s x ↦ school_owns c.requires o g x.if-len-gt0.true l (school_found c.requires o g x.if-len-gt0.true l s c.next_in-s.ensures x.if-s.true)
-            | then-len-gt0+else-s x ↦ school_owns c.requires o g x.if-len-gt0.true l (sym x.owns.ensures ∙ sym x.value-is ∙ w.if-owns.true)
+            | then-len-gt0+then-is_some x ↦ school_owns c.requires o g x.if-len-gt0.true l (school_found c.requires o g x.if-len-gt0.true l s c.next_in-s.ensures (sym x.is_some.ensures ∙ x.if-is_some.true))
+            | then-len-gt0+else-is_some x ↦ school_owns c.requires o g x.if-len-gt0.true l (sym x.owns.ensures ∙ sym x.value-is ∙ w.if-owns.true)
             | else-len-gt0 x ↦ absurd (false≢true (sym (le-ltb 0 a.len x.if-len-gt0.false) ∙ sym x.value-is ∙ w.if-owns.true))
           ]
     ])
 
--- what the two tables give, and which comes first
-pub returns-then-school_first : goal.returns-then-school_first
-returns-then-school_first c =
-    let s = c.next_in-s.result in
-    let m = c.next_in-m.result in
-    elim c.if-s-2.branch [
-      | then-s-2+then-not-m x ↦ lesser_first s m x.if-s-2.true (inl (not-true m.found x.if-not-m.true))
-      | then-s-2+else-not-m x ↦ lesser_first s m x.if-s-2.true (inr (leb-true s.key m.key (sym x.school_first-is ∙ c.if-school_first.true)))
-      | else-s-2 x ↦ absurd (false≢true (sym (x.school_first-is ∙ x.if-s-2.false) ∙ c.if-school_first.true))
-    ]
-    ∙ both (goal.at.returns-then-school_first c).After-next_in-m (short (goal.at.returns-then-school_first c).Start)
+-- what the two tables give
+pub returns-in-Some-Some : goal.returns-in-Some-Some
+returns-in-Some-Some c =
+    let p = goal.at.returns-in-Some-Some c in
+    ap (λ (k : ℕ). Some k) c.min.ensures ∙ lesser_some c.in-Some-Some.is-0 c.in-Some-Some.is-1 ∙ both p.After-next_in-m (short p.Start)
 
-pub returns-else-school_first : goal.returns-else-school_first
-returns-else-school_first c =
-    let s = c.next_in-s.result in
-    let m = c.next_in-m.result in
-    elim c.if-s-2.branch [
-      | then-s-2+then-not-m x ↦ absurd (false≢true (sym c.if-school_first.false ∙ x.school_first-is ∙ x.if-not-m.true))
-      | then-s-2+else-not-m x ↦ lesser_below s m x.if-s-2.true (not-false m.found x.if-not-m.false) (leb-false s.key m.key (sym x.school_first-is ∙ c.if-school_first.false))
-      | else-s-2 x ↦ lesser_second s m x.if-s-2.false
+pub returns-in_default : goal.returns-in_default
+returns-in_default c =
+    let p = goal.at.returns-in_default c in
+    c.or.ensures
+    ∙ elim c.in_default.branch [
+      | in_default-via-in-Some+in_default w ↦ lesser_none c.next_in-s.result w.in_default.is-1
+      | in_default-via-in_default w ↦ none_lesser c.next_in-m.result w.in_default.is-0
     ]
-    ∙ both (goal.at.returns-else-school_first c).After-next_in-m (short (goal.at.returns-else-school_first c).Start)
+    ∙ both p.After-next_in-m (short p.Start)
