@@ -10,6 +10,7 @@ ghost use Rattle.join_depths.specs.Depth.{Standing};
 ghost use Rattle.descent.specs.Descent.{Completes};
 
 use join_depths::depth::{onward, open};
+use join_openings::Join;
 use join_plan::{COUNT, DEPTH_WORDS, ENDS, PLAN_WORDS};
 use join_query::Query;
 use join_window::emit;
@@ -48,14 +49,10 @@ fn complete(
 
 // Writes the rows that complete `found`, from depth `depth` on, behind the first `from`, until the window is full. The cursors' places come by value, with
 // the table that each is in, so those of the caller are as they were when it returns. At the last depth a row is written at once: a call for each would copy
-// three arrays and do nothing else. The two slices come first, which compilers then hand over in registers.
-pub fn descend(
-    pool: &[u64],
+// three arrays and do nothing else.
+pub fn descend_in(
+    join: &Join,
     window: &mut [u64],
-    strategy: SeekStrategy,
-    plan: &[usize; PLAN_WORDS],
-    ends: &[usize; ENDS],
-    n: usize,
     depth: usize,
     above: [usize; MAX_ATOMS],
     owned: [usize; MAX_ATOMS],
@@ -63,15 +60,15 @@ pub fn descend(
     from: usize,
     before: u64,
 ) -> Walked
-    requires standing { Standing pool.now plan.now ends.now n depth above owned }
-    requires fits { Fits n (length window.old) from }
-    ensures { Completes pool.now plan.now ends.now n depth above owned found window.old from before window.new result.rows result.full result.seeks }
+    requires standing { Standing join.now.pool.now join.now.plan.now join.now.ends.now join.now.n depth above owned }
+    requires fits { Fits join.now.n (length window.old) from }
+    ensures { Completes join.now.pool.now join.now.plan.now join.now.ends.now join.now.n depth above owned found window.old from before window.new result.rows result.full result.seeks }
 {
-    if depth == n {
-        return complete(window, &found, n, from, before);
+    if depth == join.n {
+        return complete(window, &found, join.n, from, before);
     }
-    let v = plan[DEPTH_WORDS * depth];
-    let k = plan[DEPTH_WORDS * depth + COUNT];
+    let v = join.plan[DEPTH_WORDS * depth];
+    let k = join.plan[DEPTH_WORDS * depth + COUNT];
     let mut state = State {
         at: above,
         end: [0; MAX_ATOMS],
@@ -80,18 +77,7 @@ pub fn descend(
     };
     let mut ring = [0usize; MAX_ATOMS];
     let mut by_atom = [0usize; MAX_ATOMS];
-    let first = open(
-        strategy,
-        pool,
-        plan,
-        ends,
-        n,
-        depth,
-        &mut state,
-        &mut ring,
-        &mut by_atom,
-        before,
-    );
+    let first = open(join, depth, &mut state, &mut ring, &mut by_atom, before);
     let mut landed = first.landed;
     let mut seeks = first.seeks;
     let mut row = found;
@@ -105,16 +91,12 @@ pub fn descend(
             };
         };
         row[v] = key;
-        let below: Walked = if depth + 1 == n {
-            complete(window, &row, n, rows, seeks)
+        let below: Walked = if depth + 1 == join.n {
+            complete(window, &row, join.n, rows, seeks)
         } else {
-            descend(
-                pool,
+            descend_in(
+                join,
                 window,
-                strategy,
-                plan,
-                ends,
-                n,
                 depth + 1,
                 state.at,
                 state.own,
@@ -133,18 +115,45 @@ pub fn descend(
         }
         rows = below.rows;
         let next = onward(
-            strategy,
-            pool,
-            ends,
+            join,
             &mut state,
             &ring,
             &by_atom,
             k,
             p,
-            depth + 1 == n,
+            depth + 1 == join.n,
             below.seeks,
         );
         landed = next.landed;
         seeks = next.seeks;
     }
+}
+
+// The same of a join that is given by its parts. The two slices come first, which compilers then hand over in registers.
+pub fn descend(
+    pool: &[u64],
+    window: &mut [u64],
+    strategy: SeekStrategy,
+    plan: &[usize; PLAN_WORDS],
+    ends: &[usize; ENDS],
+    n: usize,
+    depth: usize,
+    above: [usize; MAX_ATOMS],
+    owned: [usize; MAX_ATOMS],
+    found: [u64; Query::MAX_VARIABLES],
+    from: usize,
+    before: u64,
+) -> Walked
+    requires standing { Standing pool.now plan.now ends.now n depth above owned }
+    requires fits { Fits n (length window.old) from }
+    ensures { Completes pool.now plan.now ends.now n depth above owned found window.old from before window.new result.rows result.full result.seeks }
+{
+    let join = Join {
+        pool,
+        plan,
+        ends,
+        n,
+        strategy,
+    };
+    descend_in(&join, window, depth, above, owned, found, from, before)
 }

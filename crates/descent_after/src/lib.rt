@@ -9,6 +9,7 @@ ghost use Rattle.descent_after.specs.Descent.{DescendedAfter};
 
 use bounded_depth::open_from;
 use join_depths::depth::onward;
+use join_openings::Join;
 use join_plan::{COUNT, DEPTH_WORDS, ENDS, PLAN_WORDS};
 use join_query::Query;
 use join_window::Written;
@@ -44,6 +45,13 @@ pub fn descend_after(
             full: false,
         };
     }
+    let join = Join {
+        pool,
+        plan,
+        ends,
+        n,
+        strategy,
+    };
     let v = plan[DEPTH_WORDS * depth];
     let k = plan[DEPTH_WORDS * depth + COUNT];
     let bound = bounds[v];
@@ -55,18 +63,7 @@ pub fn descend_after(
     };
     let mut ring = [0usize; MAX_ATOMS];
     let mut by_atom = [0usize; MAX_ATOMS];
-    let landed = open_from(
-        strategy,
-        pool,
-        plan,
-        ends,
-        n,
-        depth,
-        &mut state,
-        &mut ring,
-        &mut by_atom,
-        bound,
-    );
+    let landed = open_from(&join, depth, &mut state, &mut ring, &mut by_atom, bound);
     let Landed::Key { key, p } = landed else {
         return Written {
             rows: from,
@@ -75,7 +72,7 @@ pub fn descend_after(
     };
     if key != bound {
         return walk_rest(
-            strategy, pool, plan, ends, n, depth, state, ring, by_atom, landed, found, window, from,
+            &join, depth, state, ring, by_atom, landed, found, window, from,
         );
     }
     let mut row = found;
@@ -97,21 +94,10 @@ pub fn descend_after(
     if below.full {
         return below;
     }
-    let next = onward(
-        strategy,
-        pool,
-        ends,
-        &mut state,
-        &ring,
-        &by_atom,
-        k,
-        p,
-        depth + 1 == n,
-        0,
-    );
+    let next = onward(&join, &mut state, &ring, &by_atom, k, p, depth + 1 == n, 0);
     let then = next.landed;
     let rows = below.rows;
     walk_rest(
-        strategy, pool, plan, ends, n, depth, state, ring, by_atom, then, found, window, rows,
+        &join, depth, state, ring, by_atom, then, found, window, rows,
     )
 }

@@ -6,11 +6,10 @@ ghost use Rattle.leapfrog_search.specs.Ring.{SameAtoms};
 ghost use Rattle.stretches.specs.Whole.{WholeAgreed};
 ghost use Rattle.join_depths.specs.Depth.{Standing, Fresh, Opening, Onward, since_of};
 
-use join_openings::open_all;
-use join_plan::{COUNT, DEPTH_WORDS, ENDS, PLAN_WORDS};
+use join_openings::{Join, open_all};
+use join_plan::{COUNT, DEPTH_WORDS};
 use leapfrog_search::{Landed, Searched};
 use query::MAX_ATOMS;
-use seek::SeekStrategy;
 use stretches::{State, whole_init, whole_next};
 
 // A call's answer, its seeks added to those before; 2^64 - 1 stands for that and all above.
@@ -25,29 +24,28 @@ fn since(before: u64, s: Searched) -> Searched
 // Opens a depth and finds its first key: the atoms that take part are opened in atom order, and the leapfrog over their runs is begun. Where one has no keys,
 // nothing is searched, and the place that comes with no key says nothing.
 pub fn open(
-    strategy: SeekStrategy,
-    pool: &[u64],
-    plan: &[usize; PLAN_WORDS],
-    ends: &[usize; ENDS],
-    n: usize,
+    join: &Join,
     depth: usize,
     state: &mut State,
     ring: &mut [usize; MAX_ATOMS],
     by_atom: &mut [usize; MAX_ATOMS],
     seeks: u64,
 ) -> Searched
-    requires standing { Standing pool.now plan.now ends.now n depth state.old.at state.old.own }
-    requires depth_lt_n { (depth < n) × Fresh state.old ends.now ring.old by_atom.old }
-    ensures { Opening pool.now plan.now ends.now n depth state.old.at state.old.own state.new ring.new by_atom.new seeks result }
+    requires standing { Standing join.now.pool.now join.now.plan.now join.now.ends.now join.now.n depth state.old.at state.old.own }
+    requires depth_lt_n { (depth < join.now.n) × Fresh state.old join.now.ends.now ring.old by_atom.old }
+    ensures { Opening join.now.pool.now join.now.plan.now join.now.ends.now join.now.n depth state.old.at state.old.own state.new ring.new by_atom.new seeks result }
 {
-    if !open_all(pool, plan, depth, state, ends, ring, by_atom, strategy) {
+    if !open_all(join, depth, state, ring, by_atom) {
         return Searched {
             landed: Landed::Nothing { p: 0 },
             seeks,
         };
     }
-    let k = plan[DEPTH_WORDS * depth + COUNT];
-    since(seeks, whole_init(pool, state, ends, ring, k, strategy))
+    let k = join.plan[DEPTH_WORDS * depth + COUNT];
+    since(
+        seeks,
+        whole_init(join.pool, state, join.ends, ring, k, join.strategy),
+    )
 }
 
 // The ring itself, or the one in atom order.
@@ -66,9 +64,7 @@ fn chosen<'a>(
 
 // The next key of a depth. After a descent below it the ring is in atom order again and begins at its first place; at the last depth it goes on as it is.
 pub fn onward<'a>(
-    strategy: SeekStrategy,
-    pool: &[u64],
-    ends: &[usize; ENDS],
+    join: &Join,
     state: &mut State,
     ring: &'a [usize; MAX_ATOMS],
     by_atom: &'a [usize; MAX_ATOMS],
@@ -77,14 +73,14 @@ pub fn onward<'a>(
     last: bool,
     seeks: u64,
 ) -> Searched
-    requires whole_agreed { WholeAgreed pool.now state.old ends.now by_atom.now k (key_at pool.now state.old.at (get_or by_atom.now 0 0)) p }
+    requires whole_agreed { WholeAgreed join.now.pool.now state.old join.now.ends.now by_atom.now k (key_at join.now.pool.now state.old.at (get_or by_atom.now 0 0)) p }
     requires same_atoms { SameAtoms by_atom.now ring.now k }
-    ensures { Onward pool.now ends.now ring.now by_atom.now k p last state.old state.new seeks result }
+    ensures { Onward join.now.pool.now join.now.ends.now ring.now by_atom.now k p last state.old state.new seeks result }
 {
     let turn = chosen(last, ring, by_atom);
     let start = if last { p } else { 0 };
     since(
         seeks,
-        whole_next(pool, state, ends, turn, k, start, strategy),
+        whole_next(join.pool, state, join.ends, turn, k, start, join.strategy),
     )
 }

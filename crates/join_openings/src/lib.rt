@@ -17,6 +17,17 @@ use query::MAX_ATOMS;
 use seek::SeekStrategy;
 use stretches::{State, take_stretch};
 
+// What a join is made of: the pool that its tables lie in, its plan (crates/join_plan), where its atoms' first keys end, how many variables its query has, and
+// how it seeks.
+#[derive(Clone, Copy)]
+pub struct Join<'a> {
+    pub pool: &'a [u64],
+    pub plan: &'a [usize; PLAN_WORDS],
+    pub ends: &'a [usize; ENDS],
+    pub n: usize,
+    pub strategy: SeekStrategy,
+}
+
 // A group of keys, by its places of the pool.
 #[derive(Clone, Copy)]
 struct KeyRange {
@@ -25,47 +36,40 @@ struct KeyRange {
 }
 
 // The group under the key at `place`, in the layer that the opening at `base` opens.
-fn group_under(pool: &[u64], plan: &[usize; PLAN_WORDS], base: usize, place: usize) -> KeyRange
+fn group_under(join: &Join, base: usize, place: usize) -> KeyRange
     requires table_words_bound { base + table_words ≤ plan_words }
-    requires readable { Readable pool.now plan.now base place }
-    ensures { (result.lo ≡ group_low pool.now plan.now base place) × (result.hi ≡ group_high pool.now plan.now base place) }
+    requires readable { Readable join.now.pool.now join.now.plan.now base place }
+    ensures { (result.lo ≡ group_low join.now.pool.now join.now.plan.now base place) × (result.hi ≡ group_high join.now.pool.now join.now.plan.now base place) }
 {
-    let i = place - plan[base + ABOVE];
-    let keys = plan[base + KEYS];
-    let count = plan[base + KEY_COUNT];
-    let intervals = plan[base + INTERVALS];
-    let n = plan[base + INTERVAL_COUNT];
+    let i = place - join.plan[base + ABOVE];
+    let keys = join.plan[base + KEYS];
+    let count = join.plan[base + KEY_COUNT];
+    let intervals = join.plan[base + INTERVALS];
+    let n = join.plan[base + INTERVAL_COUNT];
     KeyRange {
-        lo: keys + interval_or(pool, intervals, n, i, count),
-        hi: keys + interval_or(pool, intervals, n, i + 1, count),
+        lo: keys + interval_or(join.pool, intervals, n, i, count),
+        hi: keys + interval_or(join.pool, intervals, n, i + 1, count),
     }
 }
 
 // Opens the atom whose opening stands at `base`: under its present key, in the table that the key is of; at the first column of one that is laid over, both
 // tables' first keys. False where there are none.
-fn open_one(
-    pool: &[u64],
-    plan: &[usize; PLAN_WORDS],
-    base: usize,
-    state: &mut State,
-    ends: &[usize; ENDS],
-    strategy: SeekStrategy,
-) -> bool
-    requires opening_words_bound { (base + opening_words ≤ plan_words) × Sized state.old ends.now }
-    requires one_openable { OneOpenable pool.now plan.now ends.now base (stand_of state.old ends.now (atom_of plan.now base)) }
-    ensures { OpensOne pool.now plan.now ends.now base state.old state.new result }
+fn open_one(join: &Join, base: usize, state: &mut State) -> bool
+    requires opening_words_bound { (base + opening_words ≤ plan_words) × Sized state.old join.now.ends.now }
+    requires one_openable { OneOpenable join.now.pool.now join.now.plan.now join.now.ends.now base (stand_of state.old join.now.ends.now (atom_of join.now.plan.now base)) }
+    ensures { OpensOne join.now.pool.now join.now.plan.now join.now.ends.now base state.old state.new result }
 {
-    let a = plan[base];
-    if plan[base + MAKERS] == 1 {
-        let x = plan[base + KEYS];
-        let y = plan[base + MAKERS + KEYS];
-        return take_stretch(pool, state, ends, a, x, y, 0, strategy);
+    let a = join.plan[base];
+    if join.plan[base + MAKERS] == 1 {
+        let x = join.plan[base + KEYS];
+        let y = join.plan[base + MAKERS + KEYS];
+        return take_stretch(join.pool, state, join.ends, a, x, y, 0, join.strategy);
     }
     let from = base + TABLE_WORDS * state.own[a];
-    if plan[from + KEY_COUNT] == 0 {
+    if join.plan[from + KEY_COUNT] == 0 {
         return false;
     }
-    let g = group_under(pool, plan, from, state.at[a]);
+    let g = group_under(join, from, state.at[a]);
     state.at[a] = g.lo;
     state.end[a] = g.hi;
     true
@@ -73,27 +77,24 @@ fn open_one(
 
 // Opens the atoms that take part at a depth, with both rings in atom order; false where one has no keys.
 pub fn open_all(
-    pool: &[u64],
-    plan: &[usize; PLAN_WORDS],
+    join: &Join,
     depth: usize,
     state: &mut State,
-    ends: &[usize; ENDS],
     ring: &mut [usize; MAX_ATOMS],
     by_atom: &mut [usize; MAX_ATOMS],
-    strategy: SeekStrategy,
 ) -> bool
-    requires openable { Openable pool.now plan.now ends.now depth state.old }
-    requires arrays { Arrays state.old ends.now ring.old by_atom.old }
-    ensures { OpenedAll pool.now plan.now ends.now depth state.old state.new ring.new by_atom.new result }
+    requires openable { Openable join.now.pool.now join.now.plan.now join.now.ends.now depth state.old }
+    requires arrays { Arrays state.old join.now.ends.now ring.old by_atom.old }
+    ensures { OpenedAll join.now.pool.now join.now.plan.now join.now.ends.now depth state.old state.new ring.new by_atom.new result }
 {
-    let count = plan[DEPTH_WORDS * depth + COUNT];
+    let count = join.plan[DEPTH_WORDS * depth + COUNT];
     let first = DEPTH_WORDS * depth + OPENINGS;
     for j in 0..count {
         let base = first + OPENING_WORDS * j;
-        if !open_one(pool, plan, base, state, ends, strategy) {
+        if !open_one(join, base, state) {
             return false;
         }
-        let a = plan[base];
+        let a = join.plan[base];
         ring[j] = a;
         by_atom[j] = a;
     }

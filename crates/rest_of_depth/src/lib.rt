@@ -6,23 +6,19 @@ ghost use Rattle.std.specs.Prelude.{length};
 ghost use Rattle.join_window.specs.Window.{Fits};
 ghost use Rattle.rest_of_depth.specs.Rest.{Underway, Walks};
 
-use descent::descend;
+use descent::descend_in;
 use join_depths::depth::onward;
-use join_plan::{COUNT, DEPTH_WORDS, ENDS, PLAN_WORDS};
+use join_openings::Join;
+use join_plan::{COUNT, DEPTH_WORDS};
 use join_query::Query;
 use join_window::Written;
 use leapfrog_search::Landed;
 use query::MAX_ATOMS;
-use seek::SeekStrategy;
 use stretches::State;
 
 // Writes the rows under the key on which the depth's leapfrog stands as `start`, and under the keys that follow, behind the first `from`, until the window is full.
 pub fn walk_rest(
-    strategy: SeekStrategy,
-    pool: &[u64],
-    plan: &[usize; PLAN_WORDS],
-    ends: &[usize; ENDS],
-    n: usize,
+    join: &Join,
     depth: usize,
     opened: State,
     ring: [usize; MAX_ATOMS],
@@ -32,12 +28,12 @@ pub fn walk_rest(
     window: &mut [u64],
     from: usize,
 ) -> Written
-    requires underway { Underway pool.now plan.now ends.now n depth opened ring by_atom start }
-    requires fits { Fits n (length window.old) from }
-    ensures { Walks pool.now plan.now ends.now n depth opened by_atom start found window.old from window.new result.rows result.full }
+    requires underway { Underway join.now.pool.now join.now.plan.now join.now.ends.now join.now.n depth opened ring by_atom start }
+    requires fits { Fits join.now.n (length window.old) from }
+    ensures { Walks join.now.pool.now join.now.plan.now join.now.ends.now join.now.n depth opened by_atom start found window.old from window.new result.rows result.full }
 {
-    let v = plan[DEPTH_WORDS * depth];
-    let k = plan[DEPTH_WORDS * depth + COUNT];
+    let v = join.plan[DEPTH_WORDS * depth];
+    let k = join.plan[DEPTH_WORDS * depth + COUNT];
     let mut state = opened;
     let mut landed = start;
     let mut rows = from;
@@ -47,20 +43,7 @@ pub fn walk_rest(
         };
         let mut row = found;
         row[v] = key;
-        let below = descend(
-            pool,
-            window,
-            strategy,
-            plan,
-            ends,
-            n,
-            depth + 1,
-            state.at,
-            state.own,
-            row,
-            rows,
-            0,
-        );
+        let below = descend_in(join, window, depth + 1, state.at, state.own, row, rows, 0);
         if below.full {
             return Written {
                 rows: below.rows,
@@ -69,15 +52,13 @@ pub fn walk_rest(
         }
         rows = below.rows;
         let next = onward(
-            strategy,
-            pool,
-            ends,
+            join,
             &mut state,
             &ring,
             &by_atom,
             k,
             p,
-            depth + 1 == n,
+            depth + 1 == join.n,
             0,
         );
         landed = next.landed;

@@ -12,11 +12,11 @@ overflow_mul-k c = omega (arith, few_variables c.requires.standing, c.requires.d
 pub overflow_add-k : goal.overflow_add-k
 overflow_add-k c = omega (arith, few_variables c.requires.standing, c.requires.depth_lt_n.0)
 
-pub offset_bounds-plan-depth : goal.offset_bounds-plan-depth
-offset_bounds-plan-depth c = omega (arith, few_variables c.requires.standing, c.requires.depth_lt_n.0)
+pub offset_bounds-join-depth : goal.offset_bounds-join-depth
+offset_bounds-join-depth c = omega (arith, few_variables c.requires.standing, c.requires.depth_lt_n.0)
 
-pub bounds-plan-depth : goal.bounds-plan-depth
-bounds-plan-depth c = omega (arith, few_variables c.requires.standing, c.requires.depth_lt_n.0)
+pub bounds-join-depth : goal.bounds-join-depth
+bounds-join-depth c = omega (arith, few_variables c.requires.standing, c.requires.depth_lt_n.0)
 
 pub whole_seek-s-requires : goal.whole_seek-s-requires
 whole_seek-s-requires c = from_agreed c.args.target c.open-first.ensures.begun c.in-Key.is

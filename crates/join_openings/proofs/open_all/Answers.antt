@@ -12,11 +12,11 @@ overflow_mul-count c = omega (arith, c.requires.openable)
 pub overflow_add-count : goal.overflow_add-count
 overflow_add-count c = omega (arith, c.requires.openable)
 
-pub offset_bounds-plan-depth : goal.offset_bounds-plan-depth
-offset_bounds-plan-depth c = omega (arith, c.requires.openable)
+pub offset_bounds-join-depth : goal.offset_bounds-join-depth
+offset_bounds-join-depth c = omega (arith, c.requires.openable)
 
-pub bounds-plan-depth : goal.bounds-plan-depth
-bounds-plan-depth c = omega (arith, c.requires.openable)
+pub bounds-join-depth : goal.bounds-join-depth
+bounds-join-depth c = omega (arith, c.requires.openable)
 
 pub overflow_mul-first : goal.overflow_mul-first
 overflow_mul-first c = omega (arith, c.requires.openable)
@@ -25,7 +25,7 @@ pub overflow_add-first : goal.overflow_add-first
 overflow_add-first c = omega (arith, c.requires.openable)
 
 pub loop-j-init : goal.loop-j-init
-loop-j-init c = opens_start c.args.pool.now c.args.plan.now c.args.depth c.requires.arrays
+loop-j-init c = opens_start c.args.join.now.pool.now c.args.join.now.plan.now c.args.depth c.requires.arrays
 
 pub overflow_mul-base : goal.overflow_mul-base
 overflow_mul-base c = omega (arith, c.requires.openable)
@@ -43,11 +43,11 @@ returns-then-not-open_one c =
     let l = c.loop-j in
     refuses (opens_refuses c.requires.openable l.invariant (omega arith) (opens_false c.open_one.ensures c.if-not-open_one.true))
 
-pub offset_bounds-plan-base : goal.offset_bounds-plan-base
-offset_bounds-plan-base c = omega (arith, c.requires.openable)
+pub offset_bounds-join-base : goal.offset_bounds-join-base
+offset_bounds-join-base c = omega (arith, c.requires.openable)
 
-pub bounds-plan-base : goal.bounds-plan-base
-bounds-plan-base c = omega (arith, c.requires.openable)
+pub bounds-join-base : goal.bounds-join-base
+bounds-join-base c = omega (arith, c.requires.openable)
 
 pub offset_bounds-ring-j : goal.offset_bounds-ring-j
 offset_bounds-ring-j c = omega (arith, c.requires.openable.few)
@@ -68,6 +68,6 @@ loop-j-preserved c =
 pub returns : goal.returns
 returns c =
     let l = c.loop-j in
-    let e : l.j ≡ count_at c.args.plan.now c.args.depth = omega arith in
+    let e : l.j ≡ count_at c.args.join.now.plan.now c.args.depth = omega arith in
     all
-    (subst (λ (m : ℕ). Opens c.args.pool.now c.args.plan.now c.args.ends.now c.args.depth m c.args.state.now l.state l.ring l.by_atom) e l.invariant)
+    (subst (λ (m : ℕ). Opens c.args.join.now.pool.now c.args.join.now.plan.now c.args.join.now.ends.now c.args.depth m c.args.state.now l.state l.ring l.by_atom) e l.invariant)

@@ -16,11 +16,11 @@ long s = search rules
 pub overflow_mul-v : goal.overflow_mul-v
 overflow_mul-v c = omega (arith, few_variables c.requires.underway, c.requires.underway.below)
 
-pub offset_bounds-plan-depth : goal.offset_bounds-plan-depth
-offset_bounds-plan-depth c = omega (arith, few_variables c.requires.underway, c.requires.underway.below)
+pub offset_bounds-join-depth : goal.offset_bounds-join-depth
+offset_bounds-join-depth c = omega (arith, few_variables c.requires.underway, c.requires.underway.below)
 
-pub bounds-plan-depth : goal.bounds-plan-depth
-bounds-plan-depth c = omega (arith, few_variables c.requires.underway, c.requires.underway.below)
+pub bounds-join-depth : goal.bounds-join-depth
+bounds-join-depth c = omega (arith, few_variables c.requires.underway, c.requires.underway.below)
 
 pub overflow_mul-k : goal.overflow_mul-k
 overflow_mul-k c = omega (arith, few_variables c.requires.underway, c.requires.underway.below)
@@ -28,11 +28,11 @@ overflow_mul-k c = omega (arith, few_variables c.requires.underway, c.requires.u
 pub overflow_add-k : goal.overflow_add-k
 overflow_add-k c = omega (arith, few_variables c.requires.underway, c.requires.underway.below)
 
-pub offset_bounds-plan-depth-2 : goal.offset_bounds-plan-depth-2
-offset_bounds-plan-depth-2 c = omega (arith, few_variables c.requires.underway, c.requires.underway.below)
+pub offset_bounds-join-depth-2 : goal.offset_bounds-join-depth-2
+offset_bounds-join-depth-2 c = omega (arith, few_variables c.requires.underway, c.requires.underway.below)
 
-pub bounds-plan-depth-2 : goal.bounds-plan-depth-2
-bounds-plan-depth-2 c = omega (arith, few_variables c.requires.underway, c.requires.underway.below)
+pub bounds-join-depth-2 : goal.bounds-join-depth-2
+bounds-join-depth-2 c = omega (arith, few_variables c.requires.underway, c.requires.underway.below)
 
 pub loop-landed-init : goal.loop-landed-init
 loop-landed-init c = walk_start c.requires.underway c.requires.fits
@@ -52,14 +52,14 @@ bounds-row-v c = omega (arith, variable_small c.requires.underway, few_variables
 pub overflow_add-depth : goal.overflow_add-depth
 overflow_add-depth c = omega (arith, few_variables c.requires.underway, c.requires.underway.below)
 
-pub descend-below-requires : goal.descend-below-requires
-descend-below-requires c =
+pub descend_in-below-requires : goal.descend_in-below-requires
+descend_in-below-requires c =
     let e = c.in-Key.is in
     let i = c.loop-landed.invariant in
     record { standing = walk_below c.requires.underway e i; fits = walk_fits c.requires.underway e i }
 
 pub returns-then-below : goal.returns-then-below
-returns-then-below c = walk_full c.requires.underway c.in-Key.is c.loop-landed.invariant c.descend-below.ensures.descended c.if-below.true
+returns-then-below c = walk_full c.requires.underway c.in-Key.is c.loop-landed.invariant c.descend_in-below.ensures.descended c.if-below.true
 
 pub overflow_add-depth-in-loop-landed : goal.overflow_add-depth-in-loop-landed
 overflow_add-depth-in-loop-landed c = omega (arith, few_variables c.requires.underway, c.requires.underway.below)
@@ -74,4 +74,4 @@ pub loop-landed-smaller : goal.loop-landed-smaller
 loop-landed-smaller c = steps_less c.in-Key.is c.onward-next.ensures.steps
 
 pub loop-landed-preserved : goal.loop-landed-preserved
-loop-landed-preserved c = walk_next c.requires.underway c.in-Key.is c.loop-landed.invariant c.descend-below.ensures.descended (long (goal.at.loop-landed-preserved c).Start) c.if-below.false c.onward-next.ensures.steps
+loop-landed-preserved c = walk_next c.requires.underway c.in-Key.is c.loop-landed.invariant c.descend_in-below.ensures.descended (long (goal.at.loop-landed-preserved c).Start) c.if-below.false c.onward-next.ensures.steps

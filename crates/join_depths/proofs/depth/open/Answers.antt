@@ -13,7 +13,7 @@ use Rattle.join_depths.proofs.depth.open.Goals.{Start}
 abbrev arrays : Start → State
 arrays s = s.args.state.now
 
-can : (s : Start) → Openable s.args.pool.now s.args.plan.now s.args.ends.now s.args.depth (arrays s)
+can : (s : Start) → Openable s.args.join.now.pool.now s.args.join.now.plan.now s.args.join.now.ends.now s.args.depth (arrays s)
 can s = openable (arrays s) s.requires.standing.stands s.requires.depth_lt_n.0 s.requires.depth_lt_n.1.last
 
 pub open_all-requires : goal.open_all-requires
@@ -29,11 +29,11 @@ overflow_mul-k c = omega (arith, can (goal.at.overflow_mul-k c).Start)
 pub overflow_add-k : goal.overflow_add-k
 overflow_add-k c = omega (arith, can (goal.at.overflow_add-k c).Start)
 
-pub offset_bounds-plan-depth : goal.offset_bounds-plan-depth
-offset_bounds-plan-depth c = omega (arith, can (goal.at.offset_bounds-plan-depth c).Start)
+pub offset_bounds-join-depth : goal.offset_bounds-join-depth
+offset_bounds-join-depth c = omega (arith, can (goal.at.offset_bounds-join-depth c).Start)
 
-pub bounds-plan-depth : goal.bounds-plan-depth
-bounds-plan-depth c = omega (arith, can (goal.at.bounds-plan-depth c).Start)
+pub bounds-join-depth : goal.bounds-join-depth
+bounds-join-depth c = omega (arith, can (goal.at.bounds-join-depth c).Start)
 
 pub whole_init-requires : goal.whole_init-requires
 whole_init-requires c =

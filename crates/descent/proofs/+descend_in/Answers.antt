@@ -1,4 +1,4 @@
--- `descend` meets its contract: with no variable left it writes one row; else the keys left at this depth lead to its end (Walking.antt), and the
+-- `descend_in` meets its contract: with no variable left it writes one row; else the keys left at this depth lead to its end (Walking.antt), and the
 -- call for each key is one depth further down.
 use Prim.Native.Nat.{ℕ, ◌+◌, ◌<◌}
 use native.Mathlib.Omega.{arith}
@@ -12,8 +12,8 @@ use Rattle.join_depths.specs.Depth.{Standing}
 use Rattle.descent.specs.Descent.{Completes}
 use Rattle.descent.proofs.Walking.{walk_start, walk_below, walk_agreed, walk_same, walk_fits, walk_full, walk_next, walk_none, steps_less, few_variables, deep_enough, variable_small}
 use Rattle.descent.proofs.Counting.{counting_start, completes_leaf, completes_came, counting_none, counting_full, counting_next}
-use Rattle.descent.proofs.+descend.Goals as goal
-use Rattle.descent.proofs.+descend.Goals.{Joined-depth-n-2, then-depth-n-2, else-depth-n-2}
+use Rattle.descent.proofs.+descend_in.Goals as goal
+use Rattle.descent.proofs.+descend_in.Goals.{Joined-depth-join-2, then-depth-join-2, else-depth-join-2}
 
 -- a variable is left
 deep : {pool plan ends : List ℕ} {n d : ℕ} {above owned : List ℕ} → Standing pool plan ends n d above owned → (d ≡ n → ⊥) → d < n
@@ -26,31 +26,31 @@ complete-requires-clause-n_le_max_variables t c =
     let long : length c.args.found ≡ max_variables = search rules in
     (few_variables c.requires.standing, omega (arith, few_variables c.requires.standing, long))
 
-pub returns-then-depth-n : goal.returns-then-depth-n
-returns-then-depth-n t c = completes_leaf c.if-depth-n.true c.complete.ensures
+pub returns-then-depth-join : goal.returns-then-depth-join
+returns-then-depth-join t c = completes_leaf c.if-depth-join.true c.complete.ensures
 
 -- ---- the depth is opened
 
 pub overflow_mul-v : goal.overflow_mul-v
-overflow_mul-v t c = omega (arith, few_variables c.requires.standing, deep c.requires.standing c.if-depth-n.false)
+overflow_mul-v t c = omega (arith, few_variables c.requires.standing, deep c.requires.standing c.if-depth-join.false)
 
-pub offset_bounds-plan-depth : goal.offset_bounds-plan-depth
-offset_bounds-plan-depth t c = omega (arith, few_variables c.requires.standing, deep c.requires.standing c.if-depth-n.false)
+pub offset_bounds-join-depth : goal.offset_bounds-join-depth
+offset_bounds-join-depth t c = omega (arith, few_variables c.requires.standing, deep c.requires.standing c.if-depth-join.false)
 
-pub bounds-plan-depth : goal.bounds-plan-depth
-bounds-plan-depth t c = omega (arith, few_variables c.requires.standing, deep c.requires.standing c.if-depth-n.false)
+pub bounds-join-depth : goal.bounds-join-depth
+bounds-join-depth t c = omega (arith, few_variables c.requires.standing, deep c.requires.standing c.if-depth-join.false)
 
 pub overflow_mul-k : goal.overflow_mul-k
-overflow_mul-k t c = omega (arith, few_variables c.requires.standing, deep c.requires.standing c.if-depth-n.false)
+overflow_mul-k t c = omega (arith, few_variables c.requires.standing, deep c.requires.standing c.if-depth-join.false)
 
 pub overflow_add-k : goal.overflow_add-k
-overflow_add-k t c = omega (arith, few_variables c.requires.standing, deep c.requires.standing c.if-depth-n.false)
+overflow_add-k t c = omega (arith, few_variables c.requires.standing, deep c.requires.standing c.if-depth-join.false)
 
-pub offset_bounds-plan-depth-2 : goal.offset_bounds-plan-depth-2
-offset_bounds-plan-depth-2 t c = omega (arith, few_variables c.requires.standing, deep c.requires.standing c.if-depth-n.false)
+pub offset_bounds-join-depth-2 : goal.offset_bounds-join-depth-2
+offset_bounds-join-depth-2 t c = omega (arith, few_variables c.requires.standing, deep c.requires.standing c.if-depth-join.false)
 
-pub bounds-plan-depth-2 : goal.bounds-plan-depth-2
-bounds-plan-depth-2 t c = omega (arith, few_variables c.requires.standing, deep c.requires.standing c.if-depth-n.false)
+pub bounds-join-depth-2 : goal.bounds-join-depth-2
+bounds-join-depth-2 t c = omega (arith, few_variables c.requires.standing, deep c.requires.standing c.if-depth-join.false)
 
 -- ---- the loop
 
@@ -63,7 +63,7 @@ loop-landed-init t c =
 pub returns-in_default : goal.returns-in_default
 returns-in_default t c =
     let st = c.requires.standing in
-    let below = deep st c.if-depth-n.false in
+    let below = deep st c.if-depth-join.false in
     let o = c.open-first.ensures in
     let i = c.loop-landed.invariant in
     record {
@@ -73,10 +73,10 @@ returns-in_default t c =
 
 -- a key is found: its word, and the descent below it
 pub offset_bounds-row-v : goal.offset_bounds-row-v
-offset_bounds-row-v t c = let st = c.requires.standing in omega (arith, variable_small st (deep st c.if-depth-n.false))
+offset_bounds-row-v t c = let st = c.requires.standing in omega (arith, variable_small st (deep st c.if-depth-join.false))
 
 pub bounds-row-v : goal.bounds-row-v
-bounds-row-v t c = let st = c.requires.standing in variable_small st (deep st c.if-depth-n.false)
+bounds-row-v t c = let st = c.requires.standing in variable_small st (deep st c.if-depth-join.false)
 
 -- it was the last variable's
 pub complete-below-requires-clause-n_le_max_variables : goal.complete-below-requires-clause-n_le_max_variables
@@ -88,32 +88,32 @@ complete-below-requires-clause-n_le_max_variables t c =
 pub complete-below-requires-clause-fits : goal.complete-below-requires-clause-fits
 complete-below-requires-clause-fits t c =
     let st = c.requires.standing in
-    walk_fits c.open-first.ensures.begun st (deep st c.if-depth-n.false) c.in-Key.is c.loop-landed.invariant.0
+    walk_fits c.open-first.ensures.begun st (deep st c.if-depth-join.false) c.in-Key.is c.loop-landed.invariant.0
 
 -- or there are more
-pub descend-below-requires : goal.descend-below-requires
-descend-below-requires t c =
+pub descend_in-below-requires : goal.descend_in-below-requires
+descend_in-below-requires t c =
     let st = c.requires.standing in
-    let below = deep st c.if-depth-n.false in
+    let below = deep st c.if-depth-join.false in
     let b = c.open-first.ensures.begun in
     let i = c.loop-landed.invariant.0 in
     (omega (arith, c.decreases, below), (walk_below b st below c.in-Key.is i, walk_fits b st below c.in-Key.is i))
 
 -- either way the rows that complete it are written
-under : (t : ℕ) (u : Joined-depth-n-2 t) → let l = u.loop-landed in let a = u.args in let w = u.if-depth-n-2 in Completes a.pool.now a.plan.now a.ends.now a.n (a.depth + 1) l.state.at l.state.own (set l.row (variable_at a.plan.now a.depth) u.in-Key.key) l.window l.rows l.seeks w.window w.below.rows w.below.full w.below.seeks
-under t u = elim u.if-depth-n-2.branch [
-  | then-depth-n-2 w ↦ completes_came w.window-is w.below-is (completes_leaf w.if-depth-n-2.true w.complete-below.ensures)
-  | else-depth-n-2 w ↦ completes_came w.window-is w.below-is w.descend-below.ensures
+under : (t : ℕ) (u : Joined-depth-join-2 t) → let l = u.loop-landed in let a = u.args in let w = u.if-depth-join-2 in Completes a.join.now.pool.now a.join.now.plan.now a.join.now.ends.now a.join.now.n (a.depth + 1) l.state.at l.state.own (set l.row (variable_at a.join.now.plan.now a.depth) u.in-Key.key) l.window l.rows l.seeks w.window w.below.rows w.below.full w.below.seeks
+under t u = elim u.if-depth-join-2.branch [
+  | then-depth-join-2 w ↦ completes_came w.window-is w.below-is (completes_leaf w.if-depth-join-2.true w.complete-below.ensures)
+  | else-depth-join-2 w ↦ completes_came w.window-is w.below-is w.descend_in-below.ensures
 ]
 
 -- the window is full
 pub returns-then-below : goal.returns-then-below
 returns-then-below t c =
     let st = c.requires.standing in
-    let below = deep st c.if-depth-n.false in
+    let below = deep st c.if-depth-join.false in
     let o = c.open-first.ensures in
     let i = c.loop-landed.invariant in
-    let u = under t (goal.at.returns-then-below t c).Joined-depth-n-2 in
+    let u = under t (goal.at.returns-then-below t c).Joined-depth-join-2 in
     record {
       descended = walk_full o.begun st below c.in-Key.is i.0 u.descended c.if-below.true;
       counts = counting_full o below i.1 c.in-Key.is i.0 u c.if-below.true;
@@ -123,12 +123,12 @@ returns-then-below t c =
 pub onward-next-requires-clause-whole_agreed : goal.onward-next-requires-clause-whole_agreed
 onward-next-requires-clause-whole_agreed t c =
     let st = c.requires.standing in
-    walk_agreed c.open-first.ensures.begun st (deep st c.if-depth-n.false) c.in-Key.is c.loop-landed.invariant.0
+    walk_agreed c.open-first.ensures.begun st (deep st c.if-depth-join.false) c.in-Key.is c.loop-landed.invariant.0
 
 pub onward-next-requires-clause-same_atoms : goal.onward-next-requires-clause-same_atoms
 onward-next-requires-clause-same_atoms t c =
     let st = c.requires.standing in
-    walk_same c.open-first.ensures.begun st (deep st c.if-depth-n.false) c.in-Key.is c.loop-landed.invariant.0
+    walk_same c.open-first.ensures.begun st (deep st c.if-depth-join.false) c.in-Key.is c.loop-landed.invariant.0
 
 pub loop-landed-smaller : goal.loop-landed-smaller
 loop-landed-smaller t c = steps_less c.in-Key.is c.onward-next.ensures.steps
@@ -136,10 +136,10 @@ loop-landed-smaller t c = steps_less c.in-Key.is c.onward-next.ensures.steps
 pub loop-landed-preserved : goal.loop-landed-preserved
 loop-landed-preserved t c =
     let st = c.requires.standing in
-    let below = deep st c.if-depth-n.false in
+    let below = deep st c.if-depth-join.false in
     let o = c.open-first.ensures in
     let i = c.loop-landed.invariant in
-    let u = under t (goal.at.loop-landed-preserved t c).Joined-depth-n-2 in (
+    let u = under t (goal.at.loop-landed-preserved t c).Joined-depth-join-2 in (
       walk_next o.begun st below c.in-Key.is i.0 u.descended c.if-below.false c.onward-next.ensures.steps,
       counting_next o below i.1 c.in-Key.is i.0 u c.if-below.false c.onward-next.ensures,
     )

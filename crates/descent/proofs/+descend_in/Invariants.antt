@@ -1,0 +1,17 @@
+-- The measure of `descend_in`, how many variables are left, and its loop: the keys left at this depth lead to its end (Walking.antt).
+use Prim.Native.Nat.{◌-◌}
+use Rattle.join_openings.specs.Openings.{count_at}
+use Rattle.descent.proofs.Walking.{Walk, keys_left}
+use Rattle.descent.proofs.Counting.{Counting}
+use Rattle.descent.proofs.+descend_in.Given as goal
+
+abbrev pub decreases-descend_in : goal.decreases-descend_in
+decreases-descend_in l = l.join.now.n - l.depth
+
+abbrev pub invariant-loop-landed : goal.invariant-loop-landed
+invariant-loop-landed l =
+    Walk l.join.pool.now l.join.plan.now l.join.ends.now l.join.n l.depth l.initial.state l.ring l.by_atom l.initial.landed l.initial.row l.initial.window l.from l.window l.state l.landed l.row l.rows
+    × Counting l.join.pool.now l.join.plan.now l.join.ends.now l.join.n l.depth l.initial.state l.ring l.by_atom l.initial.landed l.initial.row l.initial.window l.from l.before l.initial.seeks l.window l.state l.landed l.rows l.seeks
+
+abbrev pub decreases-loop-landed : goal.decreases-loop-landed
+decreases-loop-landed l = keys_left l.join.pool.now l.state l.join.ends.now l.by_atom (count_at l.join.plan.now l.depth) l.landed
