@@ -12,7 +12,7 @@ ghost use Rattle.descent.specs.Descent.{Completes};
 use join_depths::depth::{onward, open};
 use join_plan::{COUNT, DEPTH_WORDS, ENDS, PLAN_WORDS};
 use join_query::Query;
-use join_window::emit_lent;
+use join_window::emit;
 use leapfrog_search::Landed;
 use query::MAX_ATOMS;
 use seek::SeekStrategy;
@@ -37,7 +37,7 @@ fn complete(
     requires fits { Fits n (length window.old) rows }
     ensures { (written window.new result.rows result.full ≡ emit n (written window.old rows false) (take n row.now)) × (result.seeks ≡ seeks) }
 {
-    let w = emit_lent(window, row, n, rows);
+    let w = emit(window, row, n, rows);
     Walked {
         rows: w.rows,
         full: w.full,

@@ -4,6 +4,7 @@ use native.Mathlib.Omega.{arith}
 use native.Mathlib.Nat.{zero-mul}
 use mathlib.Core.Path.{◌≡◌, refl, sym, subst, ap, ◌∙◌}
 use mathlib.Core.Bool.{Bool, true, false}
+use Rattle.std.specs.Prelude.{Some, None}
 use mathlib.Core.List.{List}
 use lib.ListN.{length, take, drop, replicate}
 use Rattle.relation.specs.Order.{Row, pick}
@@ -28,6 +29,7 @@ use Rattle.rows_after.proofs.Walk.{engine_after_root}
 use Rattle.rows_after.proofs.Outcome.{outcome_refused, outcome_listed, last_refused, last_listed}
 use Rattle.rows_after.proofs.Last.{last_written, last_none}
 use Rattle.last_row.specs.Last.{last_read}
+use Rattle.join_after.specs.From.{given_row, listed_from}
 use Rattle.descent_after.specs.Descent.{DescendedAfter}
 
 -- nothing is written yet
@@ -40,20 +42,26 @@ module _ {pool : List ℕ} {ts : Tables} {q : Query} (w : List ℕ) (a : Accepte
   wide true r m = (listing_listing (passes a)).wide r (in_after (order_of q) given (listing q.n (order_of q) (atoms_of pool ts q)) m).0
   wide false r m = (listing_listing (passes a)).wide r m
 
+  -- what the inner function lists is what the call does
+  from : (b : Bool) → listed_from pool ts q (given_row b given) w ≡ listed_after pool ts q b given w
+  from true = refl
+  from false = refl
+
   -- ---- the descents from the root
 
   module _ {plan ends : List ℕ} (p : Planned plan ts q) (e : FirstsEnded ends ts q q.atom_count) {w' : List ℕ} {rows : ℕ} {full : Bool} where
-    pub listed_on : {goes_on : Bool} → goes_on ≡ true → DescendedAfter pool plan ends q.n 0 (replicate max_atoms 0) (replicate max_atoms 0) (replicate max_variables 0) given w 0 w' rows full → written w' rows full ≡ listed_after pool ts q goes_on given w
-    listed_on g d =
-        engine_after_root (passes a) (λ i. _) (λ i h. refl) (replicate max_variables 0) given w (omega (arith, (sized a).few)) (d.descends ts q _ (stands_root a p e))
-        ∙ ap (λ (b : Bool). listed_after pool ts q b given w) (sym g)
+    pub listed_on : DescendedAfter pool plan ends q.n 0 (replicate max_atoms 0) (replicate max_atoms 0) (replicate max_variables 0) given w 0 w' rows full → written w' rows full ≡ listed_from pool ts q (Some given) w
+    listed_on d = engine_after_root (passes a) (λ i. _) (λ i h. refl) (replicate max_variables 0) given w (omega (arith, (sized a).few)) (d.descends ts q _ (stands_root a p e))
 
-    pub listed_all : {goes_on : Bool} → goes_on ≡ false → Descended pool plan ends q.n 0 (replicate max_atoms 0) (replicate max_atoms 0) (replicate max_variables 0) w 0 w' rows full → written w' rows full ≡ listed_after pool ts q goes_on given w
-    listed_all g d = joined a p e d ∙ ap (λ (b : Bool). listed_after pool ts q b given w) (sym g)
+    pub listed_all : Descended pool plan ends q.n 0 (replicate max_atoms 0) (replicate max_atoms 0) (replicate max_variables 0) w 0 w' rows full → written w' rows full ≡ listed_from pool ts q None w
+    listed_all d = joined a p e d
 
   -- ---- the window that they leave
 
-  module _ (goes_on : Bool) {w' : List ℕ} {rows : ℕ} {full : Bool} (l : written w' rows full ≡ listed_after pool ts q goes_on given w) where
+  module _ (goes_on : Bool) {w' : List ℕ} {rows : ℕ} {full : Bool} (f : written w' rows full ≡ listed_from pool ts q (given_row goes_on given) w) where
+    l : written w' rows full ≡ listed_after pool ts q goes_on given w
+    l = f ∙ from goes_on
+
     by_emits : windowed w q.n (rows_asked pool ts q goes_on given) ≡ emits q.n (begin w) (rows_asked pool ts q goes_on given)
     by_emits = sym (emits_windowed w q.n (rows_asked pool ts q goes_on given) (wide goes_on))
 
@@ -65,7 +73,7 @@ module _ {pool : List ℕ} {ts : Tables} {q : Query} (w : List ℕ) (a : Accepte
         subst (λ (m : ℕ). m * q.n ≤ length w') (sym s) (omega (arith, f, t, emits_length q.n (rows_asked pool ts q goes_on given) (begin w) (wide goes_on)))
 
     -- the row read back is the last of those written, or the one that the call stood at
-    read_back : last_of (stood_at q.n goes_on given) (take (listed_after pool ts q goes_on given w).count (rows_asked pool ts q goes_on given)) ≡ last_read w' q.n rows goes_on given
+    read_back : last_of (stood_at q.n goes_on given) (take (listed_after pool ts q goes_on given w).count (rows_asked pool ts q goes_on given)) ≡ last_read w' q.n rows (given_row goes_on given)
     unfolding last_read
     read_back = go rows (ap (λ (s : Progress). s.count) l)
       where
@@ -75,11 +83,15 @@ module _ {pool : List ℕ} {ts : Tables} {q : Query} (w : List ℕ) (a : Accepte
         words : (listed_after pool ts q goes_on given w).words ≡ w'
         words = sym (ap (λ (s : Progress). s.words) l)
 
-        go : (m : ℕ) → m ≡ (listed_after pool ts q goes_on given w).count → last_of (stood_at q.n goes_on given) (take (listed_after pool ts q goes_on given w).count all) ≡ last_read w' q.n m goes_on given
-        go zero e = last_none w q.n all (stood_at q.n goes_on given) (sym e)
+        stood : (b : Bool) → stood_at q.n b given ≡ last_read w' q.n 0 (given_row b given)
+        stood true = refl
+        stood false = refl
+
+        go : (m : ℕ) → m ≡ (listed_after pool ts q goes_on given w).count → last_of (stood_at q.n goes_on given) (take (listed_after pool ts q goes_on given w).count all) ≡ last_read w' q.n m (given_row goes_on given)
+        go zero e = last_none w q.n all (stood_at q.n goes_on given) (sym e) ∙ stood goes_on
         go (suc j) e = last_written w q.n all (wide goes_on) (stood_at q.n goes_on given) j (sym e) ∙ ap (λ (x : List ℕ). take q.n (drop (j * q.n) x)) words
 
-    pub answers : {number : ℕ} → number ≡ pick full 12 0 → {last : List ℕ} → last ≡ padded (last_read w' q.n rows goes_on given) → JoinsAfter pool ts q goes_on given w (record { number = number; rows = rows; last = last }) w'
+    pub answers : {number : ℕ} → number ≡ pick full 12 0 → {last : List ℕ} → last ≡ padded (last_read w' q.n rows (given_row goes_on given)) → JoinsAfter pool ts q goes_on given w (record { number = number; rows = rows; last = last }) w'
     unfolding told
     answers n k =
         let o : told (written w' rows full) ≡ outcome_after pool ts q goes_on given w = ap told l ∙ sym (outcome_listed pool ts q goes_on given w a.passed) in

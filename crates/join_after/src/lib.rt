@@ -7,30 +7,31 @@
 ghost use Rattle.std.specs.Prelude.{◌≡◌, length};
 ghost use Rattle.join_query.specs.Query.{Accepted};
 ghost use Rattle.join_window.specs.Window.{written};
-ghost use Rattle.rows_after.specs.After.{listed_after, JoinsAfter};
+ghost use Rattle.rows_after.specs.After.{JoinsAfter};
+ghost use Rattle.join_after.specs.From.{listed_from};
 
 use descent::descend;
 use descent_after::descend_after;
-use join_checks::refusal;
+use join_checks::check;
 use join_plan::{ENDS, PLAN_WORDS, make_ends, make_plan};
 use join_query::{Query, Tables};
 use join_window::Written;
 use last_row::last_row;
+use refusal::Refusal;
 use rows_after::JoinedAfter;
 use seek::SeekStrategy;
 
-// Writes the rows that a call lists, of a query that passed the checks.
+// Writes the rows that a call lists, of a query that passed the checks: those after the given row, or all of them where none is given.
 fn list_after(
     strategy: SeekStrategy,
     pool: &[u64],
     tables: Tables,
     query: Query,
-    goes_on: bool,
-    after: [u64; Query::MAX_VARIABLES],
+    after: Option<[u64; Query::MAX_VARIABLES]>,
     window: &mut [u64],
 ) -> Written
     requires { Accepted pool.now tables query (length window.old) }
-    ensures { written window.new result.rows result.full ≡ listed_after pool.now tables query goes_on after window.old }
+    ensures { written window.new result.rows result.full ≡ listed_from pool.now tables query after window.old }
 {
     let mut plan = [0usize; PLAN_WORDS];
     make_plan(&mut plan, tables, query);
@@ -38,9 +39,9 @@ fn list_after(
     make_ends(&mut ends, tables, query);
     let at = [0usize; Query::MAX_ATOMS];
     let row = [0u64; Query::MAX_VARIABLES];
-    if goes_on {
+    if let Some(given) = after {
         return descend_after(
-            strategy, pool, &plan, &ends, query.n, 0, at, at, row, after, window, 0,
+            strategy, pool, &plan, &ends, query.n, 0, at, at, row, given, window, 0,
         );
     }
     let all = descend(
@@ -54,7 +55,8 @@ fn list_after(
 
 // Joins as `join` does, and writes the rows that come strictly after the given one as read in the query's order; where it does not go on, it starts, and writes
 // them from the first. The given row need not be an answer, and its words past n do not count. `last` is the last row written, or the given one if none was; at
-// a start without rows, and in refusals but 12, zeros. Refuses as `join` does; 12 says that more rows remain than fit the window.
+// a start without rows, and in refusals but 12, zeros. Refuses as `join` does; 12 says that more rows remain than fit the window. The flag stands beside the row
+// because C's ducatbriar_join_after has it so.
 pub fn join_after(
     strategy: SeekStrategy,
     pool: &[u64],
@@ -66,27 +68,22 @@ pub fn join_after(
 ) -> JoinedAfter
     ensures { JoinsAfter pool.now tables query goes_on after window.old result window.new }
 {
-    let number = refusal(pool, tables, query, window.len());
-    if number != 0 {
-        let last = [0u64; Query::MAX_VARIABLES];
+    if let Err(refused) = check(pool, tables, query, window.len()) {
         return JoinedAfter {
-            number,
+            number: refused.number(),
             rows: 0,
-            last,
+            last: [0u64; Query::MAX_VARIABLES],
         };
     }
-    let listed = list_after(strategy, pool, tables, query, goes_on, after, window);
-    let last = last_row(window, query.n, listed.rows, goes_on, after);
-    if listed.full {
-        return JoinedAfter {
-            number: 12,
-            rows: listed.rows,
-            last,
-        };
-    }
+    let given = if goes_on { Some(after) } else { None };
+    let listed = list_after(strategy, pool, tables, query, given, window);
     JoinedAfter {
-        number: 0,
+        number: if listed.full {
+            Refusal::Full.number()
+        } else {
+            0
+        },
         rows: listed.rows,
-        last,
+        last: last_row(window, query.n, listed.rows, given),
     }
 }

@@ -70,16 +70,6 @@ fn plan_opening(plan: &mut [usize; PLAN_WORDS], base: usize, a: usize, t: Column
     plan[base + INTERVAL_COUNT] = t.interval_len[layer];
 }
 
-// Whether an atom that is laid over is opened in both its tables at once.
-fn both_at(layer: usize) -> usize
-    ensures { result ≡ both_of true layer }
-{
-    if layer == 0 {
-        return 1;
-    }
-    0
-}
-
 // Writes atom a's opening of a layer: of its table t and, where it is laid over, of its maker's, m.
 fn plan_atom(
     plan: &mut [usize; PLAN_WORDS],
@@ -96,7 +86,7 @@ fn plan_atom(
 {
     plan_opening(plan, base, a, t, layer);
     if laid {
-        let both = both_at(layer);
+        let both = usize::from(layer == 0);
         plan_opening(plan, base + MAKERS, both, m, layer);
         return;
     }
@@ -107,10 +97,7 @@ fn plan_atom(
 fn second_of(a: Atom) -> usize
     ensures { result ≡ second_of a }
 {
-    if a.laid_over {
-        return a.maker;
-    }
-    a.table
+    if a.laid_over { a.maker } else { a.table }
 }
 
 // Writes the numbers of one depth.
@@ -119,19 +106,15 @@ fn plan_depth(plan: &mut [usize; PLAN_WORDS], ts: Tables, q: Query, d: usize)
     requires d_lt_n { (d < q.n) × (length plan.old ≡ plan_words) }
     ensures { DepthMade ts q d plan.old plan.new }
 {
-    let order = q.order;
-    let v = order[d];
+    let v = q.order[d];
     let first = DEPTH_WORDS * d;
     let mut k = 0;
-    let mut i = 0;
-    while i < q.atom_count {
+    for i in 0..q.atom_count {
         let a = q.atoms[i];
-        let layer = reached(order, d, a);
+        let layer = reached(q.order, d, a);
         if heads(a, layer, v) {
-            let named = a.table;
-            let school = ts.tables[named];
-            let second = second_of(a);
-            let maker = ts.tables[second];
+            let school = ts.tables[a.table];
+            let maker = ts.tables[second_of(a)];
             plan_atom(
                 plan,
                 first + OPENINGS + OPENING_WORDS * k,
@@ -143,7 +126,6 @@ fn plan_depth(plan: &mut [usize; PLAN_WORDS], ts: Tables, q: Query, d: usize)
             );
             k += 1;
         }
-        i += 1;
     }
     plan[first] = v;
     plan[first + COUNT] = k;
@@ -155,10 +137,8 @@ pub fn make_plan(plan: &mut [usize; PLAN_WORDS], ts: Tables, q: Query)
     requires plan_len { length plan.old ≡ plan_words }
     ensures { Planned plan.new ts q }
 {
-    let mut d = 0;
-    while d < q.n {
+    for d in 0..q.n {
         plan_depth(plan, ts, q, d);
-        d += 1;
     }
 }
 
@@ -176,15 +156,9 @@ pub fn make_ends(ends: &mut [usize; ENDS], ts: Tables, q: Query)
     requires ends_len { length ends.old ≡ 2 * max_atoms }
     ensures { FirstsEnded ends.new ts q q.atom_count }
 {
-    let mut i = 0;
-    while i < q.atom_count {
+    for i in 0..q.atom_count {
         let a = q.atoms[i];
-        let named = a.table;
-        let t = ts.tables[named];
-        let second = second_of(a);
-        let m = ts.tables[second];
-        ends[2 * i] = firsts_end(t);
-        ends[2 * i + 1] = firsts_end(m);
-        i += 1;
+        ends[2 * i] = firsts_end(ts.tables[a.table]);
+        ends[2 * i + 1] = firsts_end(ts.tables[second_of(a)]);
     }
 }

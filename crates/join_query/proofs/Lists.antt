@@ -21,8 +21,8 @@ use Rattle.query.specs.Meaning.{Permutation, follows}
 use Rattle.query.specs.Meet.{has}
 use Rattle.query.specs.Solve.{headed}
 use Rattle.query.specs.Checks.{some, permutes, listed, covers}
-use Rattle.query.proofs.Meet.{in_has, has_in, has_not, get_or_in, in_get_or}
-use Rattle.query.proofs.Checks.{permutes_true, true_permutes, permutes_false, distinct_at, at_distinct, listed_is, listed_true, some_in, in_some, covers_false}
+use Rattle.query.proofs.Meet.{in_has, has_in, get_or_in, in_get_or}
+use Rattle.query.proofs.Checks.{permutes_true, true_permutes, permutes_false, distinct_at, at_distinct, listed_is, listed_true, some_in, in_some}
 use Rattle.column_trie.specs.Limits.{max_arity}
 use Rattle.column_trie.specs.Table.{grade_at, undamaged}
 use Rattle.column_trie.specs.declared.ColumnTrie.{ColumnTrie}
@@ -64,9 +64,6 @@ module _ (l : List ℕ) (n : ℕ) (fits : n ≤ length l) where
 
   pub has_at : (i v : ℕ) → i < n → get_or l i 0 ≡ v → has (take n l) v ≡ true
   has_at i v h e = in_has (subst (λ (x : ℕ). x ∈ take n l) (get_or-take n l i 0 h ∙ e) (get_or_in (take n l) i 0 (omega (arith, long))))
-
-  pub has_none : (v : ℕ) → ((i : ℕ) → i < n → get_or l i 0 ≡ v → ⊥) → has (take n l) v ≡ false
-  has_none v f = has_not (take n l) v (λ m. let t = in_get_or 0 m in let h : t.0 < n = omega (arith, long, t.1) in f t.0 h (sym (get_or-take n l t.0 0 h) ∙ t.2))
 
   pub headed_at : (v j : ℕ) → j < n → headed v (drop j (take n l)) ≡ eqb (get_or l j 0) v
   unfolding headed
@@ -285,10 +282,6 @@ module _ (q : Query) (whole : length q.atoms ≡ max_atoms) (few : q.atom_count 
   unfolding named
   named_at t i h e = some_here (names t) q.atoms q.atom_count no_atom (omega arith) i h e
 
-  pub named_nowhere : (t : ℕ) → ((i : ℕ) → i < q.atom_count → names t (atom_at q i) ≡ false) → named q t ≡ false
-  unfolding named
-  named_nowhere t f = some_nowhere (names t) q.atoms q.atom_count no_atom (omega arith) f
-
 -- an atom names its table, its maker's where it is laid over, and no other
 pub names_table : (a : Atom) → names a.table a ≡ true
 names_table a = ap (λ (b : Bool). b || (a.laid_over && eqb a.maker a.table)) (eq-eqb a.table a.table refl)
@@ -302,14 +295,6 @@ names_one_lem t a e =
     (λ d. inl (eqb-true a.table t d))
     (λ d. inr (and_left a.laid_over (eqb a.maker t) d, eqb-true a.maker t (and_right a.laid_over (eqb a.maker t) d)))
     (either (eqb a.table t) (a.laid_over && eqb a.maker t) e)
-
--- one variable more is covered, or it is not
-pub covers_next : (lists : List (List ℕ)) (v : ℕ) → covers v lists ≡ true → some (λ (l : List ℕ). has l v) lists ≡ true → covers (v + 1) lists ≡ true
-unfolding covers
-covers_next lists v c e = ap (λ (n : ℕ). covers n lists) (add-one v) ∙ and_true (some (λ (l : List ℕ). has l v) lists) (covers v lists) e c
-
-pub covers_not : (n : ℕ) (lists : List (List ℕ)) (v : ℕ) → v < n → some (λ (l : List ℕ). has l v) lists ≡ false → covers n lists ≡ false
-covers_not n lists v h e = covers_false n lists v h (λ l m i. false≢true (sym e ∙ in_some (λ (l : List ℕ). has l v) m (in_has i)))
 
 module _ (pool : List ℕ) (ts : Tables) (q : Query) (t : ℕ) where
   pub sound_unnamed : named q t ≡ false → sound_at pool ts q t ≡ true
@@ -343,9 +328,6 @@ module _ (ts : Tables) (q : Query) (v : ℕ) where
 
   pub grades_alone : binds_only ts q v true ≡ true → one_kind ts q v ≡ true
   grades_alone e = or_right (binds_only ts q v false) (binds_only ts q v true) e
-
-  pub both_kinds : binds_only ts q v false ≡ false → binds_only ts q v true ≡ false → one_kind ts q v ≡ false
-  both_kinds e f = ap₂ ◌||◌ e f
 
 -- ---- what the tests tell
 

@@ -8,6 +8,7 @@
 use column_trie::ColumnTrie;
 
 // An atom over one table or, where it is laid over, over the rows that count of two: `table` is then the school's and `maker` the maker's. A plain atom's `maker` is not looked at.
+// C's `ducatbriar_atom`: that is why the length stands beside the array, and a flag beside `maker`.
 #[repr(C)]
 #[derive(Clone, Copy)]
 pub struct Atom {
@@ -18,6 +19,7 @@ pub struct Atom {
     pub maker: usize,
 }
 
+// C's `ducatbriar_query`, with its lengths beside its arrays.
 #[repr(C)]
 #[derive(Clone, Copy)]
 pub struct Query {
@@ -33,6 +35,7 @@ impl Query {
     pub const MAX_VARIABLES: usize = 8;
 }
 
+// C's `ducatbriar_tables`, likewise.
 #[repr(C)]
 #[derive(Clone, Copy)]
 pub struct Tables {

@@ -15,30 +15,25 @@ fn words_at(words: &[u64], base: usize, n: usize) -> [u64; Query::MAX_VARIABLES]
     ensures { result ≡ padded (take n (drop base words.now)) }
 {
     let mut row = [0u64; Query::MAX_VARIABLES];
-    let mut v = 0;
-    while v < n {
-        row[v] = words[base + v];
-        v += 1;
-    }
+    row[..n].copy_from_slice(&words[base..base + n]);
     row
 }
 
-// The last of the rows in the window; where there are none, the n words of the row `stood` if the call goes on after it, else zeros.
+// The last of the rows in the window; where there are none, the n words of the row that the call goes on after, else zeros.
 pub fn last_row(
     window: &[u64],
     n: usize,
     rows: usize,
-    goes_on: bool,
-    stood: [u64; Query::MAX_VARIABLES],
+    after: Option<[u64; Query::MAX_VARIABLES]>,
 ) -> [u64; Query::MAX_VARIABLES]
     requires { (n ≤ max_variables) × (rows * n ≤ length window.now) }
-    ensures { result ≡ padded (last_read window.now n rows goes_on stood) }
+    ensures { result ≡ padded (last_read window.now n rows after) }
 {
     if rows != 0 {
         return words_at(window, (rows - 1) * n, n);
     }
-    if goes_on {
-        return words_at(&stood, 0, n);
+    match after {
+        Some(row) => words_at(&row, 0, n),
+        None => [0u64; Query::MAX_VARIABLES],
     }
-    [0u64; Query::MAX_VARIABLES]
 }

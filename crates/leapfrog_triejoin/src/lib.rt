@@ -9,11 +9,13 @@
 ghost use Rattle.leapfrog_triejoin.specs.Outcome.{Joins};
 
 use descent::descend;
-use join_checks::refusal;
+use join_checks::check;
 use join_plan::{ENDS, PLAN_WORDS, make_ends, make_plan};
 use join_query::{Query, Tables};
+use refusal::Refusal;
 use seek::SeekStrategy;
 
+// C's `ducatbriar_joined`: `number` is 0 where nothing refuses, and the rows count also beside 12.
 #[repr(C)]
 #[derive(Clone, Copy)]
 pub struct Joined {
@@ -34,10 +36,9 @@ pub fn join(
 ) -> Joined
     ensures { Joins pool.now tables query window.old result window.new }
 {
-    let number = refusal(pool, tables, query, window.len());
-    if number != 0 {
+    if let Err(refused) = check(pool, tables, query, window.len()) {
         return Joined {
-            number,
+            number: refused.number(),
             rows: 0,
             seeks: 0,
         };
@@ -51,15 +52,12 @@ pub fn join(
     let written = descend(
         pool, window, strategy, &plan, &ends, query.n, 0, at, at, row, 0, 0,
     );
-    if written.full {
-        return Joined {
-            number: 12,
-            rows: written.rows,
-            seeks: written.seeks,
-        };
-    }
     Joined {
-        number: 0,
+        number: if written.full {
+            Refusal::Full.number()
+        } else {
+            0
+        },
         rows: written.rows,
         seeks: written.seeks,
     }

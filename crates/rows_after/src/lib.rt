@@ -6,7 +6,7 @@
 
 use join_query::Query;
 
-// The number, how many rows were written, and the row to go on after: `Query::MAX_VARIABLES` words, of which those past the query's n are zero.
+// The number, how many rows were written, and the row to go on after: `Query::MAX_VARIABLES` words, of which those past the query's n are zero. C's `ducatbriar_joined_after`, so 0 stands for no refusal.
 #[repr(C)]
 #[derive(Clone, Copy)]
 pub struct JoinedAfter {

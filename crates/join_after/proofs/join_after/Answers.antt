@@ -1,36 +1,61 @@
 -- `join_after` meets its contract: refused by the checks, or the rows that it lists in the window, and the last of them handed back.
+use Prim.Native.Nat.{ℕ}
 use mathlib.Core.Path.{◌≡◌, sym, ap, ◌∙◌}
 use mathlib.Core.Bool.{Bool}
+use mathlib.Core.List.{List}
 use lib.ListN.{length}
+use Rattle.std.specs.Prelude.{Option}
 use Rattle.relation.specs.Order.{pick}
 use Rattle.query.specs.Limits.{max_atoms}
 use Rattle.join_query.specs.Query.{Accepted}
 use Rattle.join_query.proofs.Accepted.{sized}
 use Rattle.join_query.proofs.Whole.{length_mapped}
+use Rattle.join_checks.proofs.Refused.{never_none}
+use Rattle.join_window.specs.Window.{written}
+use Rattle.rows_after.specs.After.{padded}
+use Rattle.last_row.specs.Last.{last_read}
+use Rattle.join_after.specs.From.{given_row, listed_from}
 use Rattle.join_after.proofs.Answer.{rows_inside, answers, refuses}
 use borrow.Author.Rules.{rules}
 use Rattle.join_after.proofs.join_after.Goals as goal
-use Rattle.join_after.proofs.join_after.Goals.{Else-number-ne0, Start}
+use Rattle.join_after.proofs.join_after.Goals.{In_default, After-list_after-listed, Start, then-goes_on, else-goes_on, then-listed, else-listed}
 
 -- what the parameter's type says
 whole : (s : Start) → length s.args.query.atoms ≡ max_atoms
 whole s = search (length_mapped, rules)
 
--- where the number is 0, the query is accepted
-accepted : (c : Else-number-ne0) → let a = c.args in Accepted a.pool.now a.tables a.query (length a.window.now)
-accepted c = record { passed = sym c.refusal-number.ensures ∙ c.if-number-ne0.false; whole = whole c.before.before.before.before.before }
+-- where nothing refuses, the query is accepted
+accepted : (c : In_default) → let a = c.args in Accepted a.pool.now a.tables a.query (length a.window.now)
+accepted c = record { passed = sym c.in_default.ensures; whole = whole c.before.before.before.before.before }
 
-pub returns-then-number-ne0 : goal.returns-then-number-ne0
-returns-then-number-ne0 c = let a = c.args in refuses a.pool.now a.tables a.query a.goes_on a.after a.window.now c.refusal-number.result c.refusal-number.ensures c.if-number-ne0.true
+-- the row is given where the call goes on
+given : (c : After-list_after-listed) → c.if-goes_on.given ≡ given_row c.args.goes_on c.args.after
+given c =
+    let from = λ (b : Bool). given_row b c.args.after in
+    elim c.if-goes_on.branch [ then-goes_on w ↦ w.given-is ∙ ap from (sym w.if-goes_on.true) | else-goes_on w ↦ w.given-is ∙ ap from (sym w.if-goes_on.false) ]
 
-pub list_after-listed-requires : goal.list_after-listed-requires
-list_after-listed-requires c = accepted (goal.at.list_after-listed-requires c).Else-number-ne0
+listed : (c : After-list_after-listed) → let r = c.list_after-listed in let a = c.args in written r.new.window r.result.rows r.result.full ≡ listed_from a.pool.now a.tables a.query (given_row a.goes_on a.after) a.window.now
+listed c = let a = c.args in c.list_after-listed.ensures ∙ ap (λ (o : Option (List ℕ)). listed_from a.pool.now a.tables a.query o a.window.now) (given c)
 
-pub last_row-last-requires : goal.last_row-last-requires
-last_row-last-requires c = let y = accepted (goal.at.last_row-last-requires c).Else-number-ne0 in ((sized y).few, rows_inside c.args.window.now y c.args.after c.args.goes_on c.list_after-listed.ensures)
+pub returns-in-Err : goal.returns-in-Err
+returns-in-Err c =
+    let a = c.args in
+    refuses a.pool.now a.tables a.query a.goes_on a.after a.window.now c.number.result (c.number.ensures ∙ c.in-Err.ensures) (λ e. never_none c.in-Err.refused (sym c.number.ensures ∙ e))
 
-pub returns-then-listed : goal.returns-then-listed
-returns-then-listed c = answers c.args.window.now (accepted (goal.at.returns-then-listed c).Else-number-ne0) c.args.after c.args.goes_on c.list_after-listed.ensures (ap (λ (f : Bool). pick f 12 0) (sym c.if-listed.true)) c.last_row-last.ensures
+pub last_row-requires : goal.last_row-requires
+last_row-requires c =
+    let y = accepted (goal.at.last_row-requires c).In_default in
+    ((sized y).few, rows_inside c.args.window.now y c.args.after c.args.goes_on (listed (goal.at.last_row-requires c).After-list_after-listed))
 
 pub returns : goal.returns
-returns c = answers c.args.window.now (accepted (goal.at.returns c).Else-number-ne0) c.args.after c.args.goes_on c.list_after-listed.ensures (ap (λ (f : Bool). pick f 12 0) (sym c.if-listed.false)) c.last_row-last.ensures
+returns c =
+    let a = c.args in
+    let at = (goal.at.returns c).After-list_after-listed in
+    let r = c.list_after-listed in
+    let number : c.if-listed.result ≡ pick r.result.full 12 0 =
+    elim c.if-listed.branch [
+      | then-listed w ↦ w.result-is ∙ w.number-then-listed.ensures ∙ ap (λ (f : Bool). pick f 12 0) (sym w.if-listed.true)
+      | else-listed w ↦ w.result-is ∙ ap (λ (f : Bool). pick f 12 0) (sym w.if-listed.false)
+    ] in
+    answers a.window.now (accepted (goal.at.returns c).In_default) a.after a.goes_on (listed at) number
+    (c.last_row.ensures ∙ ap (λ (o : Option (List ℕ)). padded (last_read r.new.window a.query.n r.result.rows o)) (given at))

@@ -19,9 +19,6 @@ loop-d-init c = planning_start c.args.plan.now c.args.ts c.args.q c.requires.pla
 pub plan_depth-requires : goal.plan_depth-requires
 plan_depth-requires c = record { plannable = c.requires.plannable; d_lt_n = (omega arith, c.loop-d.invariant.long) }
 
-pub overflow_add-d : goal.overflow_add-d
-overflow_add-d c = omega (arith, c.requires)
-
 pub loop-d-preserved : goal.loop-d-preserved
 loop-d-preserved c =
     planning_next (whole (goal.at.loop-d-preserved c).Start) c.requires.plannable.few c.loop-d.invariant (omega arith) c.plan_depth.ensures

@@ -18,23 +18,8 @@ use Rattle.join_plan.proofs.plan_depth.Goals.{Start, else-heads, then-heads}
 whole : (s : Start) → length s.args.q.atoms ≡ max_atoms
 whole s = search (length_mapped, rules)
 
-pub offset_bounds-order-d : goal.offset_bounds-order-d
-offset_bounds-order-d c = omega (arith, c.requires.plannable)
-
-pub bounds-order-d : goal.bounds-order-d
-bounds-order-d c = omega (arith, c.requires.plannable)
-
-pub overflow_mul-first : goal.overflow_mul-first
-overflow_mul-first c = omega (arith, c.requires.plannable)
-
 pub loop-i-init : goal.loop-i-init
 loop-i-init c = filling_start c.args.ts c.args.q c.args.d (whole (goal.at.loop-i-init c).Start) c.args.plan.now
-
-pub offset_bounds-q-i : goal.offset_bounds-q-i
-offset_bounds-q-i c = omega (arith, c.requires.plannable)
-
-pub bounds-q-i : goal.bounds-q-i
-bounds-q-i c = omega (arith, c.requires.plannable)
 
 pub reached-layer-requires : goal.reached-layer-requires
 reached-layer-requires c = (omega (arith, c.requires.plannable, c.requires.d_lt_n), c.requires.plannable.short c.loop-i.i (omega arith))
@@ -42,43 +27,13 @@ reached-layer-requires c = (omega (arith, c.requires.plannable, c.requires.d_lt_
 pub heads-requires : goal.heads-requires
 heads-requires c = c.requires.plannable.short c.loop-i.i (omega arith)
 
-pub offset_bounds-ts-named : goal.offset_bounds-ts-named
-offset_bounds-ts-named c = omega (arith, c.requires.plannable.named c.loop-i.i (omega arith))
-
-pub bounds-ts-named : goal.bounds-ts-named
-bounds-ts-named c = omega (arith, c.requires.plannable.named c.loop-i.i (omega arith))
-
-pub second_of-second-requires : goal.second_of-second-requires
-second_of-second-requires c = tt
-
-pub offset_bounds-ts-second : goal.offset_bounds-ts-second
-offset_bounds-ts-second c = omega (arith, c.second_of-second.ensures, c.requires.plannable.named₂ c.loop-i.i (omega arith))
-
-pub bounds-ts-second : goal.bounds-ts-second
-bounds-ts-second c = omega (arith, c.second_of-second.ensures, c.requires.plannable.named₂ c.loop-i.i (omega arith))
-
-pub overflow_add-first : goal.overflow_add-first
-overflow_add-first c = omega (arith, c.requires)
-
-pub overflow_mul-k : goal.overflow_mul-k
-overflow_mul-k c = omega (arith, c.requires, c.loop-i.invariant)
-
-pub overflow_add-first-then-heads : goal.overflow_add-first-then-heads
-overflow_add-first-then-heads c = omega (arith, c.requires, c.loop-i.invariant)
-
 pub plan_atom-requires : goal.plan_atom-requires
 plan_atom-requires c =
     let l = c.loop-i in
     let a = atom_at c.args.q l.i in
     let h : l.i < c.args.q.atom_count = omega (arith, c.loop-i-test.true) in
     let e = headed_inside (get_or c.args.q.order c.args.d 0) c.reached-layer.result (vars_of a) (sym c.heads.ensures ∙ c.if-heads.true) in
-    let p = c.requires.plannable in record { opening_words_bound = (omega (arith, p.deep, p.few, c.requires.d_lt_n.0, l.invariant.few, l.invariant.inside), l.invariant.behind.long ∙ c.requires.d_lt_n.1); low = (p.low l.i h, subst (λ (x : ℕ). Low (table_at c.args.ts x)) (sym c.second_of-second.ensures) (p.low₂ l.i h), omega (arith, e, length-take a.len a.variables, p.short l.i h)) }
-
-pub overflow_add-k : goal.overflow_add-k
-overflow_add-k c = omega (arith, c.requires, c.loop-i.invariant)
-
-pub overflow_add-i : goal.overflow_add-i
-overflow_add-i c = omega (arith, c.requires)
+    let p = c.requires.plannable in record { opening_words_bound = (omega (arith, p.deep, p.few, c.requires.d_lt_n.0, l.invariant.few, l.invariant.inside), l.invariant.behind.long ∙ c.requires.d_lt_n.1); low = (p.low l.i h, subst (λ (x : ℕ). Low (table_at c.args.ts x)) (sym c.second_of.ensures) (p.low₂ l.i h), omega (arith, e, length-take a.len a.variables, p.short l.i h)) }
 
 pub loop-i-preserved : goal.loop-i-preserved
 loop-i-preserved c =
@@ -88,22 +43,7 @@ loop-i-preserved c =
     let e = c.reached-layer.ensures in
     let u = sym c.heads.ensures in
     let F : List ℕ → ℕ → Type 0 = λ plan k. Filling c.args.ts c.args.q c.args.d c.args.plan.now plan k (l.i + 1) in
-    elim c.if-heads.branch [ then-heads w ↦ subst₂ F (sym w.plan-is) (sym w.k-is) (filling_in c.args.ts c.args.q c.args.d (whole (goal.at.loop-i-preserved c).Start) l.invariant (omega arith) b deep e (u ∙ w.if-heads.true) (second_made c.args.ts w.second_of-second.ensures w.plan_atom.ensures)) | else-heads w ↦ subst₂ F (sym w.plan-is) (sym w.k-is) (filling_out c.args.ts c.args.q c.args.d (whole (goal.at.loop-i-preserved c).Start) l.invariant (omega arith) b deep e (u ∙ w.if-heads.false)) ]
-
-pub offset_bounds-plan-first : goal.offset_bounds-plan-first
-offset_bounds-plan-first c = omega (arith, c.requires)
-
-pub bounds-plan-first : goal.bounds-plan-first
-bounds-plan-first c = omega (arith, c.requires)
-
-pub overflow_add-plan : goal.overflow_add-plan
-overflow_add-plan c = omega (arith, c.requires)
-
-pub offset_bounds-plan-first-2 : goal.offset_bounds-plan-first-2
-offset_bounds-plan-first-2 c = omega (arith, c.requires)
-
-pub bounds-plan-first-2 : goal.bounds-plan-first-2
-bounds-plan-first-2 c = omega (arith, c.requires)
+    elim c.if-heads.branch [ then-heads w ↦ subst₂ F (sym w.plan-is) (sym w.k-is) (filling_in c.args.ts c.args.q c.args.d (whole (goal.at.loop-i-preserved c).Start) l.invariant (omega arith) b deep e (u ∙ w.if-heads.true) (second_made c.args.ts w.second_of.ensures w.plan_atom.ensures)) | else-heads w ↦ subst₂ F (sym w.plan-is) (sym w.k-is) (filling_out c.args.ts c.args.q c.args.d (whole (goal.at.loop-i-preserved c).Start) l.invariant (omega arith) b deep e (u ∙ w.if-heads.false)) ]
 
 pub returns : goal.returns
 returns c =

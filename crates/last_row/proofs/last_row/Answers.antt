@@ -1,19 +1,26 @@
--- `last_row` meets its contract: the last row is read from the window, or the one that the call stood at, or none.
+-- `last_row` meets its contract: the last row is read from the window, or the one that the call goes on after, or none.
+use Prim.Native.Nat.{ℕ, zero, suc, ◌*◌, ◌-◌}
 use native.Mathlib.Omega.{arith}
-use Rattle.last_row.proofs.Reading.{room, read_last, read_given, read_none}
+use mathlib.Core.Path.{◌≡◌, refl, ap, ◌∙◌}
+use mathlib.Core.List.{List}
+use lib.ListN.{take, drop}
+use Rattle.std.specs.Prelude.{Option}
+use Rattle.rows_after.specs.After.{padded}
+use Rattle.last_row.specs.Last.{last_read}
 use Rattle.last_row.proofs.last_row.Goals as goal
 
-pub overflow_mul-rows : goal.overflow_mul-rows
-overflow_mul-rows c = omega (arith, room c.args.window.now c.args.n c.args.rows c.if-rows-ne0.true c.requires.1)
-
-pub words_at-requires : goal.words_at-requires
-words_at-requires c = (c.requires.0, room c.args.window.now c.args.n c.args.rows c.if-rows-ne0.true c.requires.1)
+read_last : (w : List ℕ) (n rows : ℕ) (after : Option (List ℕ)) → (rows ≡ 0 → ⊥) → padded (take n (drop ((rows - 1) * n) w)) ≡ padded (last_read w n rows after)
+unfolding last_read
+read_last w n zero after f = absurd (f refl)
+read_last w n (suc j) after f = let p : suc j - 1 ≡ j = omega arith in ap (λ (k : ℕ). padded (take n (drop (k * n) w))) p
 
 pub returns-then-rows-ne0 : goal.returns-then-rows-ne0
-returns-then-rows-ne0 c = read_last c.args.window.now c.args.n c.args.rows c.args.goes_on c.args.stood c.if-rows-ne0.true c.words_at.ensures
+returns-then-rows-ne0 c = let a = c.args in c.words_at.ensures ∙ read_last a.window.now a.n a.rows a.after c.if-rows-ne0.true
 
-pub returns-then-goes_on : goal.returns-then-goes_on
-returns-then-goes_on c = read_given c.args.window.now c.args.n c.args.rows c.args.goes_on c.args.stood c.if-rows-ne0.false c.if-goes_on.true c.words_at-then-goes_on.ensures
+pub returns-in-Some : goal.returns-in-Some
+unfolding last_read
+returns-in-Some c = rw (c.if-rows-ne0.false, c.in-Some.is) c.words_at-in-Some.ensures
 
-pub returns : goal.returns
-returns c = read_none c.args.window.now c.args.n c.args.rows c.args.goes_on c.args.stood c.if-rows-ne0.false c.if-goes_on.false
+pub returns-in-None : goal.returns-in-None
+unfolding last_read
+returns-in-None c = rw (c.if-rows-ne0.false, c.in-None.is) refl
