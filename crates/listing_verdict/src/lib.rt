@@ -17,6 +17,7 @@ pub struct Checked {
     pub missing: [u64; Query::MAX_VARIABLES],
 }
 
+// Numbers and no enum: `verdict` is a word of the answer that `ducatbriar_check_listing` hands to C, whose header names the same four.
 impl Checked {
     // A refused query: nothing was checked, so that a refusal never reads as accepted.
     pub const UNCHECKED: u64 = 0;

@@ -1,4 +1,3 @@
-pub mod Refused
 pub mod Trying
 mod Joining
 pub mod Determined

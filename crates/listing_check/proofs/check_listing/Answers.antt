@@ -1,11 +1,10 @@
 -- `check_listing` meets its contract: refused by the checks, or the verdict on the rows that there are.
-use native.Mathlib.Omega.{arith}
 use mathlib.Core.Path.{◌≡◌, sym, ◌∙◌}
 use lib.ListN.{length}
 use Rattle.query.specs.Limits.{max_atoms}
 use Rattle.join_query.specs.Query.{join_number, Accepted}
 use Rattle.join_query.proofs.Whole.{length_mapped}
-use Rattle.plain_join.proofs.Refused.{refused_above}
+use Rattle.join_checks.proofs.Refused.{never_none}
 use Rattle.listing_check.proofs.Meeting.{many_inside}
 use Rattle.listing_check.proofs.Checking.{checks_refused, checks_says}
 use borrow.Author.Rules.{rules}
@@ -21,7 +20,7 @@ accepted : (s : Start) → join_number s.args.pool.now s.args.tables s.args.quer
 accepted s e = record { passed = e; whole = whole s }
 
 pub returns-in-Err : goal.returns-in-Err
-returns-in-Err c = let a = c.args in checks_refused a.pool.now a.tables a.query a.listing.now a.count c.number.result (c.number.ensures ∙ c.in-Err.ensures) (λ e. omega (arith, e, c.number.ensures, refused_above c.in-Err.refused))
+returns-in-Err c = let a = c.args in checks_refused a.pool.now a.tables a.query a.listing.now a.count c.number.result (c.number.ensures ∙ c.in-Err.ensures) (λ e. never_none c.in-Err.refused (sym c.number.ensures ∙ e))
 
 pub verdict-requires : goal.verdict-requires
 verdict-requires c =
