@@ -16,9 +16,6 @@ use Rattle.column_trie.specs.Table.{undamaged, capacity_ok, lies_in}
 use Rattle.column_trie.specs.declared.ColumnTrie.{ColumnTrie}
 use Rattle.column_trie.proofs.Header.{capacity_told}
 use Rattle.from_sorted.proofs.Answer.{refuses, passes, not_refused}
-use Rattle.refusal.specs.Number.{number_of}
-use Rattle.refusal.specs.declared.Refusal.{Refusal}
-use Rattle.refusal.specs.declared.Refusal.TheVariants.{BadArity, BadCapacity, OutsidePool, BadLength, NoRoom, Damaged, BadCursor, BadOrder, BadAtoms, BadList, FreeVariable, Full, NotAFile, LongText, MixedKinds, PartRows, OtherShape}
 use Rattle.column_trie_permute.specs.Permute.{permute_number}
 
 module _ (pool : List ℕ) (t : ColumnTrie) (columns : List ℕ) (len start capacity : ℕ) where
@@ -87,23 +84,3 @@ accepted pool t columns len start capacity e =
     within : (b : Bool) → ltb capacity t.tuple_count ≡ b → ◌≡◌ {A = ℕ} (pick b 5 0) 0 → t.tuple_count ≤ capacity
     within true h z = absurd (omega arith)
     within false h z = ltb-false capacity t.tuple_count h
-
--- no refusal's number is 0
-pub not_zero : (r : Refusal) → number_of r ≡ 0 → ⊥
-not_zero BadArity e = omega arith
-not_zero BadCapacity e = omega arith
-not_zero OutsidePool e = omega arith
-not_zero BadLength e = omega arith
-not_zero NoRoom e = omega arith
-not_zero Damaged e = omega arith
-not_zero BadCursor e = omega arith
-not_zero BadOrder e = omega arith
-not_zero BadAtoms e = omega arith
-not_zero BadList e = omega arith
-not_zero FreeVariable e = omega arith
-not_zero Full e = omega arith
-not_zero NotAFile e = omega arith
-not_zero LongText e = omega arith
-not_zero MixedKinds e = omega arith
-not_zero PartRows e = omega arith
-not_zero OtherShape e = omega arith

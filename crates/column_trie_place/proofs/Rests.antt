@@ -11,33 +11,13 @@ use Rattle.std.proofs.Common.{Result, Ok, Err}
 use Rattle.std.proofs.lemmas.Result.{IfOk-at_ok}
 use Rattle.refusal.specs.Number.{number_of, given}
 use Rattle.refusal.specs.declared.Refusal.{Refusal}
-use Rattle.refusal.specs.declared.Refusal.TheVariants.{BadArity, BadCapacity, OutsidePool, BadLength, NoRoom, Damaged, BadCursor, BadOrder, BadAtoms, BadList, FreeVariable, Full, NotAFile, LongText, MixedKinds, PartRows, OtherShape}
+use Rattle.refusal.proofs.Numbers.{not_zero}
 use Rattle.relation.specs.Order.{pick}
 use Rattle.column_trie.specs.declared.ColumnTrie.{ColumnTrie}
 use Rattle.column_trie_place.specs.Checks.{refusal, remaining, unless}
 use Rattle.column_trie_place.specs.Inside.{Placed, PlacedAt}
 use Rattle.column_trie_place.specs.declared.ColumnTrieIter.{ColumnTrieIter}
 use Rattle.column_trie_place.specs.declared.Place.{Place}
-
--- no refusal's number is 0
-pub numbered : (r : Refusal) → number_of r ≡ 0 → ⊥
-numbered BadArity z = omega arith
-numbered BadCapacity z = omega arith
-numbered OutsidePool z = omega arith
-numbered BadLength z = omega arith
-numbered NoRoom z = omega arith
-numbered Damaged z = omega arith
-numbered BadCursor z = omega arith
-numbered BadOrder z = omega arith
-numbered BadAtoms z = omega arith
-numbered BadList z = omega arith
-numbered FreeVariable z = omega arith
-numbered Full z = omega arith
-numbered NotAFile z = omega arith
-numbered LongText z = omega arith
-numbered MixedKinds z = omega arith
-numbered PartRows z = omega arith
-numbered OtherShape z = omega arith
 
 -- a number refuses, 0 does not
 pub refuses : {A : Type 0} (deny : ℕ → A) (answer : A) {n m : ℕ} → n ≡ m → (n ≡ 0 → ⊥) → deny n ≡ unless m deny answer
@@ -58,7 +38,7 @@ part_more pool at end h k =
 module _ {pool : List ℕ} {t : ColumnTrie} {it : ColumnTrieIter} {A : Type 0} (deny : ℕ → A) where
   -- what the checks refuse, a call refuses
   pub refused : (answer : A) {r : Refusal} {x : Result Place Refusal} → x ≡ Err r → Placed pool t it x → deny (number_of r) ≡ unless (refusal pool t it) deny answer
-  refused answer {r} e w = refuses deny answer (ap given (sym e) ∙ w.number) (numbered r)
+  refused answer {r} e w = refuses deny answer (ap given (sym e) ∙ w.number) (not_zero r)
 
   module _ (f : List ℕ → A) {p : Place} (z : refusal pool t it ≡ 0) (w : PlacedAt pool t it p) where
     -- an answer that goes by what is left

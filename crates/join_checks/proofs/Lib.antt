@@ -1,2 +1,1 @@
 pub mod Every
-pub mod Refused

@@ -9,7 +9,8 @@ use Rattle.column_trie.specs.declared.ColumnTrie.{ColumnTrie}
 use Rattle.column_trie.proofs.Layers.{Whole}
 use Rattle.from_sorted.proofs.Answer.{regraded}
 use Rattle.refusal.specs.Number.{given}
-use Rattle.column_trie_permute.proofs.Numbers.{Accepted, accepted, not_zero}
+use Rattle.refusal.proofs.Numbers.{not_zero}
+use Rattle.column_trie_permute.proofs.Numbers.{Accepted, accepted}
 use Rattle.column_trie_permute.proofs.Outcomes.{permutes_refused, permutes_rebuilt}
 use Rattle.column_trie_permute.proofs.Rebuilt.{vacant, sound, legible, base_inside, laying, rebuilt_table, rebuilt_words}
 use borrow.Author.Rules.{rules}

@@ -10,7 +10,7 @@ use Rattle.query.specs.Limits.{max_atoms}
 use Rattle.join_query.specs.Query.{Accepted}
 use Rattle.join_query.proofs.Accepted.{sized}
 use Rattle.join_query.proofs.Whole.{length_mapped}
-use Rattle.join_checks.proofs.Refused.{never_none}
+use Rattle.refusal.proofs.Numbers.{not_zero}
 use Rattle.join_window.specs.Window.{written}
 use Rattle.rows_after.specs.After.{padded}
 use Rattle.last_row.specs.Last.{last_read}
@@ -40,7 +40,7 @@ listed c = let a = c.args in c.list_after-listed.ensures ∙ ap (λ (o : Option 
 pub returns-in-Err : goal.returns-in-Err
 returns-in-Err c =
     let a = c.args in
-    refuses a.pool.now a.tables a.query a.goes_on a.after a.window.now c.number.result (c.number.ensures ∙ c.in-Err.ensures) (λ e. never_none c.in-Err.refused (sym c.number.ensures ∙ e))
+    refuses a.pool.now a.tables a.query a.goes_on a.after a.window.now c.number.result (c.number.ensures ∙ c.in-Err.ensures) (λ e. not_zero c.in-Err.refused (sym c.number.ensures ∙ e))
 
 pub last_row-requires : goal.last_row-requires
 last_row-requires c =

@@ -8,7 +8,7 @@ use Rattle.relation.specs.Order.{pick}
 use Rattle.query.specs.Limits.{max_atoms}
 use Rattle.join_query.specs.Query.{Accepted}
 use Rattle.join_query.proofs.Whole.{length_mapped}
-use Rattle.join_checks.proofs.Refused.{never_none}
+use Rattle.refusal.proofs.Numbers.{not_zero}
 use Rattle.descent.proofs.Root.{plannable, standing_root, joined}
 use Rattle.leapfrog_triejoin.proofs.Joining.{joined_seeks, joins_refused, joins_listed}
 use borrow.Author.Rules.{rules}
@@ -26,7 +26,7 @@ accepted c = record { passed = sym c.in_default.ensures; whole = whole c.before.
 pub returns-in-Err : goal.returns-in-Err
 returns-in-Err c =
     let a = c.args in
-    joins_refused a.pool.now a.tables a.query a.window.now c.number.result (c.number.ensures ∙ c.in-Err.ensures) (λ e. never_none c.in-Err.refused (sym c.number.ensures ∙ e))
+    joins_refused a.pool.now a.tables a.query a.window.now c.number.result (c.number.ensures ∙ c.in-Err.ensures) (λ e. not_zero c.in-Err.refused (sym c.number.ensures ∙ e))
 
 pub make_plan-requires : goal.make_plan-requires
 make_plan-requires c = record { plannable = plannable (accepted (goal.at.make_plan-requires c).In_default) (omega (arith, c.well_formed)); plan_len = refl }

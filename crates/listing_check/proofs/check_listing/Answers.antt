@@ -4,7 +4,7 @@ use lib.ListN.{length}
 use Rattle.query.specs.Limits.{max_atoms}
 use Rattle.join_query.specs.Query.{join_number, Accepted}
 use Rattle.join_query.proofs.Whole.{length_mapped}
-use Rattle.join_checks.proofs.Refused.{never_none}
+use Rattle.refusal.proofs.Numbers.{not_zero}
 use Rattle.listing_check.proofs.Meeting.{many_inside}
 use Rattle.listing_check.proofs.Checking.{checks_refused, checks_says}
 use borrow.Author.Rules.{rules}
@@ -20,7 +20,7 @@ accepted : (s : Start) → join_number s.args.pool.now s.args.tables s.args.quer
 accepted s e = record { passed = e; whole = whole s }
 
 pub returns-in-Err : goal.returns-in-Err
-returns-in-Err c = let a = c.args in checks_refused a.pool.now a.tables a.query a.listing.now a.count c.number.result (c.number.ensures ∙ c.in-Err.ensures) (λ e. never_none c.in-Err.refused (sym c.number.ensures ∙ e))
+returns-in-Err c = let a = c.args in checks_refused a.pool.now a.tables a.query a.listing.now a.count c.number.result (c.number.ensures ∙ c.in-Err.ensures) (λ e. not_zero c.in-Err.refused (sym c.number.ensures ∙ e))
 
 pub verdict-requires : goal.verdict-requires
 verdict-requires c =

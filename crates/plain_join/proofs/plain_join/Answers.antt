@@ -8,7 +8,7 @@ use Rattle.relation.specs.Order.{pick}
 use Rattle.query.specs.Limits.{max_atoms}
 use Rattle.join_query.specs.Query.{join_number, Accepted}
 use Rattle.join_query.proofs.Whole.{length_mapped}
-use Rattle.join_checks.proofs.Refused.{never_none}
+use Rattle.refusal.proofs.Numbers.{not_zero}
 use Rattle.plain_join.proofs.Joining.{joined, joins_refused, joins_listed}
 use borrow.Author.Rules.{rules}
 use Rattle.plain_join.proofs.plain_join.Goals as goal
@@ -25,7 +25,7 @@ accepted s e = record { passed = e; whole = whole s }
 pub returns-in-Err : goal.returns-in-Err
 returns-in-Err c =
     let a = c.args in
-    joins_refused a.pool.now a.tables a.query a.window.now c.number-number.result (c.number-number.ensures ∙ c.in-Err.ensures) (λ e. never_none c.in-Err.refused (sym c.number-number.ensures ∙ e))
+    joins_refused a.pool.now a.tables a.query a.window.now c.number-number.result (c.number-number.ensures ∙ c.in-Err.ensures) (λ e. not_zero c.in-Err.refused (sym c.number-number.ensures ∙ e))
 
 pub search-written-requires : goal.search-written-requires
 search-written-requires c =
