@@ -243,6 +243,7 @@ impl<'w, 'a> Writer<'w, 'a> {
             }
             Op2::Eq if left == right && is_scalar(&left) => return Ok((format!("{a} == {b}"), Ty::Bool)),
             Op2::Ne if left == right && is_scalar(&left) => return Ok((format!("{a} != {b}"), Ty::Bool)),
+            Op2::And | Op2::Or | Op2::Xor => return self.bits(op, (a, left), (b, right)),
             Op2::Lt(sign) => return self.compare("<", sign, (a, left), (b, right)),
             Op2::Le(sign) => return self.compare("<=", sign, (a, left), (b, right)),
             Op2::Add => "+",
@@ -257,6 +258,20 @@ impl<'w, 'a> Writer<'w, 'a> {
             (Ty::Int(64), Ty::Int(64)) => Ok((format!("(uint64_t){a} {sign} {b}"), Ty::Int(64))),
             (Ty::Int(n), Ty::Int(m)) if n == m => Ok((format!("(uint{n}_t)((uint64_t){a} {sign} {b})"), Ty::Int(n))),
             other => self.refused("operation", (op, other)),
+        }
+    }
+
+    /// Bit by bit, at the width of both; of narrow numbers C's answer is an int, and is cut.
+    fn bits(&mut self, op: Op2, (a, left): (String, Ty), (b, right): (String, Ty)) -> Made<(String, Ty)> {
+        let sign = match op {
+            Op2::And => "&",
+            Op2::Or => "|",
+            _ => "^",
+        };
+        match left {
+            Ty::Bool if right == Ty::Bool => Ok((format!("(bool)({a} {sign} {b})"), Ty::Bool)),
+            Ty::Int(n) if right == Ty::Int(n) => Ok((format!("(uint{n}_t)({a} {sign} {b})"), Ty::Int(n))),
+            _ => self.refused("operation", (op, left, right)),
         }
     }
 
@@ -278,6 +293,7 @@ impl<'w, 'a> Writer<'w, 'a> {
             (Op1::Not, Ty::Bool) => Ok((format!("!{text}"), Ty::Bool)),
             (Op1::Cast(_, _, to), Ty::Int(from)) if to == *from => Ok((text, ty)),
             (Op1::Cast(_, _, to), Ty::Int(from)) if to < *from => Ok((format!("(uint{to}_t){text}"), Ty::Int(to))),
+            (Op1::Cast(_, _, to), Ty::Bool) => Ok((format!("(uint{to}_t){text}"), Ty::Int(to))),
             (Op1::Cast(Sign::Unsigned, _, to), Ty::Int(_)) => Ok((format!("(uint{to}_t){text}"), Ty::Int(to))),
             _ => self.refused("operation", (op, ty)),
         }
@@ -293,7 +309,13 @@ impl<'w, 'a> Writer<'w, 'a> {
             }
             _ => {
                 let (text, ty) = self.place(place)?;
-                let lent = lies_within(place) && self.is_lent(self.callee.uses.root(place.local));
+                let lent = match place.steps.iter().rposition(|step| matches!(step, Step::Deref(_))) {
+                    Some(at) => {
+                        let (_, through) = self.place(&Place { local: place.local, steps: place.steps[..at].to_vec() })?;
+                        matches!(through, Ty::Ref { mutable: false, .. })
+                    }
+                    None => self.is_lent(self.callee.uses.root(place.local)),
+                };
                 (if matches!(ty, Ty::Array(..)) { text } else { format!("&{text}") }, ty, lent)
             }
         };

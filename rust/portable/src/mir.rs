@@ -71,6 +71,10 @@ pub enum Op2 {
     Rem,
     Eq,
     Ne,
+    /// Bit by bit, of numbers, or of yes and no.
+    And,
+    Or,
+    Xor,
     Lt(Sign),
     Le(Sign),
     /// A pointer and a number of bytes.
@@ -352,6 +356,9 @@ fn op2(form: &Form) -> Read<Op2> {
         ("rem", [s]) if sign(s)? == Sign::Unsigned => Ok(Op2::Rem),
         ("eq", []) => Ok(Op2::Eq),
         ("ne", []) => Ok(Op2::Ne),
+        ("and", []) => Ok(Op2::And),
+        ("or", []) => Ok(Op2::Or),
+        ("xor", []) => Ok(Op2::Xor),
         ("lt", [s]) => Ok(Op2::Lt(sign(s)?)),
         ("le", [s]) => Ok(Op2::Le(sign(s)?)),
         ("offset", []) => Ok(Op2::Offset),

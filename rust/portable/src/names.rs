@@ -85,7 +85,8 @@ fn labels(words: &[&str]) -> Vec<String> {
             "(" | "[" | "{" => depth += 1,
             ")" | "]" | "}" if depth == 0 => break,
             ")" | "]" | "}" => depth -= 1,
-            ":" if depth == 0 && at > 0 => names.push(words[at - 1].to_string()),
+            // (a ghost field is in no value)
+            ":" if depth == 0 && at > 0 && (at == 1 || words[at - 2] != "ghost") => names.push(words[at - 1].to_string()),
             "self" if depth == 0 && words.get(at + 1).is_some_and(|next| [",", ")"].contains(next)) => {
                 names.push("self".to_string())
             }

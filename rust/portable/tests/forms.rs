@@ -33,11 +33,21 @@ fn comparisons() {
 }
 
 #[test]
+fn operations_bit_by_bit() {
+    for (op, sign) in [("and", "&"), ("or", "|"), ("xor", "^")] {
+        holds(&[U64], &assign(2, &format!("(op2 {op} {} {})", copy(1), copy(2))), &format!("v2 = (uint64_t)(n {sign} v2);"));
+        holds(&[U8], &assign(2, &format!("(op2 {op} {} (int 8 7))", copy(2))), &format!("v2 = (uint8_t)(v2 {sign} 7);"));
+        holds(&[BOOL], &assign(2, &format!("(op2 {op} {0} {0})", copy(2))), &format!("v2 = (bool)(v2 {sign} v2);"));
+    }
+}
+
+#[test]
 fn not_and_casts() {
     holds(&[BOOL], &assign(2, &format!("(op1 not {})", copy(2))), "v2 = !v2;");
     holds(&[U64], &assign(2, &format!("(op1 (cast signed unsigned 64) {})", copy(1))), "v2 = n;");
     holds(&[U8], &assign(2, &format!("(op1 (cast unsigned unsigned 8) {})", copy(1))), "v2 = (uint8_t)n;");
     holds(&[U8, U64], &assign(3, &format!("(op1 (cast unsigned unsigned 64) {})", copy(2))), "v3 = (uint64_t)v2;");
+    holds(&[BOOL, U64], &assign(3, &format!("(op1 (cast unsigned unsigned 64) {})", copy(2))), "v3 = (uint64_t)v2;");
 }
 
 #[test]
@@ -123,6 +133,13 @@ fn pointers() {
     holds(&["tyPtr", WIDE], &assign(2, "(addrOf (place 3 (lcons (field 1) lnil)))"), "v2 = v3.f2;");
     let shared = "(tyRef erased imm (tyInt 64))";
     holds(&["tyPtr", shared], &assign(2, &format!("(addrOf (place 3 {word}))")), "v2 = (void *)v3;");
+}
+
+#[test]
+fn a_part_of_what_is_only_read_is_only_read() {
+    let part = format!("(addrOf (place 2 (lcons (deref {WIDE}) (lcons (field 1) lnil))))");
+    holds(&[&format!("(tyRef erased imm {WIDE})"), "tyPtr"], &assign(3, &part), "v3 = (void *)v2->f2;");
+    holds(&[&format!("(tyRef erased mut {WIDE})"), "tyPtr"], &assign(3, &part), "v3 = v2->f2;");
 }
 
 #[test]
