@@ -35,7 +35,7 @@ pub fn callee<'a>(function: &'a Function, exported: Option<&'a Prototype>, types
     let mut held = vec![Passing::Value; function.locals.len()];
     for local in (1..=function.params).filter(|_| exported.is_none()) {
         let ty = &function.locals[local].ty;
-        let is_large = matches!(ty, Ty::Named(_)) && types.layout(ty).is_ok_and(|(size, _)| size > SMALL);
+        let is_large = matches!(ty, Ty::Named(_)) && types.bytes(ty) > SMALL;
         held[local] = passing(ty, local, &uses, is_large);
     }
     Ok(Callee { function, name, exported, uses, passing: held })

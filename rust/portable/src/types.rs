@@ -144,6 +144,21 @@ impl<'a> Types<'a> {
         }
     }
 
+    /// How many bytes a value has in all, whatever lies between them, with pointers of eight.
+    pub fn bytes(&self, ty: &Ty) -> u64 {
+        let sum = |fields: &[Ty]| fields.iter().map(|field| self.bytes(field)).sum();
+        match (ty, self.shape(ty)) {
+            (Ty::Bool, _) => 1,
+            (Ty::Int(bits), _) => u64::from(bits / 8),
+            (Ty::Ptr | Ty::Ref { .. }, _) => 8,
+            (Ty::Slice { .. }, _) => 16,
+            (Ty::Array(of, count), _) => self.bytes(of) * count,
+            (_, Some(Shape::Fields(fields))) => sum(fields),
+            (_, Some(Shape::Variants(kinds))) => 8 + kinds.iter().map(|fields| sum(fields)).max().unwrap_or(0),
+            (Ty::Unit | Ty::Named(_), _) => 0,
+        }
+    }
+
     /// Size and alignment of the types that a pointer may step over, as `Prog/Memory.antt` has them.
     pub fn layout(&self, ty: &Ty) -> Made<(u64, u64)> {
         match ty {

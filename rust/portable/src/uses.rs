@@ -17,6 +17,8 @@ pub struct Uses<'a> {
     into: Vec<BTreeSet<usize>>,
     /// The parameter that a local is only ever a copy of.
     copies: Vec<Option<usize>>,
+    /// Whether each write is a copy for a call behind it, which alone reads it.
+    handed: Vec<bool>,
     pub calls: Vec<String>,
     /// The locals in the sequence of their first writes in the text.
     pub firsts: Vec<usize>,
@@ -66,6 +68,7 @@ impl<'a> Uses<'a> {
             addressed: vec![false; count],
             changed: vec![false; count],
             copies: vec![None; count],
+            handed: vec![false; count],
             mentions: vec![0; count],
             into: vec![BTreeSet::new(); count],
             calls: Vec::new(),
@@ -87,6 +90,7 @@ impl<'a> Uses<'a> {
         }
         uses.find_changed(&found);
         uses.find_copies(function, &found);
+        uses.find_handed(&function.body);
         uses
     }
 
@@ -233,12 +237,45 @@ impl<'a> Uses<'a> {
         }
     }
 
+    /// A local whose every write is copied for a call that alone reads it stands as often again as it is written.
+    fn find_handed(&mut self, body: &Body) {
+        let mut pairs = vec![0; self.writes.len()];
+        self.count_pairs(body, &mut pairs);
+        for (local, count) in pairs.into_iter().enumerate() {
+            self.handed[local] = count > 0 && count == self.writes[local] && self.mentions[local] == 2 * count;
+        }
+    }
+
+    fn count_pairs(&self, body: &Body, pairs: &mut [usize]) {
+        match body {
+            Body::Seq(parts) => {
+                for (at, part) in parts.iter().enumerate() {
+                    if let Some((local, _)) = self.pair(&parts[at..]) {
+                        pairs[local] += 1;
+                    }
+                    self.count_pairs(part, pairs);
+                }
+            }
+            Body::Block(inner) | Body::Loop(inner) => self.count_pairs(inner, pairs),
+            Body::If(_, yes, no) => [yes, no].into_iter().for_each(|arm| self.count_pairs(arm, pairs)),
+            Body::Switch(_, arms, other) => {
+                arms.iter().for_each(|(_, arm)| self.count_pairs(arm, pairs));
+                other.iter().for_each(|arm| self.count_pairs(arm, pairs));
+            }
+            _ => {}
+        }
+    }
+
     /// Of statements in sequence, where the first copies something to a local that a later call alone reads, with nothing between that could write the
     /// original: the local and the original.
     pub fn passes_on<'b>(&self, parts: &'b [Body]) -> Option<(usize, &'b Operand)> {
+        self.pair(parts).filter(|(local, _)| self.handed.get(*local) == Some(&true))
+    }
+
+    fn pair<'b>(&self, parts: &'b [Body]) -> Option<(usize, &'b Operand)> {
         let (Body::Assign(to, Value::Operand(from @ Operand::Copy(place))), rest) = parts.split_first()? else { return None };
         let whole = to.steps.is_empty() && lies_within(place) && place.local != to.local;
-        if !whole || self.mentions.get(to.local) != Some(&2) || self.root(to.local) != to.local {
+        if !whole || self.root(to.local) != to.local {
             return None;
         }
         let harmless = |part: &&Body| matches!(part, Body::Assign(other, _) if lies_within(other) && other.local != place.local);
