@@ -1,4 +1,4 @@
-// Internal: every function here but `digits` asks something of its caller by a `requires`. The text of one layer, byte by byte: a part of the port of `Display` of
+// Internal: every function here but the one that counts digits asks something of its caller by a `requires`. The text of one layer, byte by byte: a part of the port of `Display` of
 // kermit-ds/src/ds/column_trie/implementation.rs of the Rust.
 //
 // The text is one definition, specs/Text.antt. Each method of a `Writer` writes its piece where there is room for it, and moves on to where it ends, written or
@@ -6,7 +6,6 @@
 #![tactic(auto)]
 
 ghost use Rattle.std.specs.Prelude.{◌≡◌, ◌++◌, ◌+◌, ◌*◌, ◌≤◌, ◌^◌, length};
-ghost use Rattle.column_trie.specs.Pool.{lay};
 ghost use Rattle.layer_text.specs.Text.{decimal, others, numbers, closing, layer_word, data_word, lists, layer_text};
 ghost use Rattle.layer_text.specs.Wrote.{Wrote};
 
