@@ -9,20 +9,21 @@ ghost use Rattle.std.specs.Prelude.{◌≡◌, true, ◌+◌, ◌≤◌, ◌<◌
 ghost use Rattle.column_trie.specs.Table.{layer_in, layers_in, header_sound, undamaged};
 ghost use Rattle.layer_text.specs.Text.{layer_text, text};
 ghost use Rattle.layer_text.specs.Piece.{PieceWritten};
+ghost use Rattle.layer_text.specs.Wrote.{Wrote};
 ghost use Rattle.column_trie_listing.specs.List.{Lists};
 
 use column_trie::{ColumnTrie, layer_intervals, layer_keys, undamaged};
-use layer_text::put_layer;
+use layer_text::Writer;
 use refusal::Refusal;
 
 // Layer d of the table, read from the pool.
-fn put_depth(text: &mut [u8], at: usize, pool: &[u64], t: ColumnTrie, d: usize) -> usize
-    requires { (header_sound (length pool.now) t ≡ true) × (d < t.arity) × (at + 2 ^ 32 ≤ 2 ^ 63) }
-    ensures { PieceWritten text.old text.new at (layer_text d (layer_in pool.now t d)) result × (result ≤ at + 2 ^ 32) }
+fn put_depth(writer: &mut Writer, pool: &[u64], t: ColumnTrie, d: usize)
+    requires { (header_sound (length pool.now) t ≡ true) × (d < t.arity) × (writer.old.end + 2 ^ 32 ≤ 2 ^ 63) }
+    ensures { Wrote writer.old writer.new (layer_text d (layer_in pool.now t d)) × (writer.new.end ≤ writer.old.end + 2 ^ 32) }
 {
     let data = layer_keys(pool, t, d);
     let interval = layer_intervals(pool, t, d);
-    put_layer(text, at, d, data, interval)
+    writer.layer(d, data, interval);
 }
 
 // The whole text, at the front of the buffer.
@@ -30,11 +31,14 @@ fn put_text(bytes: &mut [u8], pool: &[u64], t: ColumnTrie) -> usize
     requires { undamaged pool.now t ≡ true }
     ensures { PieceWritten bytes.old bytes.new 0 (text (layers_in pool.now t)) result }
 {
-    let mut end = 0;
+    let mut writer = Writer {
+        text: bytes,
+        end: 0,
+    };
     for d in 0..t.arity {
-        end = put_depth(bytes, end, pool, t, d);
+        put_depth(&mut writer, pool, t, d);
     }
-    end
+    writer.end
 }
 
 // The refusal's number, 0 for none, and the text's length.

@@ -12,6 +12,8 @@ use Rattle.relation.specs.Layers.{Layer, layer, no_layer}
 use Rattle.column_trie.specs.Pool.{lay}
 use Rattle.column_trie.proofs.Pool.{lay_length}
 use Rattle.layer_text.specs.Piece.{PieceWritten}
+use Rattle.layer_text.specs.Wrote.{Wrote}
+use Rattle.layer_text.specs.declared.Writer.{Writer}
 use Rattle.layer_text.specs.Text.{decimal_in, decimal, closing, comma, layer_word, data_word, interval_word, others, numbers, lists, layer_text, text_from, text}
 
 decimal_less : (fuel n : ℕ) → n < 10 → decimal_in (suc fuel) n ≡ (48 + n) ∷ []
@@ -34,8 +36,8 @@ enough (suc f) (suc g) n h k = go (λ m. enough f g (n / 10) (omega arith) (omeg
         let l = ltb-false n 10 e in
         decimal_step f n l ∙ ap (λ (ds : List ℕ). ds ++ ((48 + n % 10) ∷ [])) (ih l) ∙ sym (decimal_step g n l)
 
-pub decimal_one : (n : ℕ) → n < 10 → decimal n ≡ (48 + n) ∷ []
-decimal_one n h = decimal_less n n h
+pub decimal_one : (n : ℕ) → n < 10 → decimal n ≡ (48 + n % 10) ∷ []
+decimal_one n h = decimal_less n n h ∙ ap (λ (m : ℕ). (48 + m) ∷ []) (let e : n ≡ n % 10 = omega arith in e)
 
 pub decimal_more : (n : ℕ) → 10 ≤ n → decimal n ≡ decimal (n / 10) ++ ((48 + n % 10) ∷ [])
 decimal_more n h = decimal_step n n h ∙ ap (λ (ds : List ℕ). ds ++ ((48 + n % 10) ∷ [])) (enough n (suc (n / 10)) (n / 10) (omega arith) (omega arith))
@@ -100,7 +102,7 @@ pub none_others : others [] ≡ []
 unfolding others
 none_others = refl
 
-numbers_none : (xs : List ℕ) → length xs ≡ 0 → numbers xs ≡ []
+pub numbers_none : (xs : List ℕ) → length xs ≡ 0 → numbers xs ≡ []
 unfolding numbers
 numbers_none [] e = refl
 numbers_none (x ∷ xs) e = absurd (omega arith)
@@ -112,7 +114,7 @@ numbers_some (x ∷ xs) n = refl
 
 -- ---- pieces written one after another
 
-pub written_none : (bytes : List ℕ) (at : ℕ) → PieceWritten bytes bytes at [] at
+written_none : (bytes : List ℕ) (at : ℕ) → PieceWritten bytes bytes at [] at
 written_none bytes at = record { ends = omega arith; laid = λ h. lay_none bytes at; room = refl }
 
 -- a piece that is laid, and one that has no room
@@ -131,18 +133,30 @@ written_more {b} {b₁} {b₂} {at} {e} {f} {xs} {ys} w v =
       room = v.room ∙ w.room;
     }
 
-pub written_as : {b b₁ : List ℕ} {at e : ℕ} {xs ys : List ℕ} → xs ≡ ys → PieceWritten b b₁ at xs e → PieceWritten b b₁ at ys e
+written_as : {b b₁ : List ℕ} {at e : ℕ} {xs ys : List ℕ} → xs ≡ ys → PieceWritten b b₁ at xs e → PieceWritten b b₁ at ys e
 written_as {b} {b₁} {at} {e} p w = subst (λ (z : List ℕ). PieceWritten b b₁ at z e) p w
+
+-- ---- and by a writer
+
+pub wrote_none : (w : Writer) → Wrote w w []
+wrote_none w = record { same = refl; piece = written_none w.text.now w.end }
+
+pub wrote_more : {w w₁ w₂ : Writer} {xs ys : List ℕ} → Wrote w w₁ xs → Wrote w₁ w₂ ys → Wrote w w₂ (xs ++ ys)
+wrote_more a b = record { same = b.same ∙ a.same; piece = written_more a.piece b.piece }
+
+pub wrote_as : {w w₁ : Writer} {xs ys : List ℕ} → xs ≡ ys → Wrote w w₁ xs → Wrote w w₁ ys
+wrote_as p a = record { same = a.same; piece = written_as p a.piece }
+
+-- the bytes that a writer leaves to whoever lent them
+pub lent_back : {w w₁ : Writer} {bytes : List ℕ} {xs : List ℕ} → bytes ≡ w₁.text.now → Wrote w w₁ xs → PieceWritten w.text.now bytes w.end xs w₁.end
+lent_back {w} {w₁} {xs = xs} e a = subst (λ (z : List ℕ). PieceWritten w.text.now z w.end xs w₁.end) (sym e) a.piece
 
 -- the slice behind the first word
 tail_is : (xs : List ℕ) → take (length xs - 1) (drop 1 xs) ≡ drop 1 xs
 tail_is xs = take_all (length xs - 1) (drop 1 xs) (omega (arith, length-drop 1 xs))
 
-pub list_none : (xs : List ℕ) → length xs ≡ 0 → numbers xs ++ closing ≡ closing
-list_none xs e = ap (λ (l : List ℕ). l ++ closing) (numbers_none xs e)
-
-pub list_some : (xs : List ℕ) → (length xs ≡ 0 → ⊥) → numbers xs ++ closing ≡ (decimal (get_or xs 0 0) ++ others (take (length xs - 1) (drop 1 xs))) ++ closing
-list_some xs n = ap (λ (l : List ℕ). l ++ closing) (numbers_some xs n ∙ ap (λ (l : List ℕ). decimal (get_or xs 0 0) ++ others l) (sym (tail_is xs)))
+pub numbers_tail : (xs : List ℕ) → (length xs ≡ 0 → ⊥) → numbers xs ≡ decimal (get_or xs 0 0) ++ others (take (length xs - 1) (drop 1 xs))
+numbers_tail xs n = numbers_some xs n ∙ ap (λ (l : List ℕ). decimal (get_or xs 0 0) ++ others l) (sym (tail_is xs))
 
 pub tail_length : (xs : List ℕ) → length (take (length xs - 1) (drop 1 xs)) ≡ length xs - 1
 tail_length xs = ap length (tail_is xs) ∙ length-drop 1 xs

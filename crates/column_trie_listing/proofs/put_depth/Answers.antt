@@ -7,7 +7,7 @@ use lib.ListN.{length}
 use Rattle.column_trie.proofs.Header.{LayerFits, layer_fits, header_told}
 use Rattle.column_trie.proofs.Groups.{keys_long, intervals_long}
 use Rattle.layer_text.specs.Text.{layer_text, lists}
-use Rattle.layer_text.proofs.Texts.{written_as}
+use Rattle.layer_text.proofs.Texts.{wrote_as}
 use Rattle.column_trie_listing.proofs.put_depth.Goals as goal
 use Rattle.column_trie_listing.proofs.put_depth.Goals.{Start}
 
@@ -15,13 +15,13 @@ use Rattle.column_trie_listing.proofs.put_depth.Goals.{Start}
 told : (s : Start) → LayerFits (length s.args.pool.now) s.args.t s.args.d
 told s = layer_fits (header_told (length s.args.pool.now) s.args.t s.requires.0) s.requires.1
 
-pub put_layer-requires : goal.put_layer-requires
-put_layer-requires c =
+pub layer-requires : goal.layer-requires
+layer-requires c =
     let pool = c.args.pool.now in
-    (c.requires.2, omega (arith, told (goal.at.put_layer-requires c).Start, ap {B = ℕ} length c.layer_keys-data.ensures, keys_long pool (told (goal.at.put_layer-requires c).Start)), omega (arith, told (goal.at.put_layer-requires c).Start, ap {B = ℕ} length c.layer_intervals-interval.ensures, intervals_long pool (told (goal.at.put_layer-requires c).Start)))
+    (c.requires.2, omega (arith, told (goal.at.layer-requires c).Start, ap {B = ℕ} length c.layer_keys-data.ensures, keys_long pool (told (goal.at.layer-requires c).Start)), omega (arith, told (goal.at.layer-requires c).Start, ap {B = ℕ} length c.layer_intervals-interval.ensures, intervals_long pool (told (goal.at.layer-requires c).Start)))
 
 pub returns : goal.returns
 returns c =
     let d = c.args.d in
-    let w = c.put_layer.ensures in
-    (written_as (ap₂ {C = List ℕ} (λ keys ints. layer_text d (lists keys ints)) c.layer_keys-data.ensures c.layer_intervals-interval.ensures) w.0, w.1)
+    let w = c.layer.ensures in
+    (wrote_as (ap₂ {C = List ℕ} (λ keys ints. layer_text d (lists keys ints)) c.layer_keys-data.ensures c.layer_intervals-interval.ensures) w.0, w.1)

@@ -13,7 +13,7 @@ use Rattle.column_trie.proofs.Layers.{Whole, layers_length, layers_at}
 use Rattle.column_trie.proofs.Damage.{undamaged_told, undamaged_header}
 use Rattle.column_trie.proofs.Stored.{in_pool}
 use Rattle.layer_text.specs.Text.{layer_text, text}
-use Rattle.layer_text.proofs.Texts.{no_text, text_more, written_none, written_more, written_as}
+use Rattle.layer_text.proofs.Texts.{no_text, text_more, wrote_none, lent_back, wrote_more, wrote_as}
 use borrow.Author.Rules.{rules}
 use Rattle.column_trie_listing.proofs.put_text.Goals as goal
 use Rattle.column_trie_listing.proofs.put_text.Goals.{Start}
@@ -34,20 +34,19 @@ more s d h =
     ap (λ (n : ℕ). text (take n ls)) (add-one d) ∙ text_more ls d (omega (arith, many s)) ∙ ap (λ (l : Layer). text (take d ls) ++ layer_text d l) (layers_at s.args.pool.now s.args.t (whole s) (sound s).few d h)
 
 pub loop-d-init : goal.loop-d-init
-loop-d-init c = (omega arith, written_as (sym no_text) (written_none c.args.bytes.now 0), omega arith)
+loop-d-init c = (omega arith, wrote_as (sym no_text) (wrote_none _), omega arith)
 
-pub put_depth-end-requires : goal.put_depth-end-requires
-put_depth-end-requires c =
-    (undamaged_header c.args.pool.now c.args.t c.requires, c.loop-d-test.true, omega (arith, sound (goal.at.put_depth-end-requires c).Start, c.loop-d.invariant.2, c.loop-d-test.true))
+pub put_depth-requires : goal.put_depth-requires
+put_depth-requires c =
+    (undamaged_header c.args.pool.now c.args.t c.requires, c.loop-d-test.true, omega (arith, sound (goal.at.put_depth-requires c).Start, c.loop-d.invariant.2, c.loop-d-test.true))
 
 pub loop-d-preserved : goal.loop-d-preserved
 loop-d-preserved c =
-    let w = written_more c.loop-d.invariant.1 c.put_depth-end.ensures.0 in
-    (omega arith, written_as (sym (more (goal.at.loop-d-preserved c).Start c.loop-d.d c.loop-d-test.true)) w, omega (arith, c.loop-d.invariant.2, c.put_depth-end.ensures.1))
-
-pub shape_of-bytes : goal.shape_of-bytes
-shape_of-bytes c = c.loop-d.invariant.1.room
+    let w = wrote_more c.loop-d.invariant.1 c.put_depth.ensures.0 in
+    (omega arith, wrote_as (sym (more (goal.at.loop-d-preserved c).Start c.loop-d.d c.loop-d-test.true)) w, omega (arith, c.loop-d.invariant.2, c.put_depth.ensures.1))
 
 pub returns : goal.returns
 returns c =
-    written_as (ap text (take_all c.loop-d.d (layers_in c.args.pool.now c.args.t) (omega (arith, many (goal.at.returns c).Start, c.loop-d-test.false)))) c.loop-d.invariant.1
+    let w = c.loop-d.invariant.1 in
+    let ls = layers_in c.args.pool.now c.args.t in
+    lent_back (search (rules, w.same)) (wrote_as (ap text (take_all c.loop-d.d ls (omega (arith, many (goal.at.returns c).Start, c.loop-d-test.false)))) w)

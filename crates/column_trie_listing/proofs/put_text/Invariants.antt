@@ -3,8 +3,8 @@ use Prim.Native.Nat.{◌*◌, ◌≤◌, ◌^◌}
 use lib.ListN.{take}
 use Rattle.column_trie.specs.Table.{layers_in}
 use Rattle.layer_text.specs.Text.{text}
-use Rattle.layer_text.specs.Piece.{PieceWritten}
+use Rattle.layer_text.specs.Wrote.{Wrote}
 use Rattle.column_trie_listing.proofs.put_text.Given as goal
 
 abbrev pub invariant-loop-d : goal.invariant-loop-d
-invariant-loop-d l = (l.d ≤ l.t.arity) × PieceWritten l.initial.bytes l.bytes 0 (text (take l.d (layers_in l.pool l.t))) l.end × (l.end ≤ 2 ^ 32 * l.d)
+invariant-loop-d l = (l.d ≤ l.t.arity) × Wrote l.initial.writer l.writer (text (take l.d (layers_in l.pool l.t))) × (l.writer.end ≤ 2 ^ 32 * l.d)
