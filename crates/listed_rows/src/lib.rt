@@ -2,19 +2,19 @@
 // atom's part of a listed row is looked up in the atom's table, as the plain engine does once an atom is complete.
 #![tactic(auto)]
 
-ghost use Rattle.std.specs.Prelude.{◌≡◌, true, ℕ, ◌+◌, ◌*◌, ◌≤◌, ◌<◌, length, take, drop};
+ghost use Rattle.std.specs.Option.{IfSome};
+ghost use Rattle.std.specs.Prelude.{◌≡◌, true, ℕ, ◌+◌, ◌*◌, ◌≤◌, ◌<◌, length, take, drop, unwrap_or};
 ghost use Rattle.relation.specs.Order.{before};
 ghost use Rattle.relation.specs.Rows.{cut, same};
 ghost use Rattle.query.specs.Checks.{some};
 ghost use Rattle.query.specs.Meaning.{part};
 ghost use Rattle.join_query.specs.Query.{max_variables, order_of};
 ghost use Rattle.join_query.specs.Facts.{Ordered};
-ghost use Rattle.plain_atoms.specs.Atoms.{Passed};
 ghost use Rattle.listing_verdict.specs.Checked.{eight, complete};
 ghost use Rattle.listing_verdict.specs.Verdict.{good, first_fail};
 
-use join_query::{Query, Tables};
-use plain_atoms::all_hold;
+use join_query::Query;
+use plain_atoms::{Asked, all_hold};
 use plain_keys::Row;
 
 // Row i of a listing of rows of n words, with zeros behind it.
@@ -43,12 +43,11 @@ fn comes_before(q: Query, a: Row, b: Row) -> bool
 }
 
 // Whether the row is an answer: each atom's part of it is one of the atom's rows, looked up where the atom has its last word.
-fn answers(pool: &[u64], tables: Tables, query: Query, row: Row) -> bool
-    requires { Passed pool.now tables query }
-    ensures { result ≡ some (same (take query.n row)) (complete pool.now tables query) }
+fn answers(asked: Asked, row: Row) -> bool
+    ensures { let a = asked.entry in result ≡ some (same (take a.query.n row)) (complete a.pool.now a.tables a.query) }
 {
-    for v in 0..query.n {
-        if !all_hold(pool, tables, query, row, v, 0) {
+    for v in 0..asked.query.n {
+        if !all_hold(asked, row, v, 0) {
             return false;
         }
     }
@@ -56,37 +55,31 @@ fn answers(pool: &[u64], tables: Tables, query: Query, row: Row) -> bool
 }
 
 // Whether row i of the listing is an answer that comes strictly after the row before it.
-fn good(pool: &[u64], tables: Tables, query: Query, listing: &[u64], i: usize) -> bool
-    requires { Passed pool.now tables query × (i * query.n + query.n ≤ length listing.now) }
-    ensures { result ≡ good (order_of query) (complete pool.now tables query) (cut (i + 1) query.n listing.now) i }
+fn good(asked: Asked, listing: &[u64], i: usize) -> bool
+    requires { i * asked.query.n + asked.query.n ≤ length listing.now }
+    ensures { let a = asked.entry in result ≡ good (order_of a.query) (complete a.pool.now a.tables a.query) (cut (i + 1) a.query.n listing.now) i }
 {
-    let row = row_at(listing, query.n, i);
-    if !answers(pool, tables, query, row) {
+    let row = row_at(listing, asked.query.n, i);
+    if !answers(asked, row) {
         return false;
     }
     if i == 0 {
         return true;
     }
-    let last = row_at(listing, query.n, i - 1);
-    comes_before(query, last, row)
+    let last = row_at(listing, asked.query.n, i - 1);
+    comes_before(asked.query, last, row)
 }
 
-// The number of the first row that is not, where those before `from` are; that of the rows, where there is none.
-pub fn first_wrong(
-    pool: &[u64],
-    tables: Tables,
-    query: Query,
-    listing: &[u64],
-    rows: usize,
-    from: usize,
-) -> usize
-    requires { Passed pool.now tables query × (rows * query.n ≤ length listing.now) × (from ≤ rows) × ((k : ℕ) → k < from → good (order_of query) (complete pool.now tables query) (cut rows query.n listing.now) k ≡ true) }
-    ensures { result ≡ first_fail rows (good (order_of query) (complete pool.now tables query) (cut rows query.n listing.now)) }
+// The number of the first row that is not, if there is one, where those before `from` are.
+pub fn first_wrong(asked: Asked, listing: &[u64], rows: usize, from: usize) -> Option<usize>
+    requires { let q = asked.query in let all = complete asked.pool.now asked.tables q in (rows * q.n ≤ length listing.now) × (from ≤ rows) × ((k : ℕ) → k < from → good (order_of q) all (cut rows q.n listing.now) k ≡ true) }
+    ensures number { let a = asked.entry in unwrap_or result rows ≡ first_fail rows (good (order_of a.query) (complete a.pool.now a.tables a.query) (cut rows a.query.n listing.now)) }
+    ensures inside { IfSome result (λ i. i < rows) }
 {
     for i in from..rows {
-        if !good(pool, tables, query, listing, i) {
-            return i;
+        if !good(asked, listing, i) {
+            return Some(i);
         }
     }
-    rows
+    None
 }

@@ -13,7 +13,6 @@ ghost use Rattle.std.specs.Prelude.{◌≡◌, ◌*◌, ◌-◌, ◌≤◌, leng
 ghost use Rattle.relation.specs.Rows.{cut};
 ghost use Rattle.join_query.specs.Query.{max_variables, order_of, atoms_of};
 ghost use Rattle.plain.specs.Plain.{plainly};
-ghost use Rattle.plain_atoms.specs.Atoms.{Passed};
 ghost use Rattle.listing_verdict.specs.Checked.{says, complete, Checks};
 ghost use Rattle.listing_verdict.specs.Verdict.{how_many, verdict};
 ghost use Rattle.listing_check.specs.Walk.{meet, meets, Padded, Agrees};
@@ -22,7 +21,7 @@ use join_checks::check;
 use join_query::{Query, Tables};
 use listed_rows::{first_wrong, row_at};
 use listing_verdict::Checked;
-use plain_atoms::{all_hold, holder};
+use plain_atoms::{Asked, all_hold, holder};
 use plain_keys::{Row, next_key};
 
 // How many rows of the two listings agree; and the row of the complete one that is not the next one listed, if it then has one.
@@ -52,39 +51,38 @@ fn meet(listing: &[u64], n: usize, rows: usize, found: Row, met: Reached) -> Rea
     }
 }
 
-// Compares the rows that complete `found` by words for the last `left` variables of the order with those listed behind the ones that agree, until one is missing.
+// Compares the rows that complete `found` by words for the last `left` variables of the order with those listed behind the ones that agree, until one is missing. plain_join's
+// search but for what is done with a row: with one for both, by a trait, the plain engine had at least 132 lines of code, where 120 are asked (docs/DECISIONS.md 67).
 fn search(
-    pool: &[u64],
-    tables: Tables,
-    query: Query,
+    asked: Asked,
     left: usize,
     found: Row,
     listing: &[u64],
     rows: usize,
     from: Reached,
 ) -> Reached
-    requires { Passed pool.now tables query × (left ≤ query.n) × (rows * query.n ≤ length listing.now) × Padded query.n found × Agrees from }
-    ensures { result ≡ meets (cut rows query.n listing.now) from (plainly query.n (drop (query.n - left) (order_of query)) (atoms_of pool.now tables query) found) }
+    requires { (left ≤ asked.query.n) × (rows * asked.query.n ≤ length listing.now) × Padded asked.query.n found × Agrees from }
+    ensures { let a = asked.entry in let q = a.query in result ≡ meets (cut rows q.n listing.now) from (plainly q.n (drop (q.n - left) (order_of q)) (atoms_of a.pool.now a.tables q) found) }
 {
     if left == 0 {
-        return meet(listing, query.n, rows, found, from);
+        return meet(listing, asked.query.n, rows, found, from);
     }
-    let v = query.order[query.n - left];
-    let (first, c) = holder(query, v);
-    let a = query.atoms[first];
+    let v = asked.query.order[asked.query.n - left];
+    let (first, c) = holder(asked.query, v);
+    let a = asked.query.atoms[first];
     let mut row = found;
     row[v] = 0; // so that the least key of all is tried first
     let mut met = from;
-    let mut next = next_key(pool, tables, a, row, c, false);
+    let mut next = next_key(asked.pool, asked.tables, a, row, c, false);
     while let Some(key) = next {
         row[v] = key;
-        if all_hold(pool, tables, query, row, v, first + 1) {
-            met = search(pool, tables, query, left - 1, row, listing, rows, met);
+        if all_hold(asked, row, v, first + 1) {
+            met = search(asked, left - 1, row, listing, rows, met);
             if met.missing.is_some() {
                 return met;
             }
         }
-        next = next_key(pool, tables, a, row, c, true);
+        next = next_key(asked.pool, asked.tables, a, row, c, true);
     }
     met
 }
@@ -100,18 +98,17 @@ fn how_many(n: usize, len: usize, count: usize) -> usize
 }
 
 // The verdict on the listed rows, of a query that passed its checks.
-fn verdict(pool: &[u64], tables: Tables, query: Query, listing: &[u64], rows: usize) -> Checked
-    requires { Passed pool.now tables query × (rows * query.n ≤ length listing.now) }
-    ensures { result ≡ says (verdict (order_of query) (complete pool.now tables query) (cut rows query.n listing.now)) }
+fn verdict(asked: Asked, listing: &[u64], rows: usize) -> Checked
+    requires { rows * asked.query.n ≤ length listing.now }
+    ensures { let a = asked.entry in result ≡ says (verdict (order_of a.query) (complete a.pool.now a.tables a.query) (cut rows a.query.n listing.now)) }
 {
     let none = [0u64; Query::MAX_VARIABLES];
     let start = Reached {
         at: 0,
         missing: None,
     };
-    let end = search(pool, tables, query, query.n, none, listing, rows, start);
-    let row = first_wrong(pool, tables, query, listing, rows, end.at);
-    if row < rows {
+    let end = search(asked, asked.query.n, none, listing, rows, start);
+    if let Some(row) = first_wrong(asked, listing, rows, end.at) {
         return Checked {
             number: 0,
             verdict: Checked::WRONG,
@@ -151,5 +148,10 @@ pub fn check_listing(
         };
     }
     let rows = how_many(query.n, listing.len(), count);
-    verdict(pool, tables, query, listing, rows)
+    let asked = Asked {
+        pool,
+        tables,
+        query,
+    };
+    verdict(asked, listing, rows)
 }

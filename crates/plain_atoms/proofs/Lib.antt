@@ -1,3 +1,4 @@
 mod Places
 mod Searching
 pub mod First
+pub mod Windows

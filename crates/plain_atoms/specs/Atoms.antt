@@ -18,10 +18,9 @@ pub record Searched (pool : List ℕ) (ts : Tables) (a : Atom) : Type 0 where
   pub list : ListFits a
   pub reads : (c : ℕ) → c < length (vars_of a) → Readable pool ts a c
 
--- a query that passed the checks, with some window
+-- a query that passed the checks with some window; then it passes with one of no words (proofs/Windows.antt), which is said here, so that there is one proof of it at most
 pub record Passed (pool : List ℕ) (ts : Tables) (q : Query) : Type 0 where
-  pub len : ℕ
-  pub accepted : Accepted pool ts q len
+  pub accepted : Accepted pool ts q 0
 
 -- v is one of the variables of a query that passed the checks, with some tables
 pub record VariableOf (q : Query) (v : ℕ) : Type 0 where

@@ -33,15 +33,26 @@ pub fn holder(query: Query, v: usize) -> (usize, usize)
     unreachable!() // each variable of an accepted query is in an atom's list
 }
 
+// What is asked: a query that passed the checks, with the tables and the pool in which its atoms' rows lie.
+#[derive(Clone, Copy)]
+pub struct Asked<'a> {
+    pub pool: &'a [u64],
+    pub tables: Tables,
+    pub query: Query,
+    pub ghost passed: { Passed pool.now tables query },
+}
+
 // Whether each atom from number `from` on whose last column v binds has its part of the row among its rows; one that is not complete, or was so before, is not looked at.
-pub fn all_hold(pool: &[u64], tables: Tables, query: Query, row: Row, v: usize, from: usize) -> bool
-    requires { Passed pool.now tables query × (v < max_variables) }
-    ensures { result ≡ all_hold v row (drop from (atoms_of pool.now tables query)) }
+pub fn all_hold(asked: Asked, row: Row, v: usize, from: usize) -> bool
+    requires { v < max_variables }
+    ensures { let a = asked.entry in result ≡ all_hold v row (drop from (atoms_of a.pool.now a.tables a.query)) }
 {
-    for i in from..query.atom_count {
-        let a = query.atoms[i];
+    for i in from..asked.query.atom_count {
+        let a = asked.query.atoms[i];
         if let Some(c) = column(a, v) {
-            if c + 1 == a.len && next_key(pool, tables, a, row, c, false) != Some(row[v]) {
+            if c + 1 == a.len
+                && next_key(asked.pool, asked.tables, a, row, c, false) != Some(row[v])
+            {
                 return false;
             }
         }

@@ -16,27 +16,18 @@ ghost use Rattle.query.specs.Window.{emits};
 ghost use Rattle.join_query.specs.Query.{order_of, atoms_of};
 ghost use Rattle.join_window.specs.Window.{written, Fits};
 ghost use Rattle.plain.specs.Plain.{plainly};
-ghost use Rattle.plain_atoms.specs.Atoms.{Passed};
 ghost use Rattle.plain_join.specs.Outcome.{PlainJoins};
 
 use join_checks::check;
 use join_query::{Query, Tables};
 use join_window::{Written, emit};
-use plain_atoms::{all_hold, holder};
+use plain_atoms::{Asked, all_hold, holder};
 use plain_keys::{Row, next_key};
 use refusal::Refusal;
 
-// What is asked: a query, with the tables and the pool in which its atoms' rows lie.
-#[derive(Clone, Copy)]
-struct Asked<'a> {
-    pool: &'a [u64],
-    tables: Tables,
-    query: Query,
-}
-
 // Writes the rows that complete `found` by words for the last `left` variables of the order, behind the first `rows` rows of the window, until it is full.
 fn search(asked: Asked, left: usize, mut found: Row, window: &mut [u64], rows: usize) -> Written
-    requires { Passed asked.pool.now asked.tables asked.query × (left ≤ asked.query.n) × Fits asked.query.n (length window.old) rows }
+    requires { (left ≤ asked.query.n) × Fits asked.query.n (length window.old) rows }
     ensures { let q = asked.entry.query in written window.new result.rows result.full ≡ emits q.n (written window.old rows false) (plainly q.n (drop (q.n - left) (order_of q)) (atoms_of asked.entry.pool.now asked.entry.tables q) found) }
 {
     if left == 0 {
@@ -50,7 +41,7 @@ fn search(asked: Asked, left: usize, mut found: Row, window: &mut [u64], rows: u
     let mut written = Written { rows, full: false };
     while let Some(key) = next {
         found[v] = key;
-        if all_hold(asked.pool, asked.tables, asked.query, found, v, first + 1) {
+        if all_hold(asked, found, v, first + 1) {
             written = search(asked, left - 1, found, window, written.rows);
             if written.full {
                 return written;
@@ -82,12 +73,8 @@ pub fn plain_join(pool: &[u64], tables: Tables, query: Query, window: &mut [u64]
         tables,
         query,
     };
-    let written = search(asked, query.n, [0; Query::MAX_VARIABLES], window, 0);
-    let number = if written.full {
-        Refusal::Full.number()
-    } else {
-        0
-    };
-    let rows = written.rows;
+    let end = search(asked, query.n, [0; Query::MAX_VARIABLES], window, 0);
+    let number = if end.full { Refusal::Full.number() } else { 0 };
+    let rows = end.rows;
     PlainJoined { number, rows }
 }

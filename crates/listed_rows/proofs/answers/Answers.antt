@@ -11,19 +11,19 @@ use borrow.Author.Rules.{rules}
 use Rattle.listed_rows.proofs.answers.Goals as goal
 use Rattle.listed_rows.proofs.answers.Goals.{Start}
 
-few : (s : Start) → s.args.query.n ≤ max_variables
-few s = (sized s.requires.accepted).few
+few : (s : Start) → s.args.asked.query.n ≤ max_variables
+few s = (sized s.args.asked.passed.accepted).few
 
 -- what the parameter's type says
 long : (s : Start) → length s.args.row ≡ max_variables
 long s = search rules
 
 pub all_hold-requires : goal.all_hold-requires
-all_hold-requires c = (c.requires, omega (arith, few (goal.at.all_hold-requires c).Start, c.loop-v-test.true))
+all_hold-requires c = omega (arith, few (goal.at.all_hold-requires c).Start, c.loop-v-test.true)
 
 pub returns-then-not-all_hold : goal.returns-then-not-all_hold
 returns-then-not-all_hold c =
-    one_fails (passes c.requires.accepted) c.args.row c.loop-v.v c.loop-v-test.true (sym c.all_hold.ensures ∙ c.if-not-all_hold.true)
+    one_fails (passes c.args.asked.passed.accepted) c.args.row c.loop-v.v c.loop-v-test.true (sym c.all_hold.ensures ∙ c.if-not-all_hold.true)
 
 pub loop-v-preserved : goal.loop-v-preserved
 loop-v-preserved c =
@@ -31,4 +31,4 @@ loop-v-preserved c =
 
 pub returns : goal.returns
 returns c =
-    all_pass (passes c.requires.accepted) c.args.row (omega (arith, few (goal.at.returns c).Start, long (goal.at.returns c).Start)) (λ v h. c.loop-v.invariant v (omega (arith, c.loop-v-test.false)))
+    all_pass (passes c.args.asked.passed.accepted) c.args.row (omega (arith, few (goal.at.returns c).Start, long (goal.at.returns c).Start)) (λ v h. c.loop-v.invariant v (omega (arith, c.loop-v-test.false)))

@@ -4,6 +4,7 @@ use lib.ListN.{length}
 use Rattle.query.specs.Limits.{max_atoms}
 use Rattle.join_query.specs.Query.{join_number, Accepted}
 use Rattle.join_query.proofs.Whole.{length_mapped}
+use Rattle.plain_atoms.proofs.Windows.{any_window}
 use Rattle.refusal.proofs.Numbers.{not_zero}
 use Rattle.listing_check.proofs.Meeting.{many_inside}
 use Rattle.listing_check.proofs.Checking.{checks_refused, checks_says}
@@ -22,10 +23,13 @@ accepted s e = record { passed = e; whole = whole s }
 pub returns-in-Err : goal.returns-in-Err
 returns-in-Err c = let a = c.args in checks_refused a.pool.now a.tables a.query a.listing.now a.count c.number.result (c.number.ensures ∙ c.in-Err.ensures) (λ e. not_zero c.in-Err.refused (sym c.number.ensures ∙ e))
 
+pub invariant_of-asked : goal.invariant_of-asked
+invariant_of-asked c = record { passed = any_window (accepted (goal.at.invariant_of-asked c).Start (sym c.in_default.ensures)) }
+
 pub verdict-requires : goal.verdict-requires
 verdict-requires c =
     let a = c.args in
-    (record { len = length a.listing.now; accepted = accepted (goal.at.verdict-requires c).Start (sym c.in_default.ensures) }, rw c.how_many-rows.ensures (many_inside a.query.n (length a.listing.now) a.count))
+    rw c.how_many-rows.ensures (many_inside a.query.n (length a.listing.now) a.count)
 
 pub returns : goal.returns
 returns c =

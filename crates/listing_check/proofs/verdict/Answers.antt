@@ -9,32 +9,32 @@ use Rattle.join_query.proofs.Accepted.{sized}
 use Rattle.listing_check.proofs.Meeting.{padded_none}
 use Rattle.listing_check.proofs.Checking.{agreed_inside, agreed_good, says_wrong, says_ended}
 use Rattle.listing_check.proofs.verdict.Goals as goal
-use Rattle.listing_check.proofs.verdict.Goals.{in-Some, in-None}
+use Rattle.listing_check.proofs.verdict.Goals.{in-Some-missing, in-None}
 
 pub search-end-requires : goal.search-end-requires
 search-end-requires c =
-    (c.requires.0, omega arith, c.requires.1, padded_none c.args.query.n (sized c.requires.0.accepted).few, refl)
+    (omega arith, c.requires, padded_none c.args.asked.query.n (sized c.args.asked.passed.accepted).few, refl)
 
-pub first_wrong-row-requires : goal.first_wrong-row-requires
-first_wrong-row-requires c =
-    let z = c.requires.0.accepted in
+pub first_wrong-requires : goal.first_wrong-requires
+first_wrong-requires c =
+    let z = c.args.asked.passed.accepted in
     let ws = c.args.listing.now in
-    (c.requires.0, c.requires.1, agreed_inside z ws c.args.rows c.search-end.ensures, agreed_good z ws c.args.rows c.search-end.ensures)
+    (c.requires, agreed_inside z ws c.args.rows c.search-end.ensures, agreed_good z ws c.args.rows c.search-end.ensures)
 
-pub returns-then-row-rows : goal.returns-then-row-rows
-returns-then-row-rows c =
-    says_wrong c.requires.0.accepted c.args.listing.now c.args.rows c.search-end.ensures c.first_wrong-row.ensures c.if-row-rows.true
+pub returns-in-Some : goal.returns-in-Some
+returns-in-Some c =
+    says_wrong c.args.asked.passed.accepted c.args.listing.now c.args.rows c.search-end.ensures c.in-Some.ensures.number c.in-Some.ensures.inside
 
 pub returns : goal.returns
 returns c =
-    let z = c.requires.0.accepted in
+    let z = c.args.asked.passed.accepted in
     elim c.match-end.branch [
-      | in-Some w ↦
-          says_ended z c.args.listing.now c.args.rows c.search-end.ensures c.first_wrong-row.ensures (omega (arith, c.if-row-rows.false))
-          (ap (λ (v : ℕ × Row). v.0) w.verdict-is ∙ ap (λ (m : Option Row). pick {A = ℕ} (is_some m) 3 1) (sym w.in-Some.is))
-          (ap (λ (v : ℕ × Row). v.1) w.verdict-is ∙ ap (λ (m : Option Row). unwrap_or m no_row) (sym w.in-Some.is))
+      | in-Some-missing w ↦
+          says_ended z c.args.listing.now c.args.rows c.search-end.ensures c.in_default.ensures.number (omega arith)
+          (ap (λ (v : ℕ × Row). v.0) w.verdict-is ∙ ap (λ (m : Option Row). pick {A = ℕ} (is_some m) 3 1) (sym w.in-Some-missing.is))
+          (ap (λ (v : ℕ × Row). v.1) w.verdict-is ∙ ap (λ (m : Option Row). unwrap_or m no_row) (sym w.in-Some-missing.is))
       | in-None w ↦
-          says_ended z c.args.listing.now c.args.rows c.search-end.ensures c.first_wrong-row.ensures (omega (arith, c.if-row-rows.false))
+          says_ended z c.args.listing.now c.args.rows c.search-end.ensures c.in_default.ensures.number (omega arith)
           (ap (λ (v : ℕ × Row). v.0) w.verdict-is ∙ ap (λ (m : Option Row). pick {A = ℕ} (is_some m) 3 1) (sym w.in-None.is))
           (ap (λ (v : ℕ × Row). v.1) w.verdict-is ∙ ap (λ (m : Option Row). unwrap_or m no_row) (sym w.in-None.is))
     ]

@@ -3,7 +3,6 @@ use Prim.Native.Nat.{◌≤◌, ◌<◌}
 use lib.ListN.{length}
 use Rattle.join_query.specs.Query.{atoms_of}
 use Rattle.plain.specs.Plain.{tried}
-use Rattle.plain_atoms.specs.Atoms.{Passed}
 use Rattle.plain_join.proofs.Trying.{todo, Trying}
 use Rattle.plain_join.proofs.+search.Given as goal
 
@@ -11,7 +10,7 @@ abbrev pub decreases-search : goal.decreases-search
 decreases-search l = l.left
 
 abbrev pub invariant-loop-next : goal.invariant-loop-next
-invariant-loop-next l = (p : Passed l.asked.pool.now l.asked.tables l.asked.query) × (s : 0 < l.left) × (h : l.left ≤ l.asked.query.n) × Trying p.accepted l.left s h l.initial.found l.initial.window l.rows l.window l.found l.next l.written
+invariant-loop-next l = (s : 0 < l.left) × (h : l.left ≤ l.asked.query.n) × Trying l.asked.passed.accepted l.left s h l.initial.found l.initial.window l.rows l.window l.found l.next l.written
 
 -- how many keys are left
 abbrev pub decreases-loop-next : goal.decreases-loop-next

@@ -9,6 +9,7 @@ use Rattle.query.specs.Limits.{max_atoms}
 use Rattle.join_query.specs.Query.{join_number, Accepted}
 use Rattle.join_query.proofs.Whole.{length_mapped}
 use Rattle.refusal.proofs.Numbers.{not_zero}
+use Rattle.plain_atoms.proofs.Windows.{any_window}
 use Rattle.plain_join.proofs.Joining.{joined, joins_refused, joins_listed}
 use borrow.Author.Rules.{rules}
 use Rattle.plain_join.proofs.plain_join.Goals as goal
@@ -27,19 +28,22 @@ returns-in-Err c =
     let a = c.args in
     joins_refused a.pool.now a.tables a.query a.window.now c.number-number.result (c.number-number.ensures ∙ c.in-Err.ensures) (λ e. not_zero c.in-Err.refused (sym c.number-number.ensures ∙ e))
 
-pub search-written-requires : goal.search-written-requires
-search-written-requires c =
-    let y = accepted (goal.at.search-written-requires c).Start (sym c.in_default.ensures) in
-    (record { len = length c.args.window.now; accepted = y }, omega arith, record { inside = omega (arith, zero-mul c.args.query.n); few = omega arith })
+pub search-end-requires : goal.search-end-requires
+search-end-requires c =
+    let y = accepted (goal.at.search-end-requires c).Start (sym c.in_default.ensures) in
+    (omega arith, record { inside = omega (arith, zero-mul c.args.query.n); few = omega arith })
 
-pub returns-then-written : goal.returns-then-written
-returns-then-written c =
-    let a = c.args in
-    let y = accepted (goal.at.returns-then-written c).Start (sym c.in_default.ensures) in
-    joins_listed a.pool.now a.tables a.query a.window.now c.in_default.ensures (joined y a.window.now c.search-written.ensures) (c.number-number-then-written.ensures ∙ ap (λ (f : Bool). pick f 12 0) (sym c.if-written.true))
+pub invariant_of-asked : goal.invariant_of-asked
+invariant_of-asked c = record { passed = any_window (accepted (goal.at.invariant_of-asked c).Start (sym c.in_default.ensures)) }
 
-pub returns-else-written : goal.returns-else-written
-returns-else-written c =
+pub returns-then-end : goal.returns-then-end
+returns-then-end c =
     let a = c.args in
-    let y = accepted (goal.at.returns-else-written c).Start (sym c.in_default.ensures) in
-    joins_listed a.pool.now a.tables a.query a.window.now c.in_default.ensures (joined y a.window.now c.search-written.ensures) (ap (λ (f : Bool). pick f 12 0) (sym c.if-written.false))
+    let y = accepted (goal.at.returns-then-end c).Start (sym c.in_default.ensures) in
+    joins_listed a.pool.now a.tables a.query a.window.now c.in_default.ensures (joined y a.window.now c.search-end.ensures) (c.number-number-then-end.ensures ∙ ap (λ (f : Bool). pick f 12 0) (sym c.if-end.true))
+
+pub returns-else-end : goal.returns-else-end
+returns-else-end c =
+    let a = c.args in
+    let y = accepted (goal.at.returns-else-end c).Start (sym c.in_default.ensures) in
+    joins_listed a.pool.now a.tables a.query a.window.now c.in_default.ensures (joined y a.window.now c.search-end.ensures) (ap (λ (f : Bool). pick f 12 0) (sym c.if-end.false))
