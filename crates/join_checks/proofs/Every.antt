@@ -1,20 +1,22 @@
 -- What `all` answers over the first n elements of an array, and over the numbers below n, as the test at every index that the checks' definitions make.
-use Prim.Native.Nat.{ℕ, zero, suc, ◌≤◌, ◌<◌}
+use Prim.Native.Nat.{ℕ, zero, suc, ◌<◌}
 use native.Mathlib.Nat.{zero-add}
 use native.Mathlib.Omega.{arith}
 use mathlib.Core.Path.{◌≡◌, refl, sym, ap, subst, ◌∙◌}
 use mathlib.Core.Bool.{Bool, true, false, ◌&&◌, false≢true}
 use mathlib.Core.List.{List}
-use lib.ListN.{length, get_or, take, length-take}
-use lib.Seq.{get_or-take, length-take-le}
+use lib.ListN.{length, get_or, take}
+use lib.Seq.{get_or-take}
 use Rattle.relation.specs.Lists.{◌∈◌}
 use Rattle.relation.specs.Tests.{every}
 use Rattle.relation.proofs.Tests.{every_at, every_all, every_fails}
 use Rattle.query.specs.Meet.{has}
 use Rattle.query.specs.Checks.{some, covers}
 use Rattle.query.proofs.Meet.{in_has, has_not, get_or_in, in_get_or}
-use Rattle.join_query.specs.Query.{no_atom, atom_at, atoms_in}
+use Rattle.join_query.specs.Query.{max_tables, no_atom, atom_at, atoms_in, named_ok}
+use Rattle.join_query.specs.declared.Atom.{Atom}
 use Rattle.join_query.specs.declared.Query.{Query}
+use Rattle.join_query.proofs.Lists.{named_told}
 use Rattle.std.specs.List.{list_all, range_with_len}
 use Rattle.std.proofs.lemmas.List.FromFn.{length-range_with_len, get_or-range_with_len}
 use Rattle.std.proofs.lemmas.List.Recursion.{and_at, and_from_places}
@@ -24,11 +26,12 @@ pub every_below : (p : ℕ → Bool) (n : ℕ) (r : Bool) → (r ≡ true → (i
 every_below p n true f g = sym (every_all p n (f refl))
 every_below p n false f g = let t = g refl in sym (every_fails p n t.0 t.1 t.2)
 
-pub every_first : {X : Type 0} (p : X → Bool) (d : X) (l : List X) (n : ℕ) → n ≤ length l → (r : Bool) → (r ≡ true → (i : ℕ) → i < length (take n l) → p (get_or (take n l) i d) ≡ true) → (r ≡ false → (i : ℕ) × (i < length (take n l)) × (p (get_or (take n l) i d) ≡ false)) → r ≡ every n (λ (i : ℕ). p (get_or l i d))
-every_first p d l n fits r f g =
+pub every_first : {X : Type 0} (p : X → Bool) (d : X) (l : List X) (n : ℕ) {walked : List X} → walked ≡ take n l → length walked ≡ n → (r : Bool) → (r ≡ true → (i : ℕ) → i < length walked → p (get_or walked i d) ≡ true) → (r ≡ false → (i : ℕ) × (i < length walked) × (p (get_or walked i d) ≡ false)) → r ≡ every n (λ (i : ℕ). p (get_or l i d))
+every_first {X} p d l n {walked} e m r f g =
+    let at : (i : ℕ) → i < n → get_or walked i d ≡ get_or l i d = λ i h. ap (λ (k : List X). get_or k i d) e ∙ get_or-take n l i d h in
     every_below (λ (i : ℕ). p (get_or l i d)) n r
-    (λ e i h. ap p (sym (get_or-take n l i d h)) ∙ f e i (omega (arith, length-take-le n l fits)))
-    (λ e. let t = g e in let h : t.0 < n = omega (arith, t.1, length-take-le n l fits) in (t.0, h, ap p (sym (get_or-take n l t.0 d h)) ∙ t.2))
+    (λ t i h. ap p (sym (at i h)) ∙ f t i (omega (arith, h, m)))
+    (λ t. let w = g t in let h : w.0 < n = omega (arith, w.1, m) in (w.0, h, ap p (sym (at w.0 h)) ∙ w.2))
 
 -- what `contains` answers
 pub has_is : (l : List ℕ) (v : ℕ) (r : Bool) → (r ≡ true → (k : ℕ) × (k < length l) × (get_or l k 0 ≡ v)) → (r ≡ false → (k : ℕ) → k < length l → get_or l k 0 ≡ v → ⊥) → r ≡ has l v
@@ -59,10 +62,13 @@ unfolding covers every
 covers_is lists zero = refl
 covers_is lists (suc n) = let p = λ (v : ℕ). some (λ (l : List ℕ). has l v) lists in ap (λ (b : Bool). b && p n) (covers_is lists n) ∙ and_comm (covers n lists) (p n)
 
--- the atom that a walk over the atoms stands at
-module _ (q : Query) (i : ℕ) (h : i < length (atoms_in q)) where
+-- the atom that a walk over the atoms stands at: it is the query's, and its table is one of the tables
+module _ (q : Query) {walked : List Atom} (e : walked ≡ atoms_in q) (n : length walked ≡ q.atom_count) (i : ℕ) (h : i < length walked) where
   pub atom_in : i < q.atom_count
-  atom_in = omega (arith, h, length-take q.atom_count q.atoms)
+  atom_in = omega (arith, h, n)
 
-  pub atom_there : get_or (atoms_in q) i no_atom ≡ atom_at q i
-  atom_there = get_or-take q.atom_count q.atoms i no_atom atom_in
+  pub atom_there : get_or walked i no_atom ≡ atom_at q i
+  atom_there = ap (λ (l : List Atom). get_or l i no_atom) e ∙ get_or-take q.atom_count q.atoms i no_atom atom_in
+
+  pub table_there : (count : ℕ) → named_ok count q ≡ true → (get_or walked i no_atom).table < max_tables
+  table_there count o = let t = named_told count q o in omega (arith, t.bounded, t.each i atom_in, ap (λ (x : Atom). x.table) atom_there)

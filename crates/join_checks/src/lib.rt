@@ -1,7 +1,7 @@
 // The checks of a query, in document 01's sequence, with 15 and 16 of document 02 behind 11 and 17 behind 6. `check` asks nothing; the others are internal, and some ask of their caller what an earlier check found.
 #![tactic(auto)]
 
-ghost use Rattle.std.specs.Prelude.{◌≡◌, true, List, ℕ, ◌≤◌, take, drop};
+ghost use Rattle.std.specs.Prelude.{◌≡◌, true, List, ℕ, ◌≤◌, length, take, drop};
 ghost use Rattle.relation.specs.Tests as index;
 ghost use Rattle.query.specs.Meet.{has};
 ghost use Rattle.query.specs.Solve.{headed};
@@ -9,7 +9,7 @@ ghost use Rattle.query.specs.Checks.{some, covers};
 ghost use Rattle.column_trie.specs.Limits.{max_arity};
 ghost use Rattle.query.specs.Limits.{max_atoms};
 ghost use Rattle.join_query.specs.Query.{max_tables, max_variables, table_at, vars_of, lists_of, order_ok, names_some, named_ok, listed_at, list_ok, column_ok, binds_only, one_kind, whole_rows, names, named, sound_at, shapes_agree, shape_ok, join_number};
-ghost use Rattle.join_query.specs.Checking.{reached, Listed};
+ghost use Rattle.join_query.specs.Checking.{reached};
 ghost use Rattle.refusal.specs.Number.{given};
 
 use column_trie::{ColumnTrie, undamaged};
@@ -46,9 +46,7 @@ fn named_ok(count: usize, q: Query) -> bool
 {
     q.atom_count <= Query::MAX_ATOMS
         && count <= Tables::MAX_TABLES
-        && q.atoms[..q.atom_count]
-            .iter()
-            .all(|a| names_some(count, *a))
+        && q.atoms().iter().all(|a| names_some(count, *a))
 }
 
 // Whether v is the atom's variable at place j.
@@ -86,33 +84,12 @@ fn lists_ok(ts: Tables, q: Query) -> bool
     requires { (order_ok q ≡ true) × (named_ok ts.count q ≡ true) }
     ensures { result ≡ index.every q.atom_count (list_ok ts q) }
 {
-    for a in &q.atoms[..q.atom_count] {
+    for a in q.atoms() {
         if !list_ok(q, *a, ts.tables[a.table].arity) {
             return false;
         }
     }
     true
-}
-
-// Whether v is in some atom's list.
-fn held(q: Query, v: usize) -> bool
-    requires { Listed q }
-    ensures { result ≡ some (λ (l : List ℕ). has l v) (lists_of q) }
-{
-    for a in &q.atoms[..q.atom_count] {
-        if a.variables[..a.len].contains(&v) {
-            return true;
-        }
-    }
-    false
-}
-
-// Not 11: each variable is in some atom's list.
-fn all_held(q: Query) -> bool
-    requires { Listed q }
-    ensures { result ≡ covers q.n (lists_of q) }
-{
-    (0..q.n).all(|v| held(q, v))
 }
 
 // Whether v binds only columns of this kind (yes: grade) in the atom. Column j of its list is column j of its table.
@@ -126,27 +103,6 @@ fn columns_ok(t: ColumnTrie, a: Atom, v: usize, grade: bool) -> bool
         }
     }
     true
-}
-
-// Whether v binds only columns of this kind.
-fn binds_only(ts: Tables, q: Query, v: usize, grade: bool) -> bool
-    requires { (named_ok ts.count q ≡ true) × Listed q }
-    ensures { result ≡ binds_only ts q v grade }
-{
-    for a in &q.atoms[..q.atom_count] {
-        if !columns_ok(ts.tables[a.table], *a, v, grade) {
-            return false;
-        }
-    }
-    true
-}
-
-// Not 15: each variable binds only plain columns, or only grades.
-fn kinds_ok(ts: Tables, q: Query) -> bool
-    requires { (named_ok ts.count q ≡ true) × Listed q }
-    ensures { result ≡ index.every q.n (one_kind ts q) }
-{
-    (0..q.n).all(|v| binds_only(ts, q, v, false) || binds_only(ts, q, v, true))
 }
 
 // Not 16: the window is some number of rows long. Rows without words are never 16.
@@ -163,46 +119,96 @@ fn names(a: Atom, t: usize) -> bool
     a.table == t || (a.laid_over && a.maker == t)
 }
 
-// Whether an atom names table t.
-fn is_named(q: Query, t: usize) -> bool
-    requires { q.atom_count ≤ max_atoms }
-    ensures { result ≡ named q t }
-{
-    q.atoms[..q.atom_count].iter().any(|a| names(*a, t))
-}
-
-// Not 6: each table that an atom names is undamaged. Each is looked at once, however many atoms name it.
-fn tables_ok(pool: &[u64], ts: Tables, q: Query) -> bool
-    requires { named_ok ts.count q ≡ true }
-    ensures { result ≡ index.every ts.count (sound_at pool.now ts q) }
-{
-    for (i, t) in ts.tables[..ts.count].iter().enumerate() {
-        if is_named(q, i) && !undamaged(pool, *t) {
-            return false;
-        }
-    }
-    true
-}
-
 // Not 17, of one atom: where it is laid over, its two tables are of the same shape.
-fn shape_ok(ts: Tables, a: Atom) -> bool
-    requires { (ts.count ≤ max_tables) × (names_some ts.count a ≡ true) × ((table_at ts a.table).arity ≤ max_arity) }
-    ensures { result ≡ shapes_agree ts a }
+fn shape_ok(ts: &Tables, a: Atom) -> bool
+    requires { (ts.now.count ≤ max_tables) × (names_some ts.now.count a ≡ true) × ((table_at ts.now a.table).arity ≤ max_arity) }
+    ensures { result ≡ shapes_agree ts.now a }
 {
     !a.laid_over || same_shape(ts.tables[a.table], ts.tables[a.maker])
 }
 
-// Not 17: every atom passes.
-fn shapes_ok(ts: Tables, q: Query) -> bool
-    requires { (named_ok ts.count q ≡ true) × (index.every q.atom_count (list_ok ts q) ≡ true) }
-    ensures { result ≡ index.every q.atom_count (shape_ok ts q) }
-{
-    for a in &q.atoms[..q.atom_count] {
-        if !shape_ok(ts, *a) {
-            return false;
+// A query that 9 and 10 let pass, with its tables: what the checks behind them rely on.
+#[derive(Clone, Copy)]
+struct Formed<'a> {
+    ts: &'a Tables,
+    q: &'a Query,
+    ghost named: { named_ok ts.now.count q.now ≡ true },
+    ghost listed: { index.every q.now.atom_count (list_ok ts.now q.now) ≡ true },
+
+    // A type says it, but not of an array of structs in a struct that a field refers to.
+    ghost full: { length q.now.atoms ≡ max_atoms },
+}
+
+impl<'a> Formed<'a> {
+    // Whether v is in some atom's list.
+    fn held(&self, v: usize) -> bool
+        ensures { result ≡ some (λ (l : List ℕ). has l v) (lists_of self.now.q.now) }
+    {
+        for a in self.q.atoms() {
+            if a.variables[..a.len].contains(&v) {
+                return true;
+            }
         }
+        false
     }
-    true
+
+    // Not 11: each variable is in some atom's list.
+    fn all_held(&self) -> bool
+        ensures { result ≡ covers self.now.q.now.n (lists_of self.now.q.now) }
+    {
+        (0..self.q.n).all(|v| self.held(v))
+    }
+
+    // Whether v binds only columns of this kind.
+    fn binds_only(&self, v: usize, grade: bool) -> bool
+        ensures { result ≡ binds_only self.now.ts.now self.now.q.now v grade }
+    {
+        for a in self.q.atoms() {
+            if !columns_ok(self.ts.tables[a.table], *a, v, grade) {
+                return false;
+            }
+        }
+        true
+    }
+
+    // Not 15: each variable binds only plain columns, or only grades.
+    fn kinds_ok(&self) -> bool
+        ensures { result ≡ index.every self.now.q.now.n (one_kind self.now.ts.now self.now.q.now) }
+    {
+        (0..self.q.n).all(|v| self.binds_only(v, false) || self.binds_only(v, true))
+    }
+
+    // Whether an atom names table t.
+    fn is_named(&self, t: usize) -> bool
+        ensures { result ≡ named self.now.q.now t }
+    {
+        self.q.atoms().iter().any(|a| names(*a, t))
+    }
+
+    // Not 6: each table that an atom names is undamaged. Each is looked at once, however many atoms name it.
+    fn tables_ok(&self, pool: &[u64]) -> bool
+        ensures { result ≡ index.every self.now.ts.now.count (sound_at pool.now self.now.ts.now self.now.q.now) }
+    {
+        let ts = self.ts;
+        for (i, t) in ts.tables[..ts.count].iter().enumerate() {
+            if self.is_named(i) && !undamaged(pool, *t) {
+                return false;
+            }
+        }
+        true
+    }
+
+    // Not 17: every atom passes.
+    fn shapes_ok(&self) -> bool
+        ensures { result ≡ index.every self.now.q.now.atom_count (shape_ok self.now.ts.now self.now.q.now) }
+    {
+        for a in self.q.atoms() {
+            if !shape_ok(self.ts, *a) {
+                return false;
+            }
+        }
+        true
+    }
 }
 
 // The refusal of the first check that the query fails; the window has `len` words.
@@ -218,19 +224,20 @@ pub fn check(pool: &[u64], ts: Tables, q: Query, len: usize) -> Result<(), Refus
     if !lists_ok(ts, q) {
         return Err(Refusal::BadList);
     }
-    if !all_held(q) {
+    let formed = Formed { ts: &ts, q: &q };
+    if !formed.all_held() {
         return Err(Refusal::FreeVariable);
     }
-    if !kinds_ok(ts, q) {
+    if !formed.kinds_ok() {
         return Err(Refusal::MixedKinds);
     }
     if !rows_ok(q.n, len) {
         return Err(Refusal::PartRows);
     }
-    if !tables_ok(pool, ts, q) {
+    if !formed.tables_ok(pool) {
         return Err(Refusal::Damaged);
     }
-    if !shapes_ok(ts, q) {
+    if !formed.shapes_ok() {
         return Err(Refusal::OtherShape);
     }
     Ok(())

@@ -19,7 +19,8 @@ pub struct Atom {
     pub maker: usize,
 }
 
-// C's `ducatbriar_query`, with its lengths beside its arrays.
+// C's `ducatbriar_query`, with its lengths beside its arrays. `atoms` below cuts one to its length, for the six places that walk it. An atom's `variables` are cut at two places, `tables` at one and
+// `order` at none: a call for these would make none plainer.
 #[repr(C)]
 #[derive(Clone, Copy)]
 pub struct Query {
@@ -33,6 +34,19 @@ impl Query {
     pub const MAX_ATOMS: usize = query::MAX_ATOMS;
 
     pub const MAX_VARIABLES: usize = 8;
+
+    ghost use Rattle.std.specs.Prelude.{◌≡◌, ◌≤◌, length};
+    ghost use Rattle.query.specs.Limits.{max_atoms};
+    ghost use Rattle.join_query.specs.Query.{atoms_in};
+
+    // The first `atom_count` of the array.
+    pub fn atoms(&self) -> &[Atom]
+        requires { self.now.atom_count ≤ max_atoms }
+        ensures listed { result.now ≡ atoms_in self.now }
+        ensures many { length result.now ≡ self.now.atom_count }
+    {
+        &self.atoms[..self.atom_count]
+    }
 }
 
 // C's `ducatbriar_tables`, likewise.

@@ -5,11 +5,19 @@ use Rattle.relation.specs.Tests.{every}
 use Rattle.relation.proofs.Tests.{passed, failed}
 use Rattle.query.specs.Checks.{covers}
 use Rattle.join_query.specs.Query.{order_ok, named_ok, list_ok, lists_of, one_kind, whole_rows, sound_at}
-use Rattle.join_query.proofs.Lists.{lists_told, number_8, number_9, number_10, number_11, number_15, number_16, number_6, number_17, number_0}
+use Rattle.join_query.proofs.Lists.{number_8, number_9, number_10, number_11, number_15, number_16, number_6, number_17, number_0}
 use mathlib.Core.Path.{ap}
 use mathlib.Core.Bool.{not}
+use Rattle.join_query.proofs.Whole.{length_mapped}
+use Rattle.query.specs.Limits.{max_atoms}
+use lib.ListN.{length}
+use borrow.Author.Rules.{rules}
 use Rattle.join_checks.proofs.check.Goals as goal
-use Rattle.join_checks.proofs.check.Goals.{Else-not-all_held, Else-not-kinds_ok, Else-not-lists_ok, Else-not-named_ok, Else-not-order_ok, Else-not-rows_ok, Else-not-tables_ok}
+use Rattle.join_checks.proofs.check.Goals.{Else-not-all_held, Else-not-kinds_ok, Else-not-lists_ok, Else-not-named_ok, Else-not-order_ok, Else-not-rows_ok, Else-not-tables_ok, Start}
+
+-- what the parameter's type says
+full : (s : Start) → length s.args.q.atoms ≡ max_atoms
+full s = search (length_mapped, rules)
 
 -- what has passed at each place
 ordered : (c : Else-not-order_ok) → order_ok c.args.q ≡ true
@@ -53,18 +61,17 @@ returns-then-not-lists_ok c =
     let a = c.args in
     number_10 a.pool.now a.ts a.q a.len (ordered (goal.at.returns-then-not-lists_ok c).Else-not-order_ok) (named (goal.at.returns-then-not-lists_ok c).Else-not-named_ok) (failed c.lists_ok.ensures (ap not c.if-not-lists_ok.true))
 
-pub all_held-requires : goal.all_held-requires
-all_held-requires c = let a = c.args in lists_told a.ts a.q (named (goal.at.all_held-requires c).Else-not-named_ok) (listed (goal.at.all_held-requires c).Else-not-lists_ok)
+pub invariant_of-formed : goal.invariant_of-formed
+invariant_of-formed c = record {
+  named = named (goal.at.invariant_of-formed c).Else-not-named_ok;
+  listed = listed (goal.at.invariant_of-formed c).Else-not-lists_ok;
+  full = full (goal.at.invariant_of-formed c).Start;
+}
 
 pub returns-then-not-all_held : goal.returns-then-not-all_held
 returns-then-not-all_held c =
     let a = c.args in
     number_11 a.pool.now a.ts a.q a.len (ordered (goal.at.returns-then-not-all_held c).Else-not-order_ok) (named (goal.at.returns-then-not-all_held c).Else-not-named_ok) (listed (goal.at.returns-then-not-all_held c).Else-not-lists_ok) (failed c.all_held.ensures (ap not c.if-not-all_held.true))
-
-pub kinds_ok-requires : goal.kinds_ok-requires
-kinds_ok-requires c =
-    let a = c.args in
-    (named (goal.at.kinds_ok-requires c).Else-not-named_ok, lists_told a.ts a.q (named (goal.at.kinds_ok-requires c).Else-not-named_ok) (listed (goal.at.kinds_ok-requires c).Else-not-lists_ok))
 
 pub returns-then-not-kinds_ok : goal.returns-then-not-kinds_ok
 returns-then-not-kinds_ok c =
@@ -79,16 +86,10 @@ returns-then-not-rows_ok c =
     let a = c.args in
     number_16 a.pool.now a.ts a.q a.len (ordered (goal.at.returns-then-not-rows_ok c).Else-not-order_ok) (named (goal.at.returns-then-not-rows_ok c).Else-not-named_ok) (listed (goal.at.returns-then-not-rows_ok c).Else-not-lists_ok) (covered (goal.at.returns-then-not-rows_ok c).Else-not-all_held) (of_one_kind (goal.at.returns-then-not-rows_ok c).Else-not-kinds_ok) (failed c.rows_ok.ensures (ap not c.if-not-rows_ok.true))
 
-pub tables_ok-requires : goal.tables_ok-requires
-tables_ok-requires c = named (goal.at.tables_ok-requires c).Else-not-named_ok
-
 pub returns-then-not-tables_ok : goal.returns-then-not-tables_ok
 returns-then-not-tables_ok c =
     let a = c.args in
     number_6 a.pool.now a.ts a.q a.len (ordered (goal.at.returns-then-not-tables_ok c).Else-not-order_ok) (named (goal.at.returns-then-not-tables_ok c).Else-not-named_ok) (listed (goal.at.returns-then-not-tables_ok c).Else-not-lists_ok) (covered (goal.at.returns-then-not-tables_ok c).Else-not-all_held) (of_one_kind (goal.at.returns-then-not-tables_ok c).Else-not-kinds_ok) (whole (goal.at.returns-then-not-tables_ok c).Else-not-rows_ok) (failed c.tables_ok.ensures (ap not c.if-not-tables_ok.true))
-
-pub shapes_ok-requires : goal.shapes_ok-requires
-shapes_ok-requires c = (named (goal.at.shapes_ok-requires c).Else-not-named_ok, listed (goal.at.shapes_ok-requires c).Else-not-lists_ok)
 
 pub returns-then-not-shapes_ok : goal.returns-then-not-shapes_ok
 returns-then-not-shapes_ok c =

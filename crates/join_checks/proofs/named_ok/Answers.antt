@@ -1,28 +1,21 @@
 -- `named_ok` meets its contract: the first two tests are the definition's, and `all` makes the third at every index.
 use native.Mathlib.Omega.{arith}
-use mathlib.Core.Path.{◌≡◌, ◌∙◌}
-use lib.ListN.{length}
+use mathlib.Core.Path.{◌∙◌}
 use borrow.Author.Rules.{rules}
 use borrow.Author.Tests.{lt-leb}
 use Prim.Native.Nat.{◌<◌}
-use Rattle.query.specs.Limits.{max_atoms}
 use Rattle.join_query.specs.Query.{no_atom, names_some}
-use Rattle.join_query.proofs.Whole.{length_mapped}
 use Rattle.join_query.proofs.Lists.{atoms_many, tables_many, names_all}
 use Rattle.join_checks.proofs.Every.{every_first}
 use Rattle.join_checks.proofs.named_ok.Goals as goal
-use Rattle.join_checks.proofs.named_ok.Goals.{Start, then-q-le-MAX_ATOMS, else-q-le-MAX_ATOMS}
-
--- what the parameter's type says
-whole : (s : Start) → length s.args.q.atoms ≡ max_atoms
-whole s = search (length_mapped, rules)
+use Rattle.join_checks.proofs.named_ok.Goals.{then-q-le-MAX_ATOMS, else-q-le-MAX_ATOMS}
 
 pub returns-then-count-le-MAX_TABLES : goal.returns-then-count-le-MAX_TABLES
 returns-then-count-le-MAX_TABLES c =
     let a = c.args in
     let h = c.if-count-le-MAX_TABLES.true in
     names_all a.count a.q (omega (arith, h)) c.all.result (omega (arith, h))
-    (every_first (names_some a.count) no_atom a.q.atoms a.q.atom_count (omega (arith, h, whole (goal.at.returns-then-count-le-MAX_TABLES c).Start)) c.all.result (search rules) (search rules))
+    (every_first (names_some a.count) no_atom a.q.atoms a.q.atom_count c.atoms.ensures.listed c.atoms.ensures.many c.all.result (search rules) (search rules))
 
 pub returns-else-count-le-MAX_TABLES : goal.returns-else-count-le-MAX_TABLES
 returns-else-count-le-MAX_TABLES c =
