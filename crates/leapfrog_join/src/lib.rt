@@ -38,7 +38,7 @@ pub fn leapfrog_init(
     requires ascends { Ascends ◌<◌ (take k ring.old) }
     ensures { Begun pool.now end.now k ring.old ring.new at.old at.new result }
 {
-    sort_ring(pool, at, ring, k);
+    sort_ring(pool, at, &mut ring[..k]);
     leapfrog_search(pool, at, end, ring, k, 0, strategy)
 }
 
