@@ -15,8 +15,8 @@ hit_on target (Nothing p) = false
 
 -- what a leapfrog's seek leaves: besides, whether it hit
 pub record RanFor (pool end ring : List ℕ) (k : ℕ) (at₀ at : List ℕ) (target : ℕ) (w : Went) (r : SearchedFor) : Type 0 where
-  pub ran : Ran pool end ring k at₀ at w (record { landed = r.landed; seeks = r.seeks })
-  pub hit : r.hit ≡ hit_on target r.landed
+  pub ran : Ran pool end ring k at₀ at w r.searched
+  pub hit : r.hit ≡ hit_on target r.searched.landed
 
 -- what the first call leaves: besides, the ring sorted by the keys at its start
 pub record Begun (pool end : List ℕ) (k : ℕ) (ring₀ ring at₀ at : List ℕ) (r : Searched) : Type 0 where

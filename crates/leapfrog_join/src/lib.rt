@@ -21,8 +21,7 @@ use seek::SeekStrategy;
 // What a leapfrog's seek answers: besides, whether it hit: it found a common key, and that key is its target.
 #[derive(Clone, Copy)]
 pub struct SearchedFor {
-    pub landed: Landed,
-    pub seeks: u64,
+    pub searched: Searched,
     pub hit: bool,
 }
 
@@ -39,7 +38,7 @@ pub fn leapfrog_init(
     requires ascends { Ascends ◌<◌ (take k ring.old) }
     ensures { Begun pool.now end.now k ring.old ring.new at.old at.new result }
 {
-    sort_ring(pool, at, ring, k);
+    sort_ring(pool, at, &mut ring[..k]);
     leapfrog_search(pool, at, end, ring, k, 0, strategy)
 }
 
@@ -94,10 +93,10 @@ fn seek_on(
         };
     }
     let s = leapfrog_search(pool, at, end, ring, k, after(p, k), strategy);
-    let landed = s.landed;
-    let after = s.seeks;
-    let seeks = after + 1;
-    Searched { landed, seeks }
+    Searched {
+        seeks: s.seeks + 1,
+        ..s
+    }
 }
 
 // Whether a search that ended so hit the target.
@@ -124,9 +123,7 @@ pub fn leapfrog_seek(
     requires { Agreed pool.now at.old end.now ring.now k (key_at pool.now at.old (get_or ring.now p 0)) p }
     ensures { RanFor pool.now end.now ring.now k at.old at.new target (seek_to target (runs_in pool.now at.old end.now ring.now k) p) result }
 {
-    let s = seek_on(pool, at, end, ring, k, p, target, strategy);
-    let landed = s.landed;
-    let seeks = s.seeks;
-    let hit = hits(landed, target);
-    SearchedFor { landed, seeks, hit }
+    let searched = seek_on(pool, at, end, ring, k, p, target, strategy);
+    let hit = hits(searched.landed, target);
+    SearchedFor { searched, hit }
 }

@@ -4,6 +4,11 @@
 // The runs lie in one pool. Atom a stands at pool[at[a]], and its run ends before end[a]. The ring's first k entries are the atoms that take part;
 // p is a place of the ring. From p round, the keys on which the atoms stand do not fall: the atom at p has the least, the one before it the greatest.
 //
+// The ring is an array with k beside it and no slice: `Ready`, `Agreed` and `SameAtoms`, by which a join keeps its ring from depth to depth, say that it is as
+// long as the array (`size`), which a slice of k is not, and `one_search_makes_no_more_seeks_than_keys_not_yet_passed` (docs/CALLS.md) is said of ring and k.
+// `at` and `end` are no struct: a search writes the one and only reads the other, which a struct lent to be written would need a clause to say, and they are
+// two of the four arrays of a `State` (crates/stretches), which lends them from there.
+//
 // `leapfrog_search` does what its algorithm does to the runs, as crates/leapfrog computes it: it leaves the same runs, stops at the same place, on the same key or
 // on none, and makes the same number of seeks (specs/Leapfrog.antt, `Ran`).
 #![tactic(auto)]

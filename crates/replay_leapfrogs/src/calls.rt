@@ -75,13 +75,13 @@ fn compare(
     start: &[usize; MAX_ATOMS],
     at: &[usize; MAX_ATOMS],
 ) {
-    let (found, key) = match answer.landed {
+    let (found, key) = match answer.searched.landed {
         Landed::Key { key, p: _ } => (1, key),
         Landed::Nothing { p: _ } => (0, 0),
     };
     script.compare(found == told.found);
     script.compare(key == told.key);
-    script.compare(answer.seeks == told.seeks);
+    script.compare(answer.searched.seeks == told.seeks);
     script.compare(answer.hit == is_hit(told));
     script.compare(have_gone(start, at, told.gone));
 }
@@ -90,12 +90,10 @@ fn compare(
 
 // Of a call that seeks nothing.
 fn unsought(s: Searched) -> SearchedFor
-    ensures { result.landed ≡ s.landed }
+    ensures { result.searched ≡ s }
 {
-    let landed = s.landed;
     SearchedFor {
-        landed,
-        seeks: s.seeks,
+        searched: s,
         hit: false,
     }
 }
@@ -110,7 +108,7 @@ fn begin(
 ) -> SearchedFor
     requires ring_value { ring.old ≡ in_order }
     requires ready { Ready pool.now at.old end.now in_order k }
-    ensures { Ended pool.now at.new end.now ring.new k result.landed }
+    ensures { Ended pool.now at.new end.now ring.new k result.searched.landed }
 {
     unsought(leapfrog_init(pool, at, end, ring, k, strategy))
 }
@@ -127,7 +125,7 @@ fn step(
     strategy: SeekStrategy,
 ) -> SearchedFor
     requires { Agreed pool.now at.old end.now ring.now k (key_at pool.now at.old (slice_index ring.now p)) p }
-    ensures { Ended pool.now at.new end.now ring.now k result.landed }
+    ensures { Ended pool.now at.new end.now ring.now k result.searched.landed }
 {
     if told.kind == 1 {
         return unsought(leapfrog_next(pool, at, end, ring, k, p, strategy));
@@ -165,7 +163,7 @@ fn later(
             &runs.pool, &mut at, &runs.end, ring, runs.k, p, told, strategy,
         );
         compare(script, told, answer, &runs.start, &at);
-        landed = answer.landed;
+        landed = answer.searched.landed;
     }
 }
 
@@ -186,5 +184,13 @@ pub fn walk(script: &mut Script, runs: &Runs, strategy: SeekStrategy)
     let mut ring = [0usize, 1, 2, 3, 4, 5, 6, 7];
     let answer = begin(&runs.pool, &mut at, &runs.end, &mut ring, runs.k, strategy);
     compare(script, told, answer, &runs.start, &at);
-    later(script, runs, at, &ring, strategy, answer.landed, count - 1);
+    later(
+        script,
+        runs,
+        at,
+        &ring,
+        strategy,
+        answer.searched.landed,
+        count - 1,
+    );
 }

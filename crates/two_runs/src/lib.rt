@@ -14,7 +14,7 @@ ghost use Rattle.relation.specs.Lists.{Ascends};
 ghost use Rattle.leapfrog_search.specs.Leapfrog.{part, Reached};
 ghost use Rattle.two_runs.specs.Runs.{turned_of, Inside, Led, Turns, InOrder, Stays, Stretched};
 
-use seek::{SeekStrategy, probe};
+use seek::SeekStrategy;
 
 #[derive(Clone, Copy)]
 pub struct Runs {
@@ -25,13 +25,13 @@ pub struct Runs {
     pub own: usize,
 }
 
-// The place of the first key not below `target` in the run from x to e, or e.
+// The place of the first key not below `target` in the run from x to e, or e: where the seek of crates/leapfrog_search ends, said of a run that ascends.
 pub fn seek_run(pool: &[u64], x: usize, e: usize, target: u64, strategy: SeekStrategy) -> usize
     requires x_le_e { (x ≤ e) × (e ≤ length pool.now) }
     requires ascends { Ascends ◌<◌ (part pool.now x e) }
     ensures { Reached pool.now x e target result }
 {
-    x + probe(strategy, &pool[x..e], target).offset
+    x + leapfrog_search::seek_run(pool, x, e, target, strategy).offset
 }
 
 // Both runs from their first keys not below `target` on.

@@ -65,8 +65,8 @@ pub fn whole_seek(
         };
     }
     let s = whole_search(pool, state, ends, ring, k, after(p, k), strategy);
-    let landed = s.landed;
-    let more = s.seeks;
-    let seeks = more + 1;
-    Searched { landed, seeks }
+    Searched {
+        seeks: s.seeks + 1,
+        ..s
+    }
 }

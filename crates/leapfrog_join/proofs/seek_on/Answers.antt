@@ -56,10 +56,10 @@ leapfrog_search-s-requires c =
     let i = lt_of_le-ne s.within c.if-q-e.false in
     record { ready = step_ready g _ s.forward s.within i (target_ascends g s) (target_in g s); ordered = step_ordered g _ s.forward s.within i (target_ascends g s) (target_in g s) c.after.result c.after.ensures; start_lt_k = c.after.ensures.to }
 
-pub overflow_add-seeks : goal.overflow_add-seeks
-overflow_add-seeks c =
+pub overflow_add-result : goal.overflow_add-result
+overflow_add-result c =
     let g = c.requires in
-    let s = reached (goal.at.overflow_add-seeks c).After-seek_run in
+    let s = reached (goal.at.overflow_add-result c).After-seek_run in
     let i = lt_of_le-ne s.within c.if-q-e.false in
     let r = step_ready g _ s.forward s.within i (target_ascends g s) (target_in g s) in
     omega (arith, ready_few r, search_few r (step_ordered g _ s.forward s.within i (target_ascends g s) (target_in g s) c.after.result c.after.ensures) c.after.ensures.to c.leapfrog_search-s.ensures)

@@ -6,9 +6,9 @@ use Rattle.leapfrog_search.proofs.Parts.{seek_within, seek_reached}
 use Rattle.two_runs.proofs.seek_run.Goals as goal
 
 pub overflow_add-result : goal.overflow_add-result
-overflow_add-result c = omega (arith, ap (λ (s : Probed). s.offset) c.probe.ensures, c.requires.x_le_e, seek_within c.args.pool.now c.args.x c.args.e c.requires.x_le_e.0 c.requires.x_le_e.1 c.requires.ascends c.args.strategy c.args.target)
+overflow_add-result c = omega (arith, ap (λ (s : Probed). s.offset) c.seek_run.ensures, c.requires.x_le_e, seek_within c.args.pool.now c.args.x c.args.e c.requires.x_le_e.0 c.requires.x_le_e.1 c.requires.ascends c.args.strategy c.args.target)
 
 pub returns : goal.returns
 returns c =
-    rw c.probe.ensures
+    rw c.seek_run.ensures
     (seek_reached c.args.pool.now c.args.x c.args.e c.requires.x_le_e.0 c.requires.x_le_e.1 c.requires.ascends c.args.strategy c.args.target)

@@ -17,8 +17,8 @@ whole_search-s-requires c =
     let e = c.if-not-seek_one.false in
     record { whole_ready = seek_ready g h.ensures e; ordered = (seek_ordered g h.ensures e c.after.ensures, c.after.ensures.to) }
 
-pub overflow_add-seeks : goal.overflow_add-seeks
-overflow_add-seeks c =
+pub overflow_add-result : goal.overflow_add-result
+overflow_add-result c =
     let h = c.seek_one in
     omega (arith, seek_few c.requires h.ensures c.if-not-seek_one.false c.after.ensures c.whole_search-s.ensures, c.well_formed)
 

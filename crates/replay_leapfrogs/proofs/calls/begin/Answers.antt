@@ -1,6 +1,4 @@
 -- `calls::begin` meets its contract: the ring is in atom order, so the leapfrog may begin, and where it ends is what the definition of its calls comes to.
-use Rattle.std.proofs.Common.{sym, subst}
-use Rattle.leapfrog_search.specs.Leapfrog.{Ended}
 use Rattle.leapfrog_join.proofs.Beginning.{begun_left}
 use Rattle.replay_leapfrogs.proofs.Order.{begin_asks}
 use Rattle.replay_leapfrogs.proofs.calls.begin.Goals as goal
@@ -14,4 +12,4 @@ leapfrog_init-requires-clause-ascends c = (begin_asks c.requires.ring_value c.re
 pub returns : goal.returns
 returns c =
     let a = begin_asks c.requires.ring_value c.requires.ready in
-    subst (Ended _ _ _ _ _) (sym c.unsought.ensures) (begun_left a.0 a.1 c.leapfrog_init.ensures).ended
+    rw c.unsought.ensures (begun_left a.0 a.1 c.leapfrog_init.ensures).ended

@@ -1,11 +1,9 @@
 -- `calls::step` meets its contract: where the ring agrees both calls may be asked, and each ends as the definition of its algorithm comes to.
-use Rattle.std.proofs.Common.{sym, subst}
-use Rattle.leapfrog_search.specs.Leapfrog.{Ended}
 use Rattle.leapfrog_join.proofs.Laws.{went_next, went_seek}
 use Rattle.replay_leapfrogs.proofs.calls.step.Goals as goal
 
 pub returns-then-told-eq1 : goal.returns-then-told-eq1
-returns-then-told-eq1 c = subst (Ended _ _ _ _ _) (sym c.unsought.ensures) (went_next c.requires c.leapfrog_next.ensures).ended
+returns-then-told-eq1 c = rw c.unsought.ensures (went_next c.requires c.leapfrog_next.ensures).ended
 
 pub returns : goal.returns
 returns c = (went_seek c.requires c.args.told.target c.leapfrog_seek.ensures.ran).ended
