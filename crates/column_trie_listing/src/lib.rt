@@ -13,6 +13,7 @@ ghost use Rattle.column_trie_listing.specs.List.{Lists};
 
 use column_trie::{ColumnTrie, layer_intervals, layer_keys, undamaged};
 use layer_text::put_layer;
+use refusal::Refusal;
 
 // Layer d of the table, read from the pool.
 fn put_depth(text: &mut [u8], at: usize, pool: &[u64], t: ColumnTrie, d: usize) -> usize
@@ -30,10 +31,8 @@ fn put_text(bytes: &mut [u8], pool: &[u64], t: ColumnTrie) -> usize
     ensures { PieceWritten bytes.old bytes.new 0 (text (layers_in pool.now t)) result }
 {
     let mut end = 0;
-    let mut d = 0;
-    while d < t.arity {
+    for d in 0..t.arity {
         end = put_depth(bytes, end, pool, t, d);
-        d += 1;
     }
     end
 }
@@ -51,11 +50,15 @@ pub fn list(pool: &[u64], table: ColumnTrie, buffer: &mut [u8]) -> Listed
     ensures { Lists pool.now table buffer.old buffer.new result }
 {
     if !undamaged(pool, table) {
-        return Listed { number: 6, len: 0 };
+        return Listed {
+            number: Refusal::Damaged.number(),
+            len: 0,
+        };
     }
     let len = put_text(&mut buffer[..0], pool, table);
     if buffer.len() < len {
-        return Listed { number: 14, len: 0 };
+        let number = Refusal::LongText.number();
+        return Listed { number, len: 0 };
     }
     put_text(buffer, pool, table);
     Listed { number: 0, len }

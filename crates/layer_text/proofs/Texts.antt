@@ -5,7 +5,7 @@ use mathlib.Core.Bool.{Bool, true, false}
 use mathlib.Core.List.{List, [], ◌∷◌, ◌++◌, append-nil, append_assoc}
 use native.Mathlib.Omega.{arith}
 use lib.ListN.{length, take, drop, get_or, set, length-append, length-drop}
-use lib.Seq.{take-suc, take_all, length-take-le}
+use lib.Seq.{take-suc, take_all, length-take-le, drop-drop, sets-eq}
 use lib.Dec.{ltb}
 use borrow.Author.Tests.{lt-ltb, le-ltb, ltb-true, ltb-false}
 use Rattle.relation.specs.Layers.{Layer, layer, no_layer}
@@ -70,6 +70,15 @@ lay_one bytes at x = refl
 pub lay_none : (bytes : List ℕ) (at : ℕ) → bytes ≡ lay bytes at []
 unfolding lay
 lay_none bytes at = refl
+
+-- a part of the bytes that is put back is laid over them
+pub laid_back : (text : List ℕ) (at k : ℕ) (ys xs : List ℕ) → ys ≡ xs → k ≡ length xs → at + length xs ≤ length text → take at text ++ (ys ++ drop k (drop at text)) ≡ lay text at xs
+unfolding lay
+laid_back text at k ys xs e n h =
+    ap₂ (λ (l : List ℕ) (m : ℕ). take at text ++ (l ++ drop m (drop at text))) e n
+    ∙ ap (λ (l : List ℕ). take at text ++ (xs ++ l)) (drop-drop (length xs) at text)
+    ∙ sym (append_assoc (take at text) xs (drop (at + length xs) text))
+    ∙ sym (sets-eq xs text at h)
 
 -- ---- lists of numbers
 

@@ -57,11 +57,7 @@ fn put(text: &mut [u8], at: usize, bytes: &[u8]) -> usize
     if text.len() < end {
         return end;
     }
-    let mut i = 0;
-    while i < bytes.len() {
-        text[at + i] = bytes[i];
-        i += 1;
-    }
+    text[at..end].copy_from_slice(bytes);
     end
 }
 
@@ -71,11 +67,9 @@ fn put_others(text: &mut [u8], at: usize, words: &[u64]) -> usize
     ensures { PieceWritten text.old text.new at (others words.now) result × (result ≤ at + 22 * length words.now) }
 {
     let mut end = at;
-    let mut i = 0;
-    while i < words.len() {
+    for &word in words {
         end = put(text, end, b", ");
-        end = put_number(text, end, words[i]);
-        i += 1;
+        end = put_number(text, end, word);
     }
     end
 }

@@ -28,7 +28,7 @@ long m = ap length (unwritten m)
 pub returns-then-not-undamaged : goal.returns-then-not-undamaged
 returns-then-not-undamaged c =
     let a = c.args in
-    damaged a.pool.now a.table a.buffer.now (failed c.undamaged.ensures (ap not c.if-not-undamaged.true))
+    rw c.number.ensures (damaged a.pool.now a.table a.buffer.now (failed c.undamaged.ensures (ap not c.if-not-undamaged.true)))
 
 pub put_text-len-requires : goal.put_text-len-requires
 put_text-len-requires c = passed c.undamaged.ensures (ap not c.if-not-undamaged.false)
@@ -36,7 +36,7 @@ put_text-len-requires c = passed c.undamaged.ensures (ap not c.if-not-undamaged.
 pub returns-then-buffer-len : goal.returns-then-buffer-len
 returns-then-buffer-len c =
     let a = c.args in
-    subst (λ (b : List ℕ). Lists a.pool.now a.table a.buffer.now b (record { number = 14; len = 0 })) (sym (unwritten (goal.at.returns-then-buffer-len c).After-put_text-len)) (too_long a.pool.now a.table a.buffer.now (sound (goal.at.returns-then-buffer-len c).After-put_text-len) (omega (arith, c.put_text-len.ensures.ends, long (goal.at.returns-then-buffer-len c).After-put_text-len, c.if-buffer-len.true)))
+    rw c.number-number.ensures (subst (λ (b : List ℕ). Lists a.pool.now a.table a.buffer.now b (record { number = 14; len = 0 })) (sym (unwritten (goal.at.returns-then-buffer-len c).After-put_text-len)) (too_long a.pool.now a.table a.buffer.now (sound (goal.at.returns-then-buffer-len c).After-put_text-len) (omega (arith, c.put_text-len.ensures.ends, long (goal.at.returns-then-buffer-len c).After-put_text-len, c.if-buffer-len.true))))
 
 pub put_text-requires : goal.put_text-requires
 put_text-requires c = sound (goal.at.put_text-requires c).After-put_text-len

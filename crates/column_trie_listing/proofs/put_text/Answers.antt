@@ -40,9 +40,6 @@ pub put_depth-end-requires : goal.put_depth-end-requires
 put_depth-end-requires c =
     (undamaged_header c.args.pool.now c.args.t c.requires, c.loop-d-test.true, omega (arith, sound (goal.at.put_depth-end-requires c).Start, c.loop-d.invariant.2, c.loop-d-test.true))
 
-pub overflow_add-d : goal.overflow_add-d
-overflow_add-d c = omega (arith, sound (goal.at.overflow_add-d c).Start)
-
 pub loop-d-preserved : goal.loop-d-preserved
 loop-d-preserved c =
     let w = written_more c.loop-d.invariant.1 c.put_depth-end.ensures.0 in

@@ -1,5 +1,5 @@
 -- `column_trie_listing::put_text` meets its contract: layer after layer.
-use Prim.Native.Nat.{◌*◌, ◌-◌, ◌≤◌, ◌^◌}
+use Prim.Native.Nat.{◌*◌, ◌≤◌, ◌^◌}
 use lib.ListN.{take}
 use Rattle.column_trie.specs.Table.{layers_in}
 use Rattle.layer_text.specs.Text.{text}
@@ -8,6 +8,3 @@ use Rattle.column_trie_listing.proofs.put_text.Given as goal
 
 abbrev pub invariant-loop-d : goal.invariant-loop-d
 invariant-loop-d l = (l.d ≤ l.t.arity) × PieceWritten l.initial.bytes l.bytes 0 (text (take l.d (layers_in l.pool l.t))) l.end × (l.end ≤ 2 ^ 32 * l.d)
-
-abbrev pub decreases-loop-d : goal.decreases-loop-d
-decreases-loop-d l = l.t.arity - l.d

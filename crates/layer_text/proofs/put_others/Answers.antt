@@ -9,29 +9,29 @@ use Rattle.layer_text.specs.Text.{others}
 use Rattle.layer_text.proofs.Texts.{none_others, others_more, written_none, written_more, written_as}
 use Rattle.layer_text.proofs.put_others.Goals as goal
 
-pub loop-i-init : goal.loop-i-init
-loop-i-init c = (omega arith, written_as (sym none_others) (written_none c.args.text.now c.args.at), omega arith)
+pub loop-word-init : goal.loop-word-init
+loop-word-init c = (written_as (sym none_others) (written_none c.args.text.now c.args.at), omega arith)
 
 pub put-end-requires : goal.put-end-requires
 put-end-requires c =
-    omega (arith, c.requires, c.loop-i.invariant.2, c.loop-i-test.true)
+    omega (arith, c.requires, c.loop-word.invariant.1, c.loop-word-test.true)
 
 pub put_number-end-requires : goal.put_number-end-requires
 put_number-end-requires c =
-    omega (arith, c.requires, c.loop-i.invariant.2, c.loop-i-test.true, c.put-end.ensures.ends)
+    omega (arith, c.requires, c.loop-word.invariant.1, c.loop-word-test.true, c.put-end.ensures.ends)
 
-pub loop-i-preserved : goal.loop-i-preserved
-loop-i-preserved c =
+pub loop-word-preserved : goal.loop-word-preserved
+loop-word-preserved c =
     let xs = c.args.words.now in
-    let e = ap (λ (n : ℕ). others (take n xs)) (add-one c.loop-i.i) ∙ others_more xs c.loop-i.i c.loop-i-test.true in
-    let w = written_more c.loop-i.invariant.1 (written_more c.put-end.ensures c.put_number-end.ensures.0) in
-    (omega arith, written_as (sym e) w, omega (arith, c.loop-i.invariant.2, c.put-end.ensures.ends, c.put_number-end.ensures.1))
+    let e = ap (λ (n : ℕ). others (take n xs)) (add-one c.loop-word.word-index) ∙ others_more xs c.loop-word.word-index c.loop-word-test.true in
+    let w = written_more c.loop-word.invariant.0 (written_more c.put-end.ensures c.put_number-end.ensures.0) in
+    (written_as (sym e) w, omega (arith, c.loop-word.invariant.1, c.put-end.ensures.ends, c.put_number-end.ensures.1))
 
 pub shape_of-text : goal.shape_of-text
-shape_of-text c = c.loop-i.invariant.1.room
+shape_of-text c = c.loop-word.invariant.0.room
 
 pub returns : goal.returns
 returns c =
-    let l = c.loop-i in
+    let l = c.loop-word in
     let xs = c.args.words.now in
-    (written_as (ap others (take_all l.i xs c.loop-i-test.false)) l.invariant.1, omega (arith, l.invariant.2, l.invariant.0))
+    (written_as (ap others (take_all l.word-index xs c.loop-word-test.false)) l.invariant.0, omega (arith, l.invariant.1, l.auto.word-index-end))
