@@ -3,7 +3,8 @@
 
 ghost use Rattle.std.specs.Prelude.{◌≡◌, ◌+◌, ◌*◌, ◌≤◌, ◌<◌, length, take, drop};
 ghost use Rattle.relation.specs.Rows.{same};
-ghost use Rattle.table_file.specs.File.{end, rows_read, ascending, parse};
+ghost use Rattle.table_file.specs.Bytes.{Bytes};
+ghost use Rattle.table_file.specs.File.{end, ascending, parse};
 ghost use Rattle.table_file.specs.Places.{place};
 ghost use Rattle.file_check.specs.Checks.{field_rows, counted, kinds_ok, head_len, given, rows_from, HasRows, checked};
 
@@ -16,42 +17,6 @@ fn ends_at(bytes: &[u8], at: usize) -> bool
     ensures { result ≡ same (drop at bytes.now) end }
 {
     bytes[at..] == [3, 0, 0]
-}
-
-// How many rows the field of rows at `at` holds, if one is there that a file may have.
-fn rows_at(bytes: &[u8], at: usize, arity: usize) -> Option<usize>
-    requires { (at ≤ length bytes.now) × (0 < arity) × (arity ≤ 8) }
-    ensures { result ≡ field_rows arity (drop at bytes.now) }
-{
-    if bytes.len() - at < 3 || bytes[at] != 2 {
-        return None;
-    }
-    let size = 8 * arity;
-    let len = read_number(bytes, at + 1, 2) as usize;
-    if len == 0 || len % size != 0 || bytes.len() - at - 3 < len {
-        return None;
-    }
-    let n = len / size;
-    if n == 65535 / size || ends_at(bytes, at + 3 + len) {
-        Some(n)
-    } else {
-        None
-    }
-}
-
-// How many rows the fields from `at` on hold, if the bytes from there are fields of rows and then the end.
-fn count_rows(bytes: &[u8], at: usize, arity: usize) -> Option<usize>
-    requires { (at ≤ length bytes.now) × (0 < arity) × (arity ≤ 8) }
-    ensures { result ≡ counted (rows_read (length bytes.now) arity (drop at bytes.now)) }
-{
-    let mut p = at;
-    let mut n = 0;
-    while !ends_at(bytes, p) {
-        let k = rows_at(bytes, p, arity)?;
-        p += 3 + 8 * (k * arity);
-        n += k;
-    }
-    Some(n)
 }
 
 // Whether the n bytes at `at` are kinds, not all plain.
@@ -98,26 +63,78 @@ pub fn row_place(at: usize, arity: usize, i: usize) -> usize
     at + (3 * (field + 1) + 8 * (i * arity))
 }
 
-// Whether the n rows from `at` on ascend. Each is read once: the last one is kept.
-fn rows_ascend(bytes: &[u8], at: usize, arity: usize, n: usize) -> bool
-    requires { HasRows bytes.now at arity n }
-    ensures { result ≡ ascending (given (rows_from bytes.now at arity)) }
-{
-    if n == 0 {
-        return true;
-    }
-    let first = row_place(at, arity, 0);
-    let mut last = read_row(bytes, first, arity);
-    for i in 1..n {
-        let place = row_place(at, arity, i);
-        let row = read_row(bytes, place, arity);
-        let rises = last[..arity] < row[..arity];
-        if !rises {
-            return false;
+// What lies behind the head: from `at` on fields of rows of that arity, if the bytes are a file.
+#[derive(Clone, Copy)]
+struct Body<'a> {
+    bytes: &'a [u8],
+    at: usize,
+    arity: usize,
+    ghost inside: { at ≤ length bytes.now },
+    ghost some: { 0 < arity },
+    ghost few: { arity ≤ 8 },
+    // What a type says of its slice is not at hand where the slice is a field.
+    ghost each: { Bytes bytes.now },
+}
+
+impl<'a> Body<'a> {
+    // How many rows the field of rows at p holds, if one is there that a file may have.
+    fn rows_at(&self, p: usize) -> Option<usize>
+        requires { p ≤ length self.now.bytes.now }
+        ensures { result ≡ field_rows self.now.arity (drop p self.now.bytes.now) }
+    {
+        let bytes = self.bytes;
+        if bytes.len() - p < 3 || bytes[p] != 2 {
+            return None;
         }
-        last = row;
+        let size = 8 * self.arity;
+        let len = read_number(bytes, p + 1, 2) as usize;
+        if len == 0 || len % size != 0 || bytes.len() - p - 3 < len {
+            return None;
+        }
+        let n = len / size;
+        if n == 65535 / size || ends_at(bytes, p + 3 + len) {
+            Some(n)
+        } else {
+            None
+        }
     }
-    true
+
+    // How many rows the fields hold, if the bytes are fields of rows and then the end.
+    fn count(&self) -> Option<usize>
+        ensures { result ≡ counted (rows_from self.now.bytes.now self.now.at self.now.arity) }
+    {
+        let mut p = self.at;
+        let mut n = 0;
+        while !ends_at(self.bytes, p) {
+            let k = self.rows_at(p)?;
+            p += 3 + 8 * (k * self.arity);
+            n += k;
+        }
+        Some(n)
+    }
+
+    // Whether the n rows ascend. Each is read once: the last one is kept.
+    fn ascends(&self, n: usize) -> bool
+        requires { HasRows self.now.bytes.now self.now.at self.now.arity n }
+        ensures { result ≡ ascending (given (rows_from self.now.bytes.now self.now.at self.now.arity)) }
+    {
+        if n == 0 {
+            return true;
+        }
+        let arity = self.arity;
+        let first = row_place(self.at, arity, 0);
+        let mut last = read_row(self.bytes, first, arity);
+        for i in 1..n {
+            let place = row_place(self.at, arity, i);
+            let row = read_row(self.bytes, place, arity);
+            let rises = last[..arity] < row[..arity];
+            if !rises {
+                return false;
+            }
+            last = row;
+        }
+        true
+    }
 }
 
 #[derive(Clone, Copy)]
@@ -133,8 +150,13 @@ pub fn check(bytes: &[u8]) -> Option<Checked>
 {
     let body = head_len(bytes)?;
     let arity = usize::from(bytes[3]);
-    let rows = count_rows(bytes, body, arity)?;
-    if rows_ascend(bytes, body, arity, rows) {
+    let fields = Body {
+        bytes,
+        at: body,
+        arity,
+    };
+    let rows = fields.count()?;
+    if fields.ascends(rows) {
         Some(Checked { arity, body, rows })
     } else {
         None

@@ -15,7 +15,8 @@ use column_trie::{ColumnTrie, layer_at};
 use file_bytes::put_word;
 use row_path::next_path;
 
-// Writes row i from `at` on. The path is that of the row before, and becomes that of row i.
+// Writes row i from `at` on. The path is that of the row before, and becomes that of row i. The parameters are no struct: lent as `&mut self`, pool and
+// header might change, and each contract would have to say that they stay.
 fn put_row(
     bytes: &mut [u8],
     at: usize,

@@ -16,8 +16,10 @@ returns-in_err-body c = c.from_residual.ensures ∙ sym (not_begun c.args.bytes.
 pub bounds-bytes-3 : goal.bounds-bytes-3
 bounds-bytes-3 c = omega (arith, (begun c.args.bytes.now c.in_ok-body.ensures).long)
 
-pub count_rows-requires : goal.count_rows-requires
-count_rows-requires c = let g = begun c.args.bytes.now c.in_ok-body.ensures in (g.inside, omega (arith, g.some, c.from-arity.ensures), omega (arith, g.few, c.from-arity.ensures))
+pub invariant_of-fields : goal.invariant_of-fields
+invariant_of-fields c =
+    let g = begun c.args.bytes.now c.in_ok-body.ensures in
+    record { inside = g.inside; some = omega (arith, g.some, c.from-arity.ensures); few = omega (arith, g.few, c.from-arity.ensures); each = λ i. omega (arith, c.type_inv.bytes i) }
 
 -- the arity is the head's
 module _ (c : In_ok-rows) where
@@ -28,15 +30,15 @@ pub returns-in_err-rows : goal.returns-in_err-rows
 returns-in_err-rows c =
     c.from_residual-in_err-rows.ensures ∙ sym (check_rows c.args.bytes.now (begun c.args.bytes.now c.in_ok-body.ensures) (c.in_err-rows.ensures ∙ ap (λ (a : ℕ). counted (rows_from c.args.bytes.now c.in_ok-body.body a)) c.from-arity.ensures))
 
-pub rows_ascend-requires : goal.rows_ascend-requires
-rows_ascend-requires c = rw c.from-arity.ensures (has_rows c.args.bytes.now (begun c.args.bytes.now c.in_ok-body.ensures) (counted_rows c))
+pub ascends-requires : goal.ascends-requires
+ascends-requires c = rw c.from-arity.ensures (has_rows c.args.bytes.now (begun c.args.bytes.now c.in_ok-body.ensures) (counted_rows (goal.at.ascends-requires c).In_ok-rows))
 
-pub returns-then-rows_ascend : goal.returns-then-rows_ascend
-returns-then-rows_ascend c =
-    let rise = ap (λ (a : ℕ). ascending (given (rows_from c.args.bytes.now c.in_ok-body.body a))) (sym c.from-arity.ensures) ∙ sym c.rows_ascend.ensures ∙ c.if-rows_ascend.true in
-    rw c.from-arity.ensures (sym (check_good c.args.bytes.now (begun c.args.bytes.now c.in_ok-body.ensures) (counted_rows (goal.at.returns-then-rows_ascend c).In_ok-rows) rise))
+pub returns-then-ascends : goal.returns-then-ascends
+returns-then-ascends c =
+    let rise = ap (λ (a : ℕ). ascending (given (rows_from c.args.bytes.now c.in_ok-body.body a))) (sym c.from-arity.ensures) ∙ sym c.ascends.ensures ∙ c.if-ascends.true in
+    rw c.from-arity.ensures (sym (check_good c.args.bytes.now (begun c.args.bytes.now c.in_ok-body.ensures) (counted_rows (goal.at.returns-then-ascends c).In_ok-rows) rise))
 
-pub returns-else-rows_ascend : goal.returns-else-rows_ascend
-returns-else-rows_ascend c =
-    let fall = ap (λ (a : ℕ). ascending (given (rows_from c.args.bytes.now c.in_ok-body.body a))) (sym c.from-arity.ensures) ∙ sym c.rows_ascend.ensures ∙ c.if-rows_ascend.false in
-    sym (check_falls c.args.bytes.now (begun c.args.bytes.now c.in_ok-body.ensures) (counted_rows (goal.at.returns-else-rows_ascend c).In_ok-rows) fall)
+pub returns-else-ascends : goal.returns-else-ascends
+returns-else-ascends c =
+    let fall = ap (λ (a : ℕ). ascending (given (rows_from c.args.bytes.now c.in_ok-body.body a))) (sym c.from-arity.ensures) ∙ sym c.ascends.ensures ∙ c.if-ascends.false in
+    sym (check_falls c.args.bytes.now (begun c.args.bytes.now c.in_ok-body.ensures) (counted_rows (goal.at.returns-else-ascends c).In_ok-rows) fall)

@@ -12,37 +12,37 @@ use Rattle.file_check.specs.Checks.{given, rows_from}
 use Rattle.file_check.proofs.Compares.{is_before}
 use Rattle.file_check.proofs.Whole.{ascended_none, ascended_next, ascended_falls, ascended_no_rows, ascended_all, row_inside, row_is}
 use borrow.Author.Rules.{rules}
-use Rattle.file_check.proofs.rows_ascend.Goals as goal
-use Rattle.file_check.proofs.rows_ascend.Goals.{After-read_row-row, Else-n-eq0}
+use Rattle.file_check.proofs.Body.ascends.Goals as goal
+use Rattle.file_check.proofs.Body.ascends.Goals.{After-read_row-row, Else-n-eq0}
 
 -- what the function is handed
 module _ (k : Else-n-eq0) where
   abbrev a : ℕ
-  a = k.args.arity
+  a = k.args.self.now.arity
 
   abbrev rows : List Row
-  rows = given (rows_from k.args.bytes.now k.args.at a)
+  rows = given (rows_from k.args.self.now.bytes.now k.args.self.now.at a)
 
-  byte : Bytes k.args.bytes.now
-  byte i = omega (arith, k.type_inv.bytes i)
+  byte : Bytes k.args.self.now.bytes.now
+  byte = k.args.self.now.each
 
-  inside : (i : ℕ) → i < k.args.n → k.args.at + place a i + 8 * a ≤ length k.args.bytes.now
+  inside : (i : ℕ) → i < k.args.n → k.args.self.now.at + place a i + 8 * a ≤ length k.args.self.now.bytes.now
   inside i h = row_inside byte k.requires i h
 
-  placed : (i : ℕ) → i < k.args.n → (0 < a) × (a ≤ 8) × (k.args.at + place a i < 18446744073709551616)
+  placed : (i : ℕ) → i < k.args.n → (0 < a) × (a ≤ 8) × (k.args.self.now.at + place a i < 18446744073709551616)
   placed i h = (k.requires.some, k.requires.few, omega (arith, inside i h, k.well_formed))
 
-  seated : (i : ℕ) → i < k.args.n → (y : ℕ) → y ≡ k.args.at + place a i → (a ≤ max_arity) × (y + 8 * a ≤ length k.args.bytes.now)
+  seated : (i : ℕ) → i < k.args.n → (y : ℕ) → y ≡ k.args.self.now.at + place a i → (a ≤ max_arity) × (y + 8 * a ≤ length k.args.self.now.bytes.now)
   seated i h y e = (k.requires.few, omega (arith, inside i h))
 
-  there : (i : ℕ) → i < k.args.n → (y : ℕ) (row : List ℕ) → y ≡ k.args.at + place a i → take a row ≡ decode a (drop y k.args.bytes.now) → take a row ≡ get_or rows i []
-  there i h y row q e = e ∙ ap (λ (z : ℕ). decode a (drop z k.args.bytes.now)) q ∙ row_is byte k.requires i h
+  there : (i : ℕ) → i < k.args.n → (y : ℕ) (row : List ℕ) → y ≡ k.args.self.now.at + place a i → take a row ≡ decode a (drop y k.args.self.now.bytes.now) → take a row ≡ get_or rows i []
+  there i h y row q e = e ∙ ap (λ (z : ℕ). decode a (drop z k.args.self.now.bytes.now)) q ∙ row_is byte k.requires i h
 
 row_long : (c : After-read_row-row) → length c.read_row-row.result ≡ max_arity
 row_long c = search rules
 
 pub returns-then-n-eq0 : goal.returns-then-n-eq0
-returns-then-n-eq0 c = sym (ascended_no_rows (λ i. omega (arith, c.type_inv.bytes i)) c.requires c.if-n-eq0.true)
+returns-then-n-eq0 c = sym (ascended_no_rows c.args.self.now.each c.requires c.if-n-eq0.true)
 
 pub read_row-last-requires : goal.read_row-last-requires
 read_row-last-requires c = seated (goal.at.read_row-last-requires c).Else-n-eq0 0 (omega (arith, c.if-n-eq0.false)) c.row_place-first.result c.row_place-first.ensures
@@ -75,4 +75,4 @@ loop-i-preserved c =
     )
 
 pub returns : goal.returns
-returns c = sym (ascended_all (λ i. omega (arith, c.type_inv.bytes i)) c.requires c.loop-i.invariant.0 c.loop-i-test.false)
+returns c = sym (ascended_all c.args.self.now.each c.requires c.loop-i.invariant.0 c.loop-i-test.false)

@@ -6,7 +6,7 @@ use lib.ListN.{length, take, get_or}
 use Rattle.column_trie.specs.Limits.{max_arity}
 use Rattle.file_check.specs.Checks.{given, rows_from}
 use Rattle.file_check.proofs.Whole.{Ascended}
-use Rattle.file_check.proofs.rows_ascend.Given as goal
+use Rattle.file_check.proofs.Body.ascends.Given as goal
 
 abbrev pub invariant-loop-i : goal.invariant-loop-i
-invariant-loop-i l = Ascended (given (rows_from l.bytes l.at l.arity)) l.i × (length l.last ≡ max_arity) × (take l.arity l.last ≡ get_or (given (rows_from l.bytes l.at l.arity)) (l.i - 1) [])
+invariant-loop-i l = Ascended (given (rows_from l.self.bytes.now l.self.at l.self.arity)) l.i × (length l.last ≡ max_arity) × (take l.self.arity l.last ≡ get_or (given (rows_from l.self.bytes.now l.self.at l.self.arity)) (l.i - 1) [])
