@@ -11,18 +11,16 @@ ghost use Rattle.layer_text.specs.Text.{layer_text, text};
 ghost use Rattle.layer_text.specs.Piece.{PieceWritten};
 ghost use Rattle.column_trie_listing.specs.List.{Lists};
 
-use column_trie::{ColumnTrie, layer_intervals, layer_keys, undamaged};
+use column_trie::{ColumnTrie, Sound, undamaged};
 use layer_text::put_layer;
 use refusal::Refusal;
 
 // Layer d of the table, read from the pool.
-fn put_depth(text: &mut [u8], at: usize, pool: &[u64], t: ColumnTrie, d: usize) -> usize
-    requires { (header_sound (length pool.now) t ≡ true) × (d < t.arity) × (at + 2 ^ 32 ≤ 2 ^ 63) }
-    ensures { PieceWritten text.old text.new at (layer_text d (layer_in pool.now t d)) result × (result ≤ at + 2 ^ 32) }
+fn put_depth(text: &mut [u8], at: usize, table: &Sound, d: usize) -> usize
+    requires { (d < table.now.table.arity) × (at + 2 ^ 32 ≤ 2 ^ 63) }
+    ensures { PieceWritten text.old text.new at (layer_text d (layer_in table.now.pool.now table.now.table d)) result × (result ≤ at + 2 ^ 32) }
 {
-    let data = layer_keys(pool, t, d);
-    let interval = layer_intervals(pool, t, d);
-    put_layer(text, at, d, data, interval)
+    put_layer(text, at, d, table.layer_keys(d), table.layer_intervals(d))
 }
 
 // The whole text, at the front of the buffer.
@@ -30,9 +28,10 @@ fn put_text(bytes: &mut [u8], pool: &[u64], t: ColumnTrie) -> usize
     requires { undamaged pool.now t ≡ true }
     ensures { PieceWritten bytes.old bytes.new 0 (text (layers_in pool.now t)) result }
 {
+    let table = Sound { pool, table: t };
     let mut end = 0;
     for d in 0..t.arity {
-        end = put_depth(bytes, end, pool, t, d);
+        end = put_depth(bytes, end, &table, d);
     }
     end
 }

@@ -36,9 +36,12 @@ more s d h =
 pub loop-d-init : goal.loop-d-init
 loop-d-init c = (omega arith, written_as (sym no_text) (written_none c.args.bytes.now 0), omega arith)
 
+pub invariant_of-table-clause-sound : goal.invariant_of-table-clause-sound
+invariant_of-table-clause-sound c = undamaged_header c.args.pool.now c.args.t c.requires
+
 pub put_depth-end-requires : goal.put_depth-end-requires
 put_depth-end-requires c =
-    (undamaged_header c.args.pool.now c.args.t c.requires, c.loop-d-test.true, omega (arith, sound (goal.at.put_depth-end-requires c).Start, c.loop-d.invariant.2, c.loop-d-test.true))
+    (c.loop-d-test.true, omega (arith, sound (goal.at.put_depth-end-requires c).Start, c.loop-d.invariant.2, c.loop-d-test.true))
 
 pub loop-d-preserved : goal.loop-d-preserved
 loop-d-preserved c =
