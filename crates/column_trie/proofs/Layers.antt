@@ -16,6 +16,7 @@ use Rattle.relation.proofs.Tests.{and_false_left, and_false_right}
 use Rattle.column_trie.specs.Limits.{max_arity}
 use Rattle.column_trie.specs.Pool.{spot, reads}
 use Rattle.column_trie.specs.Table.{data_len_at, interval_len_at, layers_in, layer_in}
+pub use Rattle.column_trie.specs.Table.{Whole}
 use Rattle.column_trie.specs.declared.ColumnTrie.{ColumnTrie}
 use Rattle.column_trie.proofs.Header.{InPool, layer_fits, length_part}
 
@@ -31,11 +32,6 @@ reads_at at c [] ns pool d e h = absurd (omega arith)
 reads_at at c (k ∷ ks) [] pool d e h = absurd (omega arith)
 reads_at at c (k ∷ ks) (n ∷ ns) pool zero e h = refl
 reads_at at c (k ∷ ks) (n ∷ ns) pool (suc d) e h = reads_at (at + c + c) c ks ns pool d (omega arith) (omega arith)
-
--- a header's arrays of lengths have one entry for each depth: what the type says of them
-pub record Whole (t : ColumnTrie) : Type 0 where
-  pub data_long : length t.data_len ≡ max_arity
-  pub interval_long : length t.interval_len ≡ max_arity
 
 module _ (pool : List ℕ) (t : ColumnTrie) (o : Whole t) (few : t.arity ≤ max_arity) where
   as_long : (length (take t.arity t.data_len) ≡ t.arity) × (length (take t.arity t.interval_len) ≡ t.arity)

@@ -60,6 +60,11 @@ table_of start arity capacity kinds rows = header start arity capacity kinds (la
 abbrev pub refilled : ColumnTrie → List Row → ColumnTrie
 refilled t rows = table_of t.start t.arity t.capacity t.grade rows
 
+-- a header's arrays of lengths have one entry for each depth: what the type says of them
+pub record Whole (t : ColumnTrie) : Type 0 where
+  pub data_long : length t.data_len ≡ max_arity
+  pub interval_long : length t.interval_len ≡ max_arity
+
 -- of a table without rows, all columns plain
 abbrev pub empty_table : ℕ → ℕ → ℕ → ColumnTrie
 empty_table start arity capacity = header_with start arity capacity (replicate max_arity 0) (replicate max_arity 0) 0 (replicate max_arity false)

@@ -12,7 +12,7 @@ ghost use Rattle.relation.specs.Undamaged.{chain, linked};
 ghost use Rattle.column_trie.specs.Groups.{group_of};
 ghost use Rattle.column_trie.specs.Limits.{max_arity, max_capacity};
 ghost use Rattle.column_trie.specs.Pool.{spot};
-ghost use Rattle.column_trie.specs.Table.{empty_table, data_len_at, arity_ok, capacity_ok, lies_in, within_at, header_sound, past_at, layers_in, layer_in, undamaged};
+ghost use Rattle.column_trie.specs.Table.{Whole, empty_table, data_len_at, arity_ok, capacity_ok, lies_in, within_at, header_sound, past_at, layers_in, layer_in, undamaged};
 
 use layer_sound::layer_sound;
 
@@ -120,55 +120,6 @@ fn part<'a>(pool: &'a [u64], from: usize, n: usize) -> &'a [u64]
     &pool[from..from + n]
 }
 
-// The keys of layer d.
-pub fn layer_keys<'a>(pool: &'a [u64], t: ColumnTrie, d: usize) -> &'a [u64]
-    requires { (header_sound (length pool.now) t ≡ true) × (d < t.arity) }
-    ensures { result.now ≡ (layer_in pool.now t d).keys }
-{
-    part(pool, layer_at(t, d), t.data_len[d])
-}
-
-// The intervals of layer d.
-pub fn layer_intervals<'a>(pool: &'a [u64], t: ColumnTrie, d: usize) -> &'a [u64]
-    requires { (header_sound (length pool.now) t ≡ true) × (d < t.arity) }
-    ensures { result.now ≡ (layer_in pool.now t d).intervals }
-{
-    part(pool, layer_at(t, d) + t.capacity, t.interval_len[d])
-}
-
-// Whether layer d has `above` intervals, one for each key above it, and is sound.
-fn layer_linked(pool: &[u64], t: ColumnTrie, d: usize, above: usize) -> bool
-    requires { (header_sound (length pool.now) t ≡ true) × (d < t.arity) }
-    ensures { result ≡ linked above (layer_in pool.now t d) }
-{
-    t.interval_len[d] == above && layer_sound(layer_intervals(pool, t, d), layer_keys(pool, t, d))
-}
-
-// Layer 0 has one interval, or none in a table without keys; each lower layer has one for each key above.
-fn layers_linked(pool: &[u64], t: ColumnTrie) -> bool
-    requires { header_sound (length pool.now) t ≡ true }
-    ensures { result ≡ (chain 0 (layers_in pool.now t) || chain 1 (layers_in pool.now t)) }
-{
-    let mut above = if t.data_len[0] == 0 { 0 } else { 1 };
-    for d in 0..t.arity {
-        if !layer_linked(pool, t, d, above) {
-            return false;
-        }
-        above = t.data_len[d];
-    }
-    true
-}
-
-// Whether the table is undamaged. It reads the table's used words, and nothing else of the pool.
-pub fn undamaged(pool: &[u64], t: ColumnTrie) -> bool
-    ensures { result ≡ undamaged pool.now t }
-{
-    header_sound(pool.len(), t)
-        && past_arity(t)
-        && t.tuple_count == t.data_len[t.arity - 1]
-        && layers_linked(pool, t)
-}
-
 // Interval i of the list of n words at `at`, or what stands for one past its end.
 pub fn interval_or(pool: &[u64], at: usize, n: usize, i: usize, past: usize) -> usize
     requires { at + n ≤ length pool.now }
@@ -180,15 +131,6 @@ pub fn interval_or(pool: &[u64], at: usize, n: usize, i: usize, past: usize) -> 
     }
 }
 
-// Where the children of interval i of layer d start: past the last interval, behind all keys.
-pub fn begins(pool: &[u64], t: ColumnTrie, d: usize, i: usize) -> usize
-    requires { (header_sound (length pool.now) t ≡ true) × (d < t.arity) }
-    ensures { result ≡ get_or (layer_in pool.now t d).intervals i (data_len_at t d) }
-{
-    let at = layer_at(t, d) + t.capacity;
-    interval_or(pool, at, t.interval_len[d], i, t.data_len[d])
-}
-
 // A group of a layer, by places in the layer's data.
 #[derive(Clone, Copy)]
 pub struct Group {
@@ -196,18 +138,96 @@ pub struct Group {
     pub to: usize,
 }
 
-// The group of interval i in layer d; none where interval or group is outside its list.
-pub fn group_of(pool: &[u64], table: ColumnTrie, d: usize, i: usize) -> Option<Group>
-    requires { (header_sound (length pool.now) table ≡ true) × (d < table.arity) }
-    ensures { result ≡ group_of (layer_in pool.now table d) i }
+// A table whose header is sound for the pool that it lies in: all that it takes to read the table's words, whatever they are.
+#[derive(Clone, Copy)]
+pub struct Sound<'a> {
+    pub pool: &'a [u64],
+    pub table: ColumnTrie,
+    ghost sound: { header_sound (length pool.now) table ≡ true },
+
+    // How long the table's arrays are: a type says it, but not of a struct in a struct behind a reference.
+    ghost whole: { Whole table },
+}
+
+impl<'a> Sound<'a> {
+    // The keys of layer d.
+    pub fn layer_keys(&self, d: usize) -> &'a [u64]
+        requires { d < self.now.table.arity }
+        ensures { result.now ≡ (layer_in self.now.pool.now self.now.table d).keys }
+    {
+        part(self.pool, layer_at(self.table, d), self.table.data_len[d])
+    }
+
+    // The intervals of layer d.
+    pub fn layer_intervals(&self, d: usize) -> &'a [u64]
+        requires { d < self.now.table.arity }
+        ensures { result.now ≡ (layer_in self.now.pool.now self.now.table d).intervals }
+    {
+        let at = layer_at(self.table, d) + self.table.capacity;
+        part(self.pool, at, self.table.interval_len[d])
+    }
+
+    // Whether layer d has `above` intervals, one for each key above it, and is sound.
+    fn layer_linked(&self, d: usize, above: usize) -> bool
+        requires { d < self.now.table.arity }
+        ensures { result ≡ linked above (layer_in self.now.pool.now self.now.table d) }
+    {
+        self.table.interval_len[d] == above
+            && layer_sound(self.layer_intervals(d), self.layer_keys(d))
+    }
+
+    // Layer 0 has one interval, or none in a table without keys; each lower layer has one for each key above.
+    fn layers_linked(&self) -> bool
+        ensures { result ≡ (chain 0 (layers_in self.now.pool.now self.now.table) || chain 1 (layers_in self.now.pool.now self.now.table)) }
+    {
+        let mut above = if self.table.data_len[0] == 0 { 0 } else { 1 };
+        for d in 0..self.table.arity {
+            if !self.layer_linked(d, above) {
+                return false;
+            }
+            above = self.table.data_len[d];
+        }
+        true
+    }
+
+    // Where the children of interval i of layer d start: past the last interval, behind all keys.
+    pub fn begins(&self, d: usize, i: usize) -> usize
+        requires { d < self.now.table.arity }
+        ensures { result ≡ get_or (layer_in self.now.pool.now self.now.table d).intervals i (data_len_at self.now.table d) }
+    {
+        let at = layer_at(self.table, d) + self.table.capacity;
+        interval_or(
+            self.pool,
+            at,
+            self.table.interval_len[d],
+            i,
+            self.table.data_len[d],
+        )
+    }
+
+    // The group of interval i in layer d; none where interval or group is outside its list.
+    pub fn group_of(&self, d: usize, i: usize) -> Option<Group>
+        requires { d < self.now.table.arity }
+        ensures { result ≡ group_of (layer_in self.now.pool.now self.now.table d) i }
+    {
+        if self.table.interval_len[d] <= i {
+            return None;
+        }
+        let from = self.begins(d, i);
+        let to = self.begins(d, i + 1);
+        if to < from || self.table.data_len[d] < to {
+            return None;
+        }
+        Some(Group { from, to })
+    }
+}
+
+// Whether the table is undamaged. It reads the table's used words, and nothing else of the pool.
+pub fn undamaged(pool: &[u64], t: ColumnTrie) -> bool
+    ensures { result ≡ undamaged pool.now t }
 {
-    if table.interval_len[d] <= i {
-        return None;
-    }
-    let from = begins(pool, table, d, i);
-    let to = begins(pool, table, d, i + 1);
-    if to < from || table.data_len[d] < to {
-        return None;
-    }
-    Some(Group { from, to })
+    header_sound(pool.len(), t)
+        && past_arity(t)
+        && t.tuple_count == t.data_len[t.arity - 1]
+        && Sound { pool, table: t }.layers_linked()
 }

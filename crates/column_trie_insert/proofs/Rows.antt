@@ -24,7 +24,7 @@ use Rattle.column_trie.proofs.Layers.{Whole}
 use Rattle.column_trie.proofs.Tables.{Holds}
 use Rattle.layer_by_layer.specs.Grow.{grown}
 use Rattle.layer_by_layer.specs.Relay.{Relaid}
-use Rattle.layer_by_layer.proofs.Changing.{Change, Changing, pool_long, out_sound, out_arity, out_capacity, layer_old, key_count, interval_count, interval_word, changing_step, changed_words, changed_header}
+use Rattle.layer_by_layer.proofs.Changing.{Change, Changing, pool_long, out_sound, out_whole, out_arity, out_capacity, layer_old, key_count, interval_count, interval_word, changing_step, changed_words, changed_header}
 use Rattle.layer_by_layer.proofs.Leaves.{Leaves, leaves_at, grown_is, leaves_deeper}
 use Rattle.column_trie_insert.specs.Grow.{Roomy}
 
@@ -55,6 +55,9 @@ module _ {pool₀ : List ℕ} {t : ColumnTrie} {rows : List Row} {r : Row} (y : 
 
     pub grown_sound : header_sound (length pool) out ≡ true
     grown_sound = out_sound change g.layers
+
+    pub grown_whole : Whole out
+    grown_whole = out_whole change g.layers
 
     module _ (h : d < t.arity) where
       pub inside_out : d < out.arity

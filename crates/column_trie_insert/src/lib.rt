@@ -12,7 +12,7 @@ ghost use Rattle.layer_by_layer.specs.Relay.{Relaid};
 ghost use Rattle.column_trie_insert.specs.Grow.{Roomy, Addable, RowAdded};
 ghost use Rattle.column_trie_insert.specs.Insert.{Inserts};
 
-use column_trie::{ColumnTrie, begins, layer_at, undamaged};
+use column_trie::{ColumnTrie, Sound, layer_at, undamaged};
 use column_trie_path::{Path, find_path, top};
 use refusal::Refusal;
 use wedge::{raise, wedge, wedge_raised};
@@ -58,7 +58,7 @@ fn add_row(pool: &mut [u64], t: ColumnTrie, tuple: &[u64], path: Path) -> Column
     let mut fresh = t.tuple_count == 0;
     for d in path.depth..t.arity {
         if fresh {
-            at = begins(pool, out, d, i);
+            at = Sound { pool, table: out }.begins(d, i);
         }
         out = add_layer(pool, out, d, i, at, tuple[d], fresh);
         i = at;

@@ -10,7 +10,7 @@
 ghost use Rattle.std.specs.Prelude.{◌≡◌};
 ghost use Rattle.column_trie_iter.specs.Cursor.{no_key, key_of, unmoved, next_of, unsought, sought_of, end_of, unopened, open_of, unrisen, up_of};
 
-use column_trie::ColumnTrie;
+use column_trie::{ColumnTrie, Sound};
 use column_trie_place::ColumnTrieIter;
 use refusal::Refusal;
 use seek::SeekStrategy;
@@ -159,7 +159,8 @@ pub fn open(pool: &[u64], table: ColumnTrie, iter: ColumnTrieIter) -> OpenAnswer
         return unopened(iter, 0);
     }
     let index = p.index;
-    if column_trie::group_of(pool, table, iter.depth, index).is_none() {
+    let sound = Sound { pool, table };
+    if sound.group_of(iter.depth, index).is_none() {
         return unopened(iter, Refusal::Damaged.number());
     }
     OpenAnswer {
@@ -190,7 +191,8 @@ pub fn up(pool: &[u64], table: ColumnTrie, iter: ColumnTrieIter) -> UpAnswer
             iter: ColumnTrieIter::new(),
         };
     }
-    match column_trie_place::owner_of(pool, table, iter.depth - 2, iter.interval_i) {
+    let sound = Sound { pool, table };
+    match column_trie_place::owner_of(&sound, iter.depth - 2, iter.interval_i) {
         None => unrisen(iter, Refusal::Damaged.number()),
         Some(o) => UpAnswer {
             number: 0,

@@ -12,18 +12,16 @@ ghost use Rattle.layer_text.specs.Piece.{PieceWritten};
 ghost use Rattle.layer_text.specs.Wrote.{Wrote};
 ghost use Rattle.column_trie_listing.specs.List.{Lists};
 
-use column_trie::{ColumnTrie, layer_intervals, layer_keys, undamaged};
+use column_trie::{ColumnTrie, Sound, undamaged};
 use layer_text::Writer;
 use refusal::Refusal;
 
 // Layer d of the table, read from the pool.
-fn put_depth(writer: &mut Writer, pool: &[u64], t: ColumnTrie, d: usize)
-    requires { (header_sound (length pool.now) t ≡ true) × (d < t.arity) × (writer.old.end + 2 ^ 32 ≤ 2 ^ 63) }
-    ensures { Wrote writer.old writer.new (layer_text d (layer_in pool.now t d)) × (writer.new.end ≤ writer.old.end + 2 ^ 32) }
+fn put_depth(writer: &mut Writer, table: &Sound, d: usize)
+    requires { (d < table.now.table.arity) × (writer.old.end + 2 ^ 32 ≤ 2 ^ 63) }
+    ensures { Wrote writer.old writer.new (layer_text d (layer_in table.now.pool.now table.now.table d)) × (writer.new.end ≤ writer.old.end + 2 ^ 32) }
 {
-    let data = layer_keys(pool, t, d);
-    let interval = layer_intervals(pool, t, d);
-    writer.layer(d, data, interval);
+    writer.layer(d, table.layer_keys(d), table.layer_intervals(d));
 }
 
 // The whole text, at the front of the buffer.
@@ -31,12 +29,13 @@ fn put_text(bytes: &mut [u8], pool: &[u64], t: ColumnTrie) -> usize
     requires { undamaged pool.now t ≡ true }
     ensures { PieceWritten bytes.old bytes.new 0 (text (layers_in pool.now t)) result }
 {
+    let table = Sound { pool, table: t };
     let mut writer = Writer {
         text: bytes,
         end: 0,
     };
     for d in 0..t.arity {
-        put_depth(&mut writer, pool, t, d);
+        put_depth(&mut writer, &table, d);
     }
     writer.end
 }

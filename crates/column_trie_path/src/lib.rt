@@ -5,7 +5,7 @@ ghost use Rattle.std.specs.Prelude.{◌≡◌, true, ◌<◌, length};
 ghost use Rattle.column_trie.specs.Table.{layer_in, rows_in, header_sound, undamaged};
 ghost use Rattle.column_trie_path.specs.Place.{Grouped, KeyPlaceOf, PathOf};
 
-use column_trie::{ColumnTrie, begins, layer_at};
+use column_trie::{ColumnTrie, Sound, layer_at};
 use seek::{SeekStrategy, partition_point};
 
 // Where a key stands in its group, or where it goes; whether the group has more than one key; and how many keys the search looked at. Nobody asks for
@@ -50,16 +50,16 @@ pub fn top() -> Path
 
 // Where `key` stands in the group of interval i of layer d, or where it goes. A group can be as long as the table, so it is searched by halving: no
 // more keys are looked at than the group's length has binary digits.
-pub fn find_place(pool: &[u64], t: ColumnTrie, d: usize, i: usize, key: u64) -> KeyPlace
-    requires { (header_sound (length pool.now) t ≡ true) × (d < t.arity) × Grouped (layer_in pool.now t d) i }
-    ensures { KeyPlaceOf (layer_in pool.now t d) i key result }
+pub fn find_place(table: &Sound, d: usize, i: usize, key: u64) -> KeyPlace
+    requires { (d < table.now.table.arity) × Grouped (layer_in table.now.pool.now table.now.table d) i }
+    ensures { KeyPlaceOf (layer_in table.now.pool.now table.now.table d) i key result }
 {
-    let from = begins(pool, t, d, i);
-    let to = begins(pool, t, d, i + 1);
-    let data_from = layer_at(t, d);
+    let from = table.begins(d, i);
+    let to = table.begins(d, i + 1);
+    let data_from = layer_at(table.table, d);
     let run_from = data_from + from;
     let run_to = data_from + to;
-    let run = &pool[run_from..run_to];
+    let run = &table.pool[run_from..run_to];
     let sought = partition_point(SeekStrategy::Binary, run, key);
     KeyPlace {
         at: from + sought.offset,
@@ -74,10 +74,11 @@ pub fn find_path(pool: &[u64], t: ColumnTrie, tuple: &[u64]) -> Path
     requires { (undamaged pool.now t ≡ true) × (length tuple.now ≡ t.arity) × (0 < t.tuple_count) }
     ensures { PathOf t.arity (rows_in pool.now t) tuple.now result }
 {
+    let table = Sound { pool, table: t };
     let mut i = 0;
     let mut fork = None;
     for d in 0..t.arity {
-        let p = find_place(pool, t, d, i, tuple[d]);
+        let p = find_place(&table, d, i, tuple[d]);
         if !p.there {
             return Path {
                 depth: d,

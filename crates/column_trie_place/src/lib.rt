@@ -7,12 +7,12 @@
 // The Rust's cursor holds the trie and the slice of its run; here the run is found anew, and what would panic there is refused.
 #![tactic(auto)]
 
-ghost use Rattle.std.specs.Prelude.{◌≡◌, true, ◌+◌, ◌<◌, ◌^◌, length};
-ghost use Rattle.column_trie.specs.Table.{layer_in, header_sound};
+ghost use Rattle.std.specs.Prelude.{◌≡◌, ◌+◌, ◌<◌, ◌^◌};
+ghost use Rattle.column_trie.specs.Table.{layer_in};
 ghost use Rattle.column_trie_place.specs.Checks.{at_root, past};
 ghost use Rattle.column_trie_place.specs.Inside.{place_below, Placed, has_children, owner_of};
 
-use column_trie::ColumnTrie;
+use column_trie::{ColumnTrie, Sound};
 use refusal::Refusal;
 
 // depth: 0 at the root, else one more than the number of the layer. interval_i: whose children are looked at. slice_offset: how many of them
@@ -65,21 +65,21 @@ pub struct Owner {
 }
 
 // The checks below the root, under a header that passed: 7, or where the cursor stands.
-fn place_below(pool: &[u64], table: ColumnTrie, iter: ColumnTrieIter) -> Result<Place, Refusal>
-    requires { (header_sound (length pool.now) table ≡ true) × (0 < iter.depth) }
-    ensures { result ≡ place_below pool.now table iter }
+fn place_below(sound: &Sound, iter: ColumnTrieIter) -> Result<Place, Refusal>
+    requires { 0 < iter.depth }
+    ensures { result ≡ place_below sound.now.pool.now sound.now.table iter }
 {
-    if table.arity < iter.depth {
+    if sound.table.arity < iter.depth {
         return Err(Refusal::BadCursor);
     }
     let d = iter.depth - 1;
-    let Some(g) = column_trie::group_of(pool, table, d, iter.interval_i) else {
+    let Some(g) = sound.group_of(d, iter.interval_i) else {
         return Err(Refusal::BadCursor);
     };
     if g.to - g.from < iter.slice_offset {
         return Err(Refusal::BadCursor);
     }
-    let layer = column_trie::layer_at(table, d);
+    let layer = column_trie::layer_at(sound.table, d);
     let index = g.from + iter.slice_offset;
     Ok(Place {
         index,
@@ -96,7 +96,7 @@ pub fn place_of(pool: &[u64], table: ColumnTrie, iter: ColumnTrieIter) -> Result
         return Err(Refusal::Damaged);
     }
     if 0 < iter.depth {
-        return place_below(pool, table, iter);
+        return place_below(&Sound { pool, table }, iter);
     }
     if iter.interval_i != 0 || iter.slice_offset != 0 {
         return Err(Refusal::BadCursor);
@@ -120,17 +120,17 @@ pub fn has_children(table: ColumnTrie, depth: usize, at: usize, end: usize) -> b
 
 // The owner of place i in layer d, if the words give one: the last interval that the halving rule counts as not above i. What it counts last is not
 // above i, on any list, so the offset can't fall below 0.
-pub fn owner_of(pool: &[u64], table: ColumnTrie, d: usize, i: usize) -> Option<Owner>
-    requires { (header_sound (length pool.now) table ≡ true) × (d < table.arity) × (i < table.capacity) }
-    ensures { result ≡ owner_of (layer_in pool.now table d) i }
+pub fn owner_of(sound: &Sound, d: usize, i: usize) -> Option<Owner>
+    requires { (d < sound.now.table.arity) × (i < sound.now.table.capacity) }
+    ensures { result ≡ owner_of (layer_in sound.now.pool.now sound.now.table d) i }
 {
-    let intervals = column_trie::layer_intervals(pool, table, d);
+    let intervals = sound.layer_intervals(d);
     let counted = seek::halve(intervals, i as u64 + 1, 0, intervals.len(), 0).offset;
     if counted == 0 {
         return None;
     }
     let owner = counted - 1;
-    let g = column_trie::group_of(pool, table, d, owner)?;
+    let g = sound.group_of(d, owner)?;
     if g.to <= i {
         return None;
     }

@@ -26,7 +26,7 @@ use Rattle.column_trie.proofs.Layers.{Whole}
 use Rattle.column_trie.proofs.Tables.{Holds}
 use Rattle.wedge.specs.Shift.{PositiveFrom}
 use Rattle.layer_by_layer.specs.Relay.{Relaid}
-use Rattle.layer_by_layer.proofs.Changing.{Change, Changing, pool_long, out_sound, out_arity, layer_old, key_count, interval_count, interval_word, changing_step, changed_words, changed_header}
+use Rattle.layer_by_layer.proofs.Changing.{Change, Changing, pool_long, out_sound, out_whole, out_arity, layer_old, key_count, interval_count, interval_word, changing_step, changed_words, changed_header}
 use Rattle.layer_by_layer.proofs.Leaves.{Leaves, leaves_at, grown_is, leaves_deeper}
 use Rattle.column_trie_remove.specs.Shrink.{shrunk, Shrinkable}
 use Rattle.column_trie_remove.proofs.Rest.{rank_same}
@@ -71,6 +71,9 @@ module _ {pool₀ : List ℕ} {t : ColumnTrie} {rest : List Row} {r : Row} (y : 
 
     pub cut_sound : header_sound (length pool) out ≡ true
     cut_sound = out_sound change g.layers
+
+    pub cut_whole : Whole out
+    cut_whole = out_whole change g.layers
 
     module _ (h : d < t.arity) where
       pub inside_out : d < out.arity

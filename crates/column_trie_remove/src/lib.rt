@@ -11,7 +11,7 @@ ghost use Rattle.layer_by_layer.specs.Relay.{Relaid};
 ghost use Rattle.column_trie_remove.specs.Shrink.{shrunk, Shrinkable, ForkedSome, ForkCut};
 ghost use Rattle.column_trie_remove.specs.Remove.{Removes};
 
-use column_trie::{ColumnTrie, begins, layer_at, undamaged};
+use column_trie::{ColumnTrie, Sound, layer_at, undamaged};
 use column_trie_path::{Fork, find_path};
 use refusal::Refusal;
 use wedge::{close, close_lowered, lower};
@@ -57,7 +57,7 @@ fn cut_row(pool: &mut [u64], t: ColumnTrie, fork: Option<Fork>) -> ColumnTrie
     };
     for d in depth..t.arity {
         if lone {
-            at = begins(pool, out, d, i);
+            at = Sound { pool, table: out }.begins(d, i);
         }
         out = cut_layer(pool, out, d, i, at, lone);
         i = at;

@@ -11,7 +11,7 @@ ghost use Rattle.table_file.specs.Bytes.{bytes_of, encode};
 ghost use Rattle.table_file.specs.File.{per_field, rows_field};
 ghost use Rattle.file_rows.specs.Rows.{fields_in, Putting, RowsPut, Laid};
 
-use column_trie::{ColumnTrie, layer_at};
+use column_trie::{ColumnTrie, Sound, layer_at};
 use file_bytes::put_word;
 use row_path::next_path;
 
@@ -28,7 +28,8 @@ fn put_row(
     requires { Putting pool.now t path.old i 1 at (length bytes.old) }
     ensures { RowsPut pool.now t i bytes.old at (encode (get_or (rows_in pool.now t) i [])) bytes.new path.new }
 {
-    next_path(pool, t, path, i);
+    let rows = Sound { pool, table: t };
+    next_path(&rows, path, i);
     for d in 0..t.arity {
         let place = layer_at(t, d) + path[d];
         put_word(bytes, at + 8 * d, pool[place]);

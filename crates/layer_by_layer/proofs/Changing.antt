@@ -197,6 +197,10 @@ module _ {pool₀ : List ℕ} {t : ColumnTrie} {old new : List Row} (y : Change 
     pub out_sound : header_sound (length pool) out ≡ true
     out_sound = told_header (length pool) out out_pool
 
+    -- and its arrays are as long
+    pub out_whole : Whole out
+    out_whole = subst Whole (sym g.header) (header_whole t.start t.arity t.capacity t.grade (mix d) t.tuple_count (mix_long d) y.inside.few)
+
     -- start, arity and capacity stay
     pub out_arity : out.arity ≡ t.arity
     out_arity = ap (λ (z : ColumnTrie). z.arity) g.header

@@ -14,8 +14,7 @@ use Rattle.seek.specs.Seek.{seek_of}
 use Rattle.seek.specs.declared.SeekStrategy.TheVariants.{Binary}
 use Rattle.seek.specs.declared.Sought.{Sought}
 use Rattle.column_trie.specs.Groups.{lies}
-use Rattle.column_trie.specs.Pool.{spot}
-use Rattle.column_trie.specs.Table.{data_len_at, layer_in, header_sound}
+use Rattle.column_trie.specs.Table.{layer_in, header_sound}
 use Rattle.column_trie.specs.declared.ColumnTrie.{ColumnTrie}
 use Rattle.column_trie.proofs.Damage.{undamaged_header}
 use Rattle.column_trie.proofs.Header.{header_told, layer_fits}
@@ -29,10 +28,6 @@ use Rattle.overlay_lookup.specs.declared.LookedUp.{LookedUp}
 use Rattle.overlay_lookup.specs.declared.Run.{Run}
 
 -- ---- one table
-
--- the words that are searched are the first keys
-pub part_keys : (pool : List ℕ) (t : ColumnTrie) {at : ℕ} → at ≡ spot t.start t.capacity 0 → take (at + data_len_at t 0 - at) (drop at pool) ≡ (layer_in pool t 0).keys
-part_keys pool t {at} e = let n : at + data_len_at t 0 - at ≡ data_len_at t 0 = omega arith in cc
 
 abbrev pub Inside : List ℕ → Option Run → Type 0
 Inside pool (Some r) = r.from + r.len ≤ length pool

@@ -5,12 +5,11 @@
 // refused, or neither has the key, the run is empty.
 #![tactic(auto)]
 
-ghost use Rattle.std.specs.Prelude.{◌≡◌, true, ◌<◌, length};
+ghost use Rattle.std.specs.Prelude.{◌≡◌, ◌<◌};
 ghost use Rattle.refusal.specs.Number.{given};
-ghost use Rattle.column_trie.specs.Table.{header_sound};
 ghost use Rattle.overlay_lookup.specs.Lookup.{lookup_number, found_in, no_run, looked_up, run_in};
 
-use column_trie::ColumnTrie;
+use column_trie::{ColumnTrie, Sound};
 use overlay_checks::Laid;
 use refusal::Refusal;
 use seek::SeekStrategy;
@@ -59,19 +58,17 @@ fn check(laid: &Laid) -> Result<(), Refusal>
 }
 
 // The key is searched by halving among the first keys; the place where it is found is the interval of its children.
-fn found_in(pool: &[u64], table: ColumnTrie, key: u64) -> Option<Run>
-    requires { (header_sound (length pool.now) table ≡ true) × (1 < table.arity) }
-    ensures { result ≡ found_in pool.now table key }
+fn found_in(sound: &Sound, key: u64) -> Option<Run>
+    requires { 1 < sound.now.table.arity }
+    ensures { result ≡ found_in sound.now.pool.now sound.now.table key }
 {
-    let at = column_trie::layer_at(table, 0);
-    let end = at + table.data_len[0];
-    let s = seek::partition_point(SeekStrategy::Binary, &pool[at..end], key);
+    let s = seek::partition_point(SeekStrategy::Binary, sound.layer_keys(0), key);
     if !s.hit {
         return None;
     }
-    let g = column_trie::group_of(pool, table, 1, s.offset)?;
+    let g = sound.group_of(1, s.offset)?;
     Some(Run {
-        from: column_trie::layer_at(table, 1) + g.from,
+        from: column_trie::layer_at(sound.table, 1) + g.from,
         len: g.to - g.from,
     })
 }
@@ -95,7 +92,11 @@ pub fn lookup(
     if let Err(refused) = check(&laid) {
         return LookedUp::none(refused.number());
     }
-    if let Some(run) = found_in(school_pool, school, key) {
+    let schools = Sound {
+        pool: school_pool,
+        table: school,
+    };
+    if let Some(run) = found_in(&schools, key) {
         return LookedUp {
             number: 0,
             from_school: true,
@@ -103,7 +104,11 @@ pub fn lookup(
             len: run.len,
         };
     }
-    let Some(run) = found_in(maker_pool, maker, key) else {
+    let makers = Sound {
+        pool: maker_pool,
+        table: maker,
+    };
+    let Some(run) = found_in(&makers, key) else {
         return LookedUp::none(0);
     };
     LookedUp {

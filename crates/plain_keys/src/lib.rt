@@ -9,7 +9,7 @@ ghost use Rattle.column_trie.specs.Table.{rows_in, Undamaged};
 ghost use Rattle.join_query.specs.Query.{rows_at};
 ghost use Rattle.plain_keys.specs.Keys.{words, bound, group_at, group_keys, Grouped, head_of, Named, Readable};
 
-use column_trie::{ColumnTrie, begins, layer_keys};
+use column_trie::{ColumnTrie, Sound};
 use join_query::{Atom, Query, Tables};
 
 // A word for each variable, by number.
@@ -17,26 +17,28 @@ pub type Row = [u64; Query::MAX_VARIABLES];
 
 // The group of interval i of layer `d`: the keys that follow the words for which the interval stands; with the place of the first of them in the layer. A key's place is the
 // number of its interval below.
-fn group<'a>(pool: &'a [u64], t: ColumnTrie, d: usize, i: usize) -> (usize, &'a [u64])
-    requires { Grouped pool.now t d i }
-    ensures { (result.0 ≡ group_at pool.now t d i) × (result.1.now ≡ group_keys pool.now t d i) }
+fn group<'a>(rows: &Sound<'a>, d: usize, i: usize) -> (usize, &'a [u64])
+    requires { Grouped rows.now.pool.now rows.now.table d i }
+    ensures { (result.0 ≡ group_at rows.now.pool.now rows.now.table d i) × (result.1.now ≡ group_keys rows.now.pool.now rows.now.table d i) }
 {
-    let from = begins(pool, t, d, i);
-    let to = begins(pool, t, d, i + 1);
-    (from, &layer_keys(pool, t, d)[from..to])
+    let from = rows.begins(d, i);
+    let to = rows.begins(d, i + 1);
+    (from, &rows.layer_keys(d)[from..to])
 }
 
+// The table is a header by value here, and a `Sound` only inside: what a `Sound` says of its arrays the check knows of a parameter, but not of an entry of `tables`.
 // The least key of the table in column `len`, from the row's word there on, or above it, that follows the row's words for the columns before.
 fn next_in(pool: &[u64], t: ColumnTrie, a: Atom, row: Row, len: usize, past: bool) -> Option<u64>
     requires { Undamaged pool.now t × (len < t.arity) × Named a len }
     ensures { result ≡ head_of (from (bound past (get_or (words a row) len 0)) (keys_under (take len (words a row)) (rows_in pool.now t))) }
 {
+    let rows = Sound { pool, table: t };
     let mut i = 0;
     for d in 0..len {
-        let (first, keys) = group(pool, t, d, i);
+        let (first, keys) = group(&rows, d, i);
         i = first + keys.binary_search(&row[a.variables[d]]).ok()?;
     }
-    let (_, keys) = group(pool, t, len, i);
+    let (_, keys) = group(&rows, len, i);
     let word = row[a.variables[len]];
     let at = keys.partition_point(|&key| key < word || (past && key == word));
     keys.get(at).copied()

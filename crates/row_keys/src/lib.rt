@@ -8,27 +8,27 @@ ghost use Rattle.std.specs.Prelude.{◌≡◌, true, [], ◌<◌, get_or};
 ghost use Rattle.relation.specs.Paths.{owner};
 ghost use Rattle.column_trie.specs.Table.{layer_in, rows_in, data_len_at, undamaged};
 
-use column_trie::{ColumnTrie, layer_at, layer_intervals};
+use column_trie::{Sound, layer_at};
 use seek::halve;
 
 // The place in the layer above of the parent of the key at `place` of layer d.
-fn parent_of(pool: &[u64], t: ColumnTrie, d: usize, place: usize) -> usize
-    requires { (undamaged pool.now t ≡ true) × (d < t.arity) × (place < data_len_at t d) }
-    ensures { result ≡ owner (layer_in pool.now t d).intervals place }
+fn parent_of(rows: &Sound, d: usize, place: usize) -> usize
+    requires { (undamaged rows.now.pool.now rows.now.table ≡ true) × (d < rows.now.table.arity) × (place < data_len_at rows.now.table d) }
+    ensures { result ≡ owner (layer_in rows.now.pool.now rows.now.table d).intervals place }
 {
-    let intervals = layer_intervals(pool, t, d);
+    let intervals = rows.layer_intervals(d);
     halve(intervals, place as u64 + 1, 0, intervals.len(), 0).offset - 1
 }
 
 // The key of row i in column d.
-pub fn key_of(pool: &[u64], t: ColumnTrie, i: usize, d: usize) -> u64
-    requires { (undamaged pool.now t ≡ true) × (i < t.tuple_count) × (d < t.arity) }
-    ensures { result ≡ get_or (get_or (rows_in pool.now t) i []) d 0 }
+pub fn key_of(rows: &Sound, i: usize, d: usize) -> u64
+    requires { (undamaged rows.now.pool.now rows.now.table ≡ true) × (i < rows.now.table.tuple_count) × (d < rows.now.table.arity) }
+    ensures { result ≡ get_or (get_or (rows_in rows.now.pool.now rows.now.table) i []) d 0 }
 {
     let mut place = i;
-    for e in (d + 1..t.arity).rev() {
-        place = parent_of(pool, t, e, place);
+    for e in (d + 1..rows.table.arity).rev() {
+        place = parent_of(rows, e, place);
     }
-    let at = layer_at(t, d);
-    pool[at + place]
+    let at = layer_at(rows.table, d);
+    rows.pool[at + place]
 }

@@ -8,17 +8,18 @@ ghost use Rattle.std.specs.Prelude.{◌≡◌, true, ◌-◌, ◌<◌};
 ghost use Rattle.column_trie.specs.Table.{layers_in, undamaged};
 ghost use Rattle.row_path.specs.Path.{OnPath};
 
-use column_trie::{ColumnTrie, begins};
+use column_trie::{ColumnTrie, Sound};
 
 // Turns the path of row i - 1 into that of row i, and the path of row 0 into itself: from the last layer up, a parent goes on where its children end.
-pub fn next_path(pool: &[u64], t: ColumnTrie, path: &mut [usize; ColumnTrie::MAX_ARITY], i: usize)
-    requires { (undamaged pool.now t ≡ true) × (i < t.tuple_count) × OnPath (layers_in pool.now t) (i - 1) path.old }
-    ensures { OnPath (layers_in pool.now t) i path.new }
+pub fn next_path(rows: &Sound, path: &mut [usize; ColumnTrie::MAX_ARITY], i: usize)
+    requires { (undamaged rows.now.pool.now rows.now.table ≡ true) × (i < rows.now.table.tuple_count) × OnPath (layers_in rows.now.pool.now rows.now.table) (i - 1) path.old }
+    ensures { OnPath (layers_in rows.now.pool.now rows.now.table) i path.new }
 {
-    path[t.arity - 1] = i;
-    for d in (1..t.arity).rev() {
+    let arity = rows.table.arity;
+    path[arity - 1] = i;
+    for d in (1..arity).rev() {
         let next = path[d - 1] + 1;
-        let from = begins(pool, t, d, next);
+        let from = rows.begins(d, next);
         if from <= path[d] {
             path[d - 1] = next;
         }

@@ -5,7 +5,7 @@ ghost use Rattle.std.specs.Prelude.{◌≡◌, ℕ, ◌≤◌, ◌<◌, length, 
 ghost use Rattle.column_trie.specs.Limits.{max_arity};
 ghost use Rattle.row_words.specs.Words.{Fields, Wordable, Worded, AllPacked};
 
-use column_trie::ColumnTrie;
+use column_trie::{ColumnTrie, Sound};
 use permuted_rows::Permuted;
 use row_path::next_path;
 
@@ -58,8 +58,12 @@ pub fn pack_rows(rows: &Permuted, words: &mut [u64])
 {
     let arity = rows.table.arity;
     let mut path = [0usize; ColumnTrie::MAX_ARITY];
+    let table = Sound {
+        pool: rows.pool,
+        table: rows.table,
+    };
     for k in 0..words.len() {
-        next_path(rows.pool, rows.table, &mut path, k);
+        next_path(&table, &mut path, k);
         words[k] = row_word(arity, rows.columns, path, k);
     }
 }

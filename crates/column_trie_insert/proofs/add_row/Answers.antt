@@ -7,7 +7,7 @@ use Rattle.relation.proofs.Insert.{rank_of}
 use Rattle.column_trie.specs.Table.{rows_in}
 use Rattle.column_trie.proofs.Layers.{Whole}
 use Rattle.column_trie_insert.proofs.Enters.{ready, growing_first}
-use Rattle.column_trie_insert.proofs.Rows.{Ready, Growing, placed, room_here, grown_sound, grown_long, inside_out, growing_step, grown_words, grown_header}
+use Rattle.column_trie_insert.proofs.Rows.{Ready, Growing, placed, room_here, grown_sound, grown_whole, grown_long, inside_out, growing_step, grown_words, grown_header}
 use borrow.Author.Rules.{rules}
 use Rattle.column_trie_insert.proofs.add_row.Goals as goal
 use Rattle.column_trie_insert.proofs.add_row.Goals.{Joined-fresh, Start, else-fresh, then-fresh}
@@ -31,9 +31,13 @@ settled c r =
 pub loop-d-init : goal.loop-d-init
 loop-d-init c = growing_first (whole (goal.at.loop-d-init c).Start) c.requires _ refl
 
+pub invariant_of-begins : goal.invariant_of-begins
+invariant_of-begins c =
+    let y = can (goal.at.invariant_of-begins c).Start in
+    record { sound = grown_sound y c.loop-d.invariant; whole = grown_whole y c.loop-d.invariant }
+
 pub begins-at-requires : goal.begins-at-requires
-begins-at-requires c =
-    (grown_sound (can (goal.at.begins-at-requires c).Start) c.loop-d.invariant, inside_out (can (goal.at.begins-at-requires c).Start) c.loop-d.invariant c.loop-d-test.true)
+begins-at-requires c = inside_out (can (goal.at.begins-at-requires c).Start) c.loop-d.invariant c.loop-d-test.true
 
 pub bounds-tuple-d : goal.bounds-tuple-d
 bounds-tuple-d c = omega (arith, c.requires.long)

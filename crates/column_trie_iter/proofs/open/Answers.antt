@@ -22,10 +22,11 @@ pub returns-then-not-has_children : goal.returns-then-not-has_children
 returns-then-not-has_children c =
     c.unopened-then-not-has_children.ensures ∙ open_none c.place_of.ensures c.in-Ok.is (sym c.has_children.ensures ∙ c.if-not-has_children.true)
 
+pub invariant_of-sound-clause-sound : goal.invariant_of-sound-clause-sound
+invariant_of-sound-clause-sound c = header_fine c.place_of.ensures c.in-Ok.is
+
 pub group_of-requires : goal.group_of-requires
-group_of-requires c =
-    let w = c.place_of.ensures in
-    (header_fine w c.in-Ok.is, deeper w c.in-Ok.is (children (goal.at.group_of-requires c).Else-not-has_children))
+group_of-requires c = deeper c.place_of.ensures c.in-Ok.is (children (goal.at.group_of-requires c).Else-not-has_children)
 
 pub returns-then-is_none : goal.returns-then-is_none
 returns-then-is_none c =

@@ -4,6 +4,7 @@ use mathlib.Core.Path.{◌≡◌, sym, ap, ◌∙◌}
 use native.Mathlib.Omega.{arith}
 use Rattle.column_trie.specs.Table.{layer_in}
 use Rattle.column_trie_place.specs.Checks.{refusal}
+use Rattle.column_trie_place.proofs.Places.{unrefused}
 use Rattle.column_trie_place.proofs.Rests.{not_refused}
 use Rattle.column_trie_iter.specs.Cursor.{unrisen}
 use Rattle.column_trie_iter.proofs.Rises.{unowned_stays, owned_rises, up_refused, up_root, up_top, up_below, owner_needs}
@@ -23,6 +24,9 @@ returns-then-iter-eq0 c =
 
 pub returns-then-iter-eq1 : goal.returns-then-iter-eq1
 returns-then-iter-eq1 c = up_top c.args.pool.now c.args.table c.args.iter (clear (goal.at.returns-then-iter-eq1 c).In_default) c.if-iter-eq1.true c.new.ensures
+
+pub invariant_of-sound-clause-sound : goal.invariant_of-sound-clause-sound
+invariant_of-sound-clause-sound c = (unrefused c.args.pool.now c.args.table c.args.iter (clear (goal.at.invariant_of-sound-clause-sound c).In_default)).0
 
 pub owner_of-requires : goal.owner_of-requires
 owner_of-requires c =

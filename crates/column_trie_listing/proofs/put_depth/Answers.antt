@@ -12,16 +12,16 @@ use Rattle.column_trie_listing.proofs.put_depth.Goals as goal
 use Rattle.column_trie_listing.proofs.put_depth.Goals.{Start}
 
 -- where the layer lies
-told : (s : Start) → LayerFits (length s.args.pool.now) s.args.t s.args.d
-told s = layer_fits (header_told (length s.args.pool.now) s.args.t s.requires.0) s.requires.1
+told : (s : Start) → LayerFits (length s.args.table.now.pool.now) s.args.table.now.table s.args.d
+told s = layer_fits (header_told (length s.args.table.now.pool.now) s.args.table.now.table s.args.table.now.sound) s.requires.0
 
 pub layer-requires : goal.layer-requires
 layer-requires c =
-    let pool = c.args.pool.now in
-    (c.requires.2, omega (arith, told (goal.at.layer-requires c).Start, ap {B = ℕ} length c.layer_keys-data.ensures, keys_long pool (told (goal.at.layer-requires c).Start)), omega (arith, told (goal.at.layer-requires c).Start, ap {B = ℕ} length c.layer_intervals-interval.ensures, intervals_long pool (told (goal.at.layer-requires c).Start)))
+    let pool = c.args.table.now.pool.now in
+    (c.requires.1, omega (arith, told (goal.at.layer-requires c).Start, ap {B = ℕ} length c.layer_keys.ensures, keys_long pool (told (goal.at.layer-requires c).Start)), omega (arith, told (goal.at.layer-requires c).Start, ap {B = ℕ} length c.layer_intervals.ensures, intervals_long pool (told (goal.at.layer-requires c).Start)))
 
 pub returns : goal.returns
 returns c =
     let d = c.args.d in
     let w = c.layer.ensures in
-    (wrote_as (ap₂ {C = List ℕ} (λ keys ints. layer_text d (lists keys ints)) c.layer_keys-data.ensures c.layer_intervals-interval.ensures) w.0, w.1)
+    (wrote_as (ap₂ {C = List ℕ} (λ keys ints. layer_text d (lists keys ints)) c.layer_keys.ensures c.layer_intervals.ensures) w.0, w.1)

@@ -36,9 +36,12 @@ more s d h =
 pub loop-d-init : goal.loop-d-init
 loop-d-init c = (omega arith, wrote_as (sym no_text) (wrote_none _), omega arith)
 
+pub invariant_of-table-clause-sound : goal.invariant_of-table-clause-sound
+invariant_of-table-clause-sound c = undamaged_header c.args.pool.now c.args.t c.requires
+
 pub put_depth-requires : goal.put_depth-requires
 put_depth-requires c =
-    (undamaged_header c.args.pool.now c.args.t c.requires, c.loop-d-test.true, omega (arith, sound (goal.at.put_depth-requires c).Start, c.loop-d.invariant.2, c.loop-d-test.true))
+    (c.loop-d-test.true, omega (arith, sound (goal.at.put_depth-requires c).Start, c.loop-d.invariant.2, c.loop-d-test.true))
 
 pub loop-d-preserved : goal.loop-d-preserved
 loop-d-preserved c =

@@ -44,11 +44,13 @@ loop-d-init c = descending_start c.args.t.arity (rows_in c.args.pool.now c.args.
 pub bounds-tuple-d : goal.bounds-tuple-d
 bounds-tuple-d c = omega (arith, c.requires.1)
 
+pub invariant_of-table-clause-sound : goal.invariant_of-table-clause-sound
+invariant_of-table-clause-sound c = undamaged_header c.args.pool.now c.args.t c.requires.0
+
 pub find_place-p-requires : goal.find_place-p-requires
 find_place-p-requires c =
     let d = c.loop-d.d in
     let h = c.loop-d-test.true in (
-      undamaged_header c.args.pool.now c.args.t c.requires.0,
       h,
       subst (λ (l : Layer). Grouped l c.loop-d.i) (sym (layer_words (goal.at.find_place-p-requires c).Start d h)) (walking_grouped (held (goal.at.find_place-p-requires c).Start).width c.requires.1 c.loop-d.invariant.walk h),
     )

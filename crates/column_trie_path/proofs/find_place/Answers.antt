@@ -16,30 +16,30 @@ use Rattle.column_trie_path.proofs.find_place.Goals as goal
 use Rattle.column_trie_path.proofs.find_place.Goals.{After-layer_at-data_from, After-partition_point-sought, Start}
 
 -- where the layer lies
-told : (s : Start) → LayerFits (length s.args.pool.now) s.args.t s.args.d
-told s = layer_fits (header_told (length s.args.pool.now) s.args.t s.requires.0) s.requires.1
+told : (s : Start) → LayerFits (length s.args.table.now.pool.now) s.args.table.now.table s.args.d
+told s = layer_fits (header_told (length s.args.table.now.pool.now) s.args.table.now.table s.args.table.now.sound) s.requires.0
 
 -- where the group lies, once its ends are read
-group : (c : After-layer_at-data_from) → GroupAt c.args.pool.now c.args.t c.args.d c.args.i c.layer_at-data_from.result c.begins-from.result c.begins-to.result
+group : (c : After-layer_at-data_from) → GroupAt c.args.table.now.pool.now c.args.table.now.table c.args.d c.args.i c.layer_at-data_from.result c.begins-from.result c.begins-to.result
 group c =
     record {
-      layer = layer_fits (header_told (length c.args.pool.now) c.args.t c.requires.0) c.requires.1;
-      grouped = c.requires.2;
+      layer = layer_fits (header_told (length c.args.table.now.pool.now) c.args.table.now.table c.args.table.now.sound) c.requires.0;
+      grouped = c.requires.1;
       data_from_is = c.layer_at-data_from.ensures;
       from_is = c.begins-from.ensures;
       to_is = c.begins-to.ensures;
     }
 
 -- what the seek found
-found : (c : After-partition_point-sought) → GroupAt c.args.pool.now c.args.t c.args.d c.args.i c.layer_at-data_from.result c.begins-from.result c.begins-to.result
-    → Leading (run c.args.pool.now c.layer_at-data_from.result c.begins-from.result c.begins-to.result) c.args.key c.partition_point-sought.result.offset
+found : (c : After-partition_point-sought) → GroupAt c.args.table.now.pool.now c.args.table.now.table c.args.d c.args.i c.layer_at-data_from.result c.begins-from.result c.begins-to.result
+    → Leading (run c.args.table.now.pool.now c.layer_at-data_from.result c.begins-from.result c.begins-to.result) c.args.key c.partition_point-sought.result.offset
 found c g =
     let key = c.args.key in
-    let words = run c.args.pool.now c.layer_at-data_from.result c.begins-from.result c.begins-to.result in
+    let words = run c.args.table.now.pool.now c.layer_at-data_from.result c.begins-from.result c.begins-to.result in
     subst (λ (z : Sought). Leading words key z.offset) (sym c.partition_point-sought.ensures) (leading Binary words key (run_rises g))
 
 pub overflow_add-i : goal.overflow_add-i
-overflow_add-i c = omega (arith, index_small c.args.pool.now (told (goal.at.overflow_add-i c).Start) c.requires.2, told (goal.at.overflow_add-i c).Start)
+overflow_add-i c = omega (arith, index_small c.args.table.now.pool.now (told (goal.at.overflow_add-i c).Start) c.requires.1, told (goal.at.overflow_add-i c).Start)
 
 pub layer_at-data_from-requires : goal.layer_at-data_from-requires
 layer_at-data_from-requires c = let f = told (goal.at.layer_at-data_from-requires c).Start in (omega (arith, f, c.well_formed), f.small, f.depth)
@@ -50,8 +50,8 @@ overflow_add-run_from c = omega (arith, group_fits (group (goal.at.overflow_add-
 pub overflow_add-run_to : goal.overflow_add-run_to
 overflow_add-run_to c = omega (arith, group_fits (group (goal.at.overflow_add-run_to c).After-layer_at-data_from))
 
-pub offset_bounds-pool-run_from : goal.offset_bounds-pool-run_from
-offset_bounds-pool-run_from c = omega (arith, group_fits (group (goal.at.offset_bounds-pool-run_from c).After-layer_at-data_from))
+pub offset_bounds-table-run_from : goal.offset_bounds-table-run_from
+offset_bounds-table-run_from c = omega (arith, group_fits (group (goal.at.offset_bounds-table-run_from c).After-layer_at-data_from))
 
 pub slice_bounds-run-count : goal.slice_bounds-run-count
 slice_bounds-run-count c = omega (arith, group_fits (group (goal.at.slice_bounds-run-count c).After-layer_at-data_from))
@@ -74,9 +74,9 @@ overflow_add-result-2 c = let g = group (goal.at.overflow_add-result-2 c).After-
 pub returns : goal.returns
 returns c =
     let args = c.args in
-    let words = run args.pool.now c.layer_at-data_from.result c.begins-from.result c.begins-to.result in
+    let words = run args.table.now.pool.now c.layer_at-data_from.result c.begins-from.result c.begins-to.result in
     let g = group (goal.at.returns c).After-layer_at-data_from in
     subst
-    (λ (z : Sought). KeyPlaceOf (layer_in args.pool.now args.t args.d) args.i args.key (record { at = c.begins-from.result + z.offset; there = z.hit; several = ltb (c.begins-from.result + 1) c.begins-to.result; probes = z.probes }))
+    (λ (z : Sought). KeyPlaceOf (layer_in args.table.now.pool.now args.table.now.table args.d) args.i args.key (record { at = c.begins-from.result + z.offset; there = z.hit; several = ltb (c.begins-from.result + 1) c.begins-to.result; probes = z.probes }))
     (sym c.partition_point-sought.ensures)
     (place_sought g (leading Binary words args.key (run_rises g)) (binary_cost words args.key))

@@ -15,14 +15,14 @@ use Rattle.column_trie_place.proofs.owner_of.Goals.{After-halve-counted, Start}
 
 -- the layer
 abbrev layer : Start → Layer
-layer s = layer_in s.args.pool.now s.args.table s.args.d
+layer s = layer_in s.args.sound.now.pool.now s.args.sound.now.table s.args.d
 
 -- the halves of a list are those of an equal one
 halved : {r : Probed} {xs ints : List ℕ} (i : ℕ) → r ≡ halving xs (i + 1) 0 (length xs) 0 → xs ≡ ints → r.offset ≡ count_up_to i ints
 halved i e f = ap (λ (x : Probed). x.offset) e ∙ ap (λ (ys : List ℕ). (halving ys (i + 1) 0 (length ys) 0).offset) f
 
 -- the code's count is the definition's
-counts : (q : After-halve-counted) → q.halve-counted.result.offset ≡ count_up_to q.args.i (layer_in q.args.pool.now q.args.table q.args.d).intervals
+counts : (q : After-halve-counted) → q.halve-counted.result.offset ≡ count_up_to q.args.i (layer_in q.args.sound.now.pool.now q.args.sound.now.table q.args.d).intervals
 counts q = halved q.args.i q.halve-counted.ensures q.layer_intervals-intervals.ensures
 
 pub returns-then-counted-eq0 : goal.returns-then-counted-eq0

@@ -10,7 +10,7 @@ use Rattle.column_trie.proofs.Layers.{Whole}
 use Rattle.column_trie_remove.specs.Remove.{without}
 use Rattle.column_trie_remove.specs.Shrink.{Forked}
 use Rattle.column_trie_remove.proofs.Enters.{ready, shrinking_some, shrinking_none}
-use Rattle.column_trie_remove.proofs.Cuts.{Shrinking, counted, placed, shrinks_here, cut_sound, cut_long, inside_out, shrinking_step, cut_words, cut_header}
+use Rattle.column_trie_remove.proofs.Cuts.{Shrinking, counted, placed, shrinks_here, cut_sound, cut_whole, cut_long, inside_out, shrinking_step, cut_words, cut_header}
 use borrow.Author.Rules.{rules}
 use Rattle.column_trie_remove.proofs.cut_row.Goals as goal
 use Rattle.column_trie_remove.proofs.cut_row.Goals.{Joined-lone, Start, in-Some, in-None, else-lone, then-lone}
@@ -33,11 +33,16 @@ loop-d-init c =
     let o = whole (goal.at.loop-d-init c).Start in
     elim c.match-fork.branch [ in-Some w ↦ rw w.depth-is (shrinking_some o f w.in-Some.is) | in-None w ↦ rw w.depth-is (shrinking_none o f w.in-None.is) ]
 
+pub invariant_of-begins : goal.invariant_of-begins
+invariant_of-begins c =
+    let y = ready (whole (goal.at.invariant_of-begins c).Start) c.requires.1 in
+    let g = c.loop-d.invariant c.requires.0 c.requires.1 in
+    record { sound = cut_sound y g; whole = cut_whole y g }
+
 pub begins-at-requires : goal.begins-at-requires
 begins-at-requires c =
     let y = ready (whole (goal.at.begins-at-requires c).Start) c.requires.1 in
-    let g = c.loop-d.invariant c.requires.0 c.requires.1 in
-    (cut_sound y g, inside_out y g c.loop-d-test.true)
+    inside_out y (c.loop-d.invariant c.requires.0 c.requires.1) c.loop-d-test.true
 
 pub cut_layer-out-requires : goal.cut_layer-out-requires
 cut_layer-out-requires c =

@@ -10,7 +10,7 @@ use Rattle.column_trie.specs.Pool.{lay}
 use Rattle.column_trie.specs.Table.{rows_in, Undamaged}
 use Rattle.column_trie.proofs.Header.{LayerFits, layer_fits}
 use Rattle.column_trie.proofs.Layers.{Whole}
-use Rattle.column_trie.proofs.Damage.{undamaged_told}
+use Rattle.column_trie.proofs.Damage.{undamaged_told, undamaged_header}
 use Rattle.column_trie.proofs.Pool.{lay_length}
 use Rattle.column_trie.proofs.Stored.{in_pool}
 use Rattle.table_file.specs.Bytes.{bytes_of, encode}
@@ -46,6 +46,9 @@ key l d h = key_on (whole l) (sound l) l.next_path.ensures (counted l) d h
 
 kept : (l : At-loop-d) → length l.loop-d.bytes ≡ length l.args.bytes.now
 kept l = ap length l.loop-d.invariant ∙ lay_length l.args.bytes.now l.args.at (encode (take l.loop-d.d (get_or (rows_in l.args.pool.now l.args.t) l.args.i [])))
+
+pub invariant_of-rows-clause-sound : goal.invariant_of-rows-clause-sound
+invariant_of-rows-clause-sound c = undamaged_header c.args.pool.now c.args.t c.requires.sound
 
 pub next_path-requires : goal.next_path-requires
 next_path-requires c = (c.requires.sound, omega (arith, c.requires.there), c.requires.before)

@@ -11,6 +11,8 @@ use Rattle.query.proofs.Beyond.{keys_ascend}
 use Rattle.column_trie.specs.Limits.{max_arity}
 use Rattle.column_trie.specs.Table.{layer_in, rows_in}
 use Rattle.column_trie.proofs.Layers.{Whole}
+use Rattle.column_trie.proofs.Header.{told_header}
+use Rattle.column_trie.proofs.Stored.{in_pool}
 use Rattle.relation.specs.Order.{Row}
 use Rattle.relation.specs.Lists.{◌∈◌, Ascends}
 use Rattle.relation.specs.Layers.{keys_under}
@@ -43,6 +45,12 @@ word_is : (s : Start) (d : ℕ) → d ≤ s.args.len → get_or (given s) d 0 �
 word_is s d h =
     let w : length s.args.a.variables ≡ max_arity = search rules in
     words_at s.args.a.variables s.args.row d (omega (arith, s.requires.1, s.requires.0.arity))
+
+pub invariant_of-rows-clause-sound : goal.invariant_of-rows-clause-sound
+invariant_of-rows-clause-sound c = told_header (length c.args.pool.now) c.args.t (in_pool c.requires.0)
+
+pub invariant_of-rows-2-clause-sound : goal.invariant_of-rows-2-clause-sound
+invariant_of-rows-2-clause-sound c = told_header (length c.args.pool.now) c.args.t (in_pool c.requires.0)
 
 pub loop-d-init : goal.loop-d-init
 loop-d-init c = (at_the_root c.args.pool.now c.args.t, omega arith)

@@ -7,4 +7,4 @@ use Rattle.plain_keys.proofs.Descent.{At}
 use Rattle.plain_keys.proofs.next_in.Given as goal
 
 abbrev pub invariant-loop-d : goal.invariant-loop-d
-invariant-loop-d l = At l.pool l.t l.d l.i (take l.d (words l.a l.row)) × (l.i ≤ length l.pool)
+invariant-loop-d l = At l.pool l.fn.t l.d l.i (take l.d (words l.a l.row)) × (l.i ≤ length l.pool)

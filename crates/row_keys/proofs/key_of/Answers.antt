@@ -14,24 +14,24 @@ use borrow.Author.Rules.{rules}
 use Rattle.row_keys.proofs.key_of.Goals as goal
 use Rattle.row_keys.proofs.key_of.Goals.{After-loop-e, Start}
 
-whole : (s : Start) → Whole s.args.t
-whole s = record { data_long = search rules; interval_long = search rules }
+whole : (s : Start) → Whole s.args.rows.now.table
+whole s = s.args.rows.now.whole
 
-sound : (s : Start) → Undamaged s.args.pool.now s.args.t
-sound s = undamaged_told s.args.pool.now s.args.t s.requires.0
+sound : (s : Start) → Undamaged s.args.rows.now.pool.now s.args.rows.now.table
+sound s = undamaged_told s.args.rows.now.pool.now s.args.rows.now.table s.requires.0
 
-fits : (s : Start) → LayerFits (length s.args.pool.now) s.args.t s.args.d
+fits : (s : Start) → LayerFits (length s.args.rows.now.pool.now) s.args.rows.now.table s.args.d
 fits s = layer_fits (in_pool (sound s)) s.requires.2
 
 -- the key where the loop ends
-found : (c : After-loop-e) → KeyAt c.args.pool.now c.args.t c.args.i c.args.d c.loop-e.place
+found : (c : After-loop-e) → KeyAt c.args.rows.now.pool.now c.args.rows.now.table c.args.i c.args.d c.loop-e.place
 found c =
     let l = c.loop-e in
     let e : l.e - 1 ≡ c.args.d = omega (arith, l.invariant.low, c.loop-e-test.false) in
     rw e at (climbing_at (whole c.before.before.before.before) (sound c.before.before.before.before) l.invariant c.requires.1)
 
 pub loop-e-init : goal.loop-e-init
-loop-e-init c = climbing_start (whole (goal.at.loop-e-init c).Start) (sound (goal.at.loop-e-init c).Start) c.args.i c.args.d (c.args.t.arity - 1) c.requires.2 refl
+loop-e-init c = climbing_start (whole (goal.at.loop-e-init c).Start) (sound (goal.at.loop-e-init c).Start) c.args.i c.args.d (c.args.rows.now.table.arity - 1) c.requires.2 refl
 
 pub parent_of-place-requires : goal.parent_of-place-requires
 parent_of-place-requires c =
@@ -51,15 +51,15 @@ pub overflow_add-result : goal.overflow_add-result
 overflow_add-result c =
     omega (arith, c.layer_at-at.ensures, (found (goal.at.overflow_add-result c).After-loop-e).inside, (fits (goal.at.overflow_add-result c).Start).inside, (fits (goal.at.overflow_add-result c).Start).keys)
 
-pub offset_bounds-pool-at : goal.offset_bounds-pool-at
-offset_bounds-pool-at c =
-    omega (arith, c.layer_at-at.ensures, (found (goal.at.offset_bounds-pool-at c).After-loop-e).inside, (fits (goal.at.offset_bounds-pool-at c).Start).inside, (fits (goal.at.offset_bounds-pool-at c).Start).keys)
+pub offset_bounds-rows-at : goal.offset_bounds-rows-at
+offset_bounds-rows-at c =
+    omega (arith, c.layer_at-at.ensures, (found (goal.at.offset_bounds-rows-at c).After-loop-e).inside, (fits (goal.at.offset_bounds-rows-at c).Start).inside, (fits (goal.at.offset_bounds-rows-at c).Start).keys)
 
-pub bounds-pool-at : goal.bounds-pool-at
-bounds-pool-at c =
-    omega (arith, c.layer_at-at.ensures, (found (goal.at.bounds-pool-at c).After-loop-e).inside, (fits (goal.at.bounds-pool-at c).Start).inside, (fits (goal.at.bounds-pool-at c).Start).keys)
+pub bounds-rows-at : goal.bounds-rows-at
+bounds-rows-at c =
+    omega (arith, c.layer_at-at.ensures, (found (goal.at.bounds-rows-at c).After-loop-e).inside, (fits (goal.at.bounds-rows-at c).Start).inside, (fits (goal.at.bounds-rows-at c).Start).keys)
 
 pub returns : goal.returns
 returns c =
     let l = c.loop-e in
-    ap (λ (n : ℕ). get_or c.args.pool.now (n + l.place) 0) c.layer_at-at.ensures ∙ (found (goal.at.returns c).After-loop-e).word
+    ap (λ (n : ℕ). get_or c.args.rows.now.pool.now (n + l.place) 0) c.layer_at-at.ensures ∙ (found (goal.at.returns c).After-loop-e).word

@@ -16,27 +16,27 @@ use borrow.Author.Rules.{rules}
 use Rattle.row_keys.proofs.parent_of.Goals as goal
 use Rattle.row_keys.proofs.parent_of.Goals.{After-halve, Start}
 
-whole : (s : Start) → Whole s.args.t
-whole s = record { data_long = search rules; interval_long = search rules }
+whole : (s : Start) → Whole s.args.rows.now.table
+whole s = s.args.rows.now.whole
 
-sound : (s : Start) → Undamaged s.args.pool.now s.args.t
-sound s = undamaged_told s.args.pool.now s.args.t s.requires.0
+sound : (s : Start) → Undamaged s.args.rows.now.pool.now s.args.rows.now.table
+sound s = undamaged_told s.args.rows.now.pool.now s.args.rows.now.table s.requires.0
 
 -- the halves of a list are those of an equal one
 halved : {r : Probed} {xs ints : List ℕ} (i : ℕ) → r ≡ halving xs (i + 1) 0 (length xs) 0 → xs ≡ ints → r.offset ≡ (halving ints (i + 1) 0 (length ints) 0).offset
 halved i e f = ap (λ (x : Probed). x.offset) e ∙ ap (λ (ys : List ℕ). (halving ys (i + 1) 0 (length ys) 0).offset) f
 
 -- what the search counts
-parent : (q : After-halve) → Parent (layer_in q.args.pool.now q.args.t q.args.d).intervals q.args.place q.halve.result.offset
+parent : (q : After-halve) → Parent (layer_in q.args.rows.now.pool.now q.args.rows.now.table q.args.d).intervals q.args.place q.halve.result.offset
 parent q =
-    let l = layer_in q.args.pool.now q.args.t q.args.d in
-    let k = layer_sound (whole q.before.before.before.before) (sound q.before.before.before.before) q.args.d q.requires.1 in
+    let l = layer_in q.args.rows.now.pool.now q.args.rows.now.table q.args.d in
+    let k = layer_sound (whole q.before.before) (sound q.before.before) q.args.d q.requires.1 in
     let e = halved q.args.place q.halve.ensures q.layer_intervals-intervals.ensures in
-    let p = parent_is k q.args.place (omega (arith, q.requires.2, keys_count (whole q.before.before.before.before) (sound q.before.before.before.before) q.args.d q.requires.1)) (halving l.intervals (q.args.place + 1) 0 (length l.intervals) 0).offset (binary_leading l.intervals (q.args.place + 1) (rises k)) in
+    let p = parent_is k q.args.place (omega (arith, q.requires.2, keys_count (whole q.before.before) (sound q.before.before) q.args.d q.requires.1)) (halving l.intervals (q.args.place + 1) 0 (length l.intervals) 0).offset (binary_leading l.intervals (q.args.place + 1) (rises k)) in
     rw e p
 
 pub layer_intervals-intervals-requires : goal.layer_intervals-intervals-requires
-layer_intervals-intervals-requires c = (undamaged_header c.args.pool.now c.args.t c.requires.0, c.requires.1)
+layer_intervals-intervals-requires c = c.requires.1
 
 pub overflow_add-place : goal.overflow_add-place
 overflow_add-place c =

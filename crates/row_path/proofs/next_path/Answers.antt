@@ -6,40 +6,39 @@ use lib.ListN.{length, get_or}
 use Rattle.relation.specs.Layers.{layer}
 use Rattle.column_trie.specs.Table.{layers_in, layer_in, data_len_at, Undamaged}
 use Rattle.column_trie.proofs.Layers.{Whole}
-use Rattle.column_trie.proofs.Damage.{undamaged_told, undamaged_header}
+use Rattle.column_trie.proofs.Damage.{undamaged_told}
 use Rattle.column_trie.proofs.Stored.{in_pool}
 use Rattle.row_path.proofs.Moves.{Hangs, hangs, moved_last, moved_all, moved_on, moved_not, parent_listed, begins_is}
-use borrow.Author.Rules.{rules}
 use Rattle.row_path.proofs.next_path.Goals as goal
 use Rattle.row_path.proofs.next_path.Goals.{Start}
 
-whole : (s : Start) → Whole s.args.t
-whole s = record { data_long = search rules; interval_long = search rules }
+whole : (s : Start) → Whole s.args.rows.now.table
+whole s = s.args.rows.now.whole
 
-sound : (s : Start) → Undamaged s.args.pool.now s.args.t
-sound s = undamaged_told s.args.pool.now s.args.t s.requires.0
+sound : (s : Start) → Undamaged s.args.rows.now.pool.now s.args.rows.now.table
+sound s = undamaged_told s.args.rows.now.pool.now s.args.rows.now.table s.requires.0
 
-layers : (s : Start) → Hangs s.args.pool.now s.args.t
+layers : (s : Start) → Hangs s.args.rows.now.pool.now s.args.rows.now.table
 layers s = hangs (whole s) (sound s)
 
-starts : (s : Start) (d : ℕ) → d < s.args.t.arity → (k : ℕ) {from : ℕ} → from ≡ get_or (layer_in s.args.pool.now s.args.t d).intervals k (data_len_at s.args.t d) →
-    from ≡ get_or (layer (layers_in s.args.pool.now s.args.t) d).intervals k (length (layer (layers_in s.args.pool.now s.args.t) d).keys)
-starts s d h k e = begins_is s.args.pool.now (whole s) (in_pool (sound s)) d k h e
+starts : (s : Start) (d : ℕ) → d < s.args.rows.now.table.arity → (k : ℕ) {from : ℕ} → from ≡ get_or (layer_in s.args.rows.now.pool.now s.args.rows.now.table d).intervals k (data_len_at s.args.rows.now.table d) →
+    from ≡ get_or (layer (layers_in s.args.rows.now.pool.now s.args.rows.now.table) d).intervals k (length (layer (layers_in s.args.rows.now.pool.now s.args.rows.now.table) d).keys)
+starts s d h k e = begins_is s.args.rows.now.pool.now (whole s) (in_pool (sound s)) d k h e
 
 pub overflow_sub-path : goal.overflow_sub-path
 overflow_sub-path c = omega (arith, (sound (goal.at.overflow_sub-path c).Start).arity.0)
 
-pub bounds-path-t : goal.bounds-path-t
-bounds-path-t c = omega (arith, (sound (goal.at.bounds-path-t c).Start).arity.1)
+pub bounds-path-arity : goal.bounds-path-arity
+bounds-path-arity c = omega (arith, (sound (goal.at.bounds-path-arity c).Start).arity.1)
 
-pub offset_bounds-path-t : goal.offset_bounds-path-t
-offset_bounds-path-t c = omega (arith, (sound (goal.at.offset_bounds-path-t c).Start).arity.1)
+pub offset_bounds-path-arity : goal.offset_bounds-path-arity
+offset_bounds-path-arity c = omega (arith, (sound (goal.at.offset_bounds-path-arity c).Start).arity.1)
 
 pub loop-d-init : goal.loop-d-init
 loop-d-init c =
     let u = sound (goal.at.loop-d-init c).Start in
     let h = layers (goal.at.loop-d-init c).Start in
-    moved_last (layers_in c.args.pool.now c.args.t) c.args.i c.args.path.now (c.args.t.arity - 1) (omega (arith, u.arity.0, h.long)) (omega (arith, u.arity.1, h.long)) c.requires.2
+    moved_last (layers_in c.args.rows.now.pool.now c.args.rows.now.table) c.args.i c.args.path.now (c.args.rows.now.table.arity - 1) (omega (arith, u.arity.0, h.long)) (omega (arith, u.arity.1, h.long)) c.requires.2
 
 pub overflow_add-next : goal.overflow_add-next
 overflow_add-next c =
@@ -49,7 +48,7 @@ overflow_add-next c =
 
 pub begins-from-requires : goal.begins-from-requires
 begins-from-requires c =
-    (undamaged_header c.args.pool.now c.args.t c.requires.0, omega (arith, c.loop-d.invariant.depth, (layers (goal.at.begins-from-requires c).Start).long))
+    omega (arith, c.loop-d.invariant.depth, (layers (goal.at.begins-from-requires c).Start).long)
 
 pub loop-d-preserved-then-from-path : goal.loop-d-preserved-then-from-path
 loop-d-preserved-then-from-path c =

@@ -3,11 +3,14 @@ use Prim.Native.Nat.{ℕ, ◌+◌, ◌-◌}
 use mathlib.Core.Path.{◌≡◌, sym, subst}
 use native.Mathlib.Omega.{arith}
 use Rattle.column_trie.specs.Table.{layers_in}
-use Rattle.column_trie.proofs.Damage.{undamaged_told}
+use Rattle.column_trie.proofs.Damage.{undamaged_told, undamaged_header}
 use Rattle.row_path.specs.Path.{OnPath}
 use Rattle.row_path.proofs.Keys.{start_path}
 use Rattle.row_words.proofs.Walk.{none_packed, wordable, packing_on, all_packed, few_rows}
 use Rattle.row_words.proofs.pack_rows.Goals as goal
+
+pub invariant_of-table : goal.invariant_of-table
+invariant_of-table c = let rows = c.args.rows.now in record { sound = undamaged_header rows.pool.now rows.table rows.legible.sound; whole = rows.whole }
 
 pub loop-k-init : goal.loop-k-init
 loop-k-init c =
