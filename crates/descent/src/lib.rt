@@ -11,12 +11,11 @@ ghost use Rattle.descent.specs.Descent.{Completes};
 
 use join_depths::depth::{onward, open};
 use join_openings::Join;
-use join_plan::{COUNT, DEPTH_WORDS, ENDS, PLAN_WORDS};
+use join_plan::{COUNT, DEPTH_WORDS};
 use join_query::Query;
 use join_window::emit;
 use leapfrog_search::Landed;
 use query::MAX_ATOMS;
-use seek::SeekStrategy;
 use stretches::State;
 
 // How many rows the window holds, whether more exist than fit, and the number of seeks that the leapfrogs have made.
@@ -50,7 +49,7 @@ fn complete(
 // Writes the rows that complete `found`, from depth `depth` on, behind the first `from`, until the window is full. The cursors' places come by value, with
 // the table that each is in, so those of the caller are as they were when it returns. At the last depth a row is written at once: a call for each would copy
 // three arrays and do nothing else.
-pub fn descend_in(
+pub fn descend(
     join: &Join,
     window: &mut [u64],
     depth: usize,
@@ -94,7 +93,7 @@ pub fn descend_in(
         let below: Walked = if depth + 1 == join.n {
             complete(window, &row, join.n, rows, seeks)
         } else {
-            descend_in(
+            descend(
                 join,
                 window,
                 depth + 1,
@@ -127,33 +126,4 @@ pub fn descend_in(
         landed = next.landed;
         seeks = next.seeks;
     }
-}
-
-// The same of a join that is given by its parts. The two slices come first, which compilers then hand over in registers.
-pub fn descend(
-    pool: &[u64],
-    window: &mut [u64],
-    strategy: SeekStrategy,
-    plan: &[usize; PLAN_WORDS],
-    ends: &[usize; ENDS],
-    n: usize,
-    depth: usize,
-    above: [usize; MAX_ATOMS],
-    owned: [usize; MAX_ATOMS],
-    found: [u64; Query::MAX_VARIABLES],
-    from: usize,
-    before: u64,
-) -> Walked
-    requires standing { Standing pool.now plan.now ends.now n depth above owned }
-    requires fits { Fits n (length window.old) from }
-    ensures { Completes pool.now plan.now ends.now n depth above owned found window.old from before window.new result.rows result.full result.seeks }
-{
-    let join = Join {
-        pool,
-        plan,
-        ends,
-        n,
-        strategy,
-    };
-    descend_in(&join, window, depth, above, owned, found, from, before)
 }

@@ -10,23 +10,18 @@ ghost use Rattle.descent_after.specs.Descent.{DescendedAfter};
 use bounded_depth::open_from;
 use join_depths::depth::onward;
 use join_openings::Join;
-use join_plan::{COUNT, DEPTH_WORDS, ENDS, PLAN_WORDS};
+use join_plan::{COUNT, DEPTH_WORDS};
 use join_query::Query;
 use join_window::Written;
 use leapfrog_search::Landed;
 use query::MAX_ATOMS;
 use rest_of_depth::walk_rest;
-use seek::SeekStrategy;
 use stretches::State;
 
 // Writes the rows that complete `found`, from depth `depth` on, and come after the given row's words there, which `bounds` has, behind the first `from`, until the window is full. With
 // no depth left that is the given row itself, which is not written.
 pub fn descend_after(
-    strategy: SeekStrategy,
-    pool: &[u64],
-    plan: &[usize; PLAN_WORDS],
-    ends: &[usize; ENDS],
-    n: usize,
+    join: &Join,
     depth: usize,
     above: [usize; MAX_ATOMS],
     owned: [usize; MAX_ATOMS],
@@ -35,25 +30,18 @@ pub fn descend_after(
     window: &mut [u64],
     from: usize,
 ) -> Written
-    requires standing { Standing pool.now plan.now ends.now n depth above owned }
-    requires fits { Fits n (length window.old) from }
-    ensures { DescendedAfter pool.now plan.now ends.now n depth above owned found bounds window.old from window.new result.rows result.full }
+    requires standing { Standing join.now.pool.now join.now.plan.now join.now.ends.now join.now.n depth above owned }
+    requires fits { Fits join.now.n (length window.old) from }
+    ensures { DescendedAfter join.now.pool.now join.now.plan.now join.now.ends.now join.now.n depth above owned found bounds window.old from window.new result.rows result.full }
 {
-    if depth == n {
+    if depth == join.n {
         return Written {
             rows: from,
             full: false,
         };
     }
-    let join = Join {
-        pool,
-        plan,
-        ends,
-        n,
-        strategy,
-    };
-    let v = plan[DEPTH_WORDS * depth];
-    let k = plan[DEPTH_WORDS * depth + COUNT];
+    let v = join.plan[DEPTH_WORDS * depth];
+    let k = join.plan[DEPTH_WORDS * depth + COUNT];
     let bound = bounds[v];
     let mut state = State {
         at: above,
@@ -63,7 +51,7 @@ pub fn descend_after(
     };
     let mut ring = [0usize; MAX_ATOMS];
     let mut by_atom = [0usize; MAX_ATOMS];
-    let landed = open_from(&join, depth, &mut state, &mut ring, &mut by_atom, bound);
+    let landed = open_from(join, depth, &mut state, &mut ring, &mut by_atom, bound);
     let Landed::Key { key, p } = landed else {
         return Written {
             rows: from,
@@ -72,17 +60,13 @@ pub fn descend_after(
     };
     if key != bound {
         return walk_rest(
-            &join, depth, state, ring, by_atom, landed, found, window, from,
+            join, depth, state, ring, by_atom, landed, found, window, from,
         );
     }
     let mut row = found;
     row[v] = key;
     let below = descend_after(
-        strategy,
-        pool,
-        plan,
-        ends,
-        n,
+        join,
         depth + 1,
         state.at,
         state.own,
@@ -94,10 +78,17 @@ pub fn descend_after(
     if below.full {
         return below;
     }
-    let next = onward(&join, &mut state, &ring, &by_atom, k, p, depth + 1 == n, 0);
+    let next = onward(
+        join,
+        &mut state,
+        &ring,
+        &by_atom,
+        k,
+        p,
+        depth + 1 == join.n,
+        0,
+    );
     let then = next.landed;
     let rows = below.rows;
-    walk_rest(
-        &join, depth, state, ring, by_atom, then, found, window, rows,
-    )
+    walk_rest(join, depth, state, ring, by_atom, then, found, window, rows)
 }

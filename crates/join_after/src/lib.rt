@@ -13,6 +13,7 @@ ghost use Rattle.join_after.specs.From.{listed_from};
 use descent::descend;
 use descent_after::descend_after;
 use join_checks::check;
+use join_openings::Join;
 use join_plan::{ENDS, PLAN_WORDS, make_ends, make_plan};
 use join_query::{Query, Tables};
 use join_window::Written;
@@ -37,16 +38,19 @@ fn list_after(
     make_plan(&mut plan, tables, query);
     let mut ends = [0usize; ENDS];
     make_ends(&mut ends, tables, query);
+    let join = Join {
+        pool,
+        plan: &plan,
+        ends: &ends,
+        n: query.n,
+        strategy,
+    };
     let at = [0usize; Query::MAX_ATOMS];
     let row = [0u64; Query::MAX_VARIABLES];
     if let Some(given) = after {
-        return descend_after(
-            strategy, pool, &plan, &ends, query.n, 0, at, at, row, given, window, 0,
-        );
+        return descend_after(&join, 0, at, at, row, given, window, 0);
     }
-    let all = descend(
-        pool, window, strategy, &plan, &ends, query.n, 0, at, at, row, 0, 0,
-    );
+    let all = descend(&join, window, 0, at, at, row, 0, 0);
     Written {
         rows: all.rows,
         full: all.full,

@@ -10,6 +10,7 @@ ghost use Rattle.leapfrog_triejoin.specs.Outcome.{Joins};
 
 use descent::descend;
 use join_checks::check;
+use join_openings::Join;
 use join_plan::{ENDS, PLAN_WORDS, make_ends, make_plan};
 use join_query::{Query, Tables};
 use refusal::Refusal;
@@ -47,11 +48,16 @@ pub fn join(
     make_plan(&mut plan, tables, query);
     let mut ends = [0usize; ENDS];
     make_ends(&mut ends, tables, query);
+    let join = Join {
+        pool,
+        plan: &plan,
+        ends: &ends,
+        n: query.n,
+        strategy,
+    };
     let at = [0usize; Query::MAX_ATOMS];
     let row = [0u64; Query::MAX_VARIABLES];
-    let written = descend(
-        pool, window, strategy, &plan, &ends, query.n, 0, at, at, row, 0, 0,
-    );
+    let written = descend(&join, window, 0, at, at, row, 0, 0);
     Joined {
         number: if written.full {
             Refusal::Full.number()

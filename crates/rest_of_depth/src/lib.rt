@@ -6,7 +6,7 @@ ghost use Rattle.std.specs.Prelude.{length};
 ghost use Rattle.join_window.specs.Window.{Fits};
 ghost use Rattle.rest_of_depth.specs.Rest.{Underway, Walks};
 
-use descent::descend_in;
+use descent::descend;
 use join_depths::depth::onward;
 use join_openings::Join;
 use join_plan::{COUNT, DEPTH_WORDS};
@@ -43,7 +43,7 @@ pub fn walk_rest(
         };
         let mut row = found;
         row[v] = key;
-        let below = descend_in(join, window, depth + 1, state.at, state.own, row, rows, 0);
+        let below = descend(join, window, depth + 1, state.at, state.own, row, rows, 0);
         if below.full {
             return Written {
                 rows: below.rows,

@@ -22,100 +22,100 @@ small st h = variable_small st (deep st h)
 
 -- ---- no variable is left
 
-pub returns-then-depth-n : goal.returns-then-depth-n
-returns-then-depth-n t c = after_leaf c.if-depth-n.true
+pub returns-then-depth-join : goal.returns-then-depth-join
+returns-then-depth-join t c = after_leaf c.if-depth-join.true
 
 -- ---- the depth is opened
 
 pub overflow_mul-v : goal.overflow_mul-v
-overflow_mul-v t c = omega (arith, few_variables c.requires.standing, deep c.requires.standing c.if-depth-n.false)
+overflow_mul-v t c = omega (arith, few_variables c.requires.standing, deep c.requires.standing c.if-depth-join.false)
 
-pub offset_bounds-plan-depth : goal.offset_bounds-plan-depth
-offset_bounds-plan-depth t c = omega (arith, few_variables c.requires.standing, deep c.requires.standing c.if-depth-n.false)
+pub offset_bounds-join-depth : goal.offset_bounds-join-depth
+offset_bounds-join-depth t c = omega (arith, few_variables c.requires.standing, deep c.requires.standing c.if-depth-join.false)
 
-pub bounds-plan-depth : goal.bounds-plan-depth
-bounds-plan-depth t c = omega (arith, few_variables c.requires.standing, deep c.requires.standing c.if-depth-n.false)
+pub bounds-join-depth : goal.bounds-join-depth
+bounds-join-depth t c = omega (arith, few_variables c.requires.standing, deep c.requires.standing c.if-depth-join.false)
 
 pub overflow_mul-k : goal.overflow_mul-k
-overflow_mul-k t c = omega (arith, few_variables c.requires.standing, deep c.requires.standing c.if-depth-n.false)
+overflow_mul-k t c = omega (arith, few_variables c.requires.standing, deep c.requires.standing c.if-depth-join.false)
 
 pub overflow_add-k : goal.overflow_add-k
-overflow_add-k t c = omega (arith, few_variables c.requires.standing, deep c.requires.standing c.if-depth-n.false)
+overflow_add-k t c = omega (arith, few_variables c.requires.standing, deep c.requires.standing c.if-depth-join.false)
 
-pub offset_bounds-plan-depth-2 : goal.offset_bounds-plan-depth-2
-offset_bounds-plan-depth-2 t c = omega (arith, few_variables c.requires.standing, deep c.requires.standing c.if-depth-n.false)
+pub offset_bounds-join-depth-2 : goal.offset_bounds-join-depth-2
+offset_bounds-join-depth-2 t c = omega (arith, few_variables c.requires.standing, deep c.requires.standing c.if-depth-join.false)
 
-pub bounds-plan-depth-2 : goal.bounds-plan-depth-2
-bounds-plan-depth-2 t c = omega (arith, few_variables c.requires.standing, deep c.requires.standing c.if-depth-n.false)
+pub bounds-join-depth-2 : goal.bounds-join-depth-2
+bounds-join-depth-2 t c = omega (arith, few_variables c.requires.standing, deep c.requires.standing c.if-depth-join.false)
 
 pub offset_bounds-bounds-v : goal.offset_bounds-bounds-v
-offset_bounds-bounds-v t c = omega (arith, small c.requires.standing c.if-depth-n.false)
+offset_bounds-bounds-v t c = omega (arith, small c.requires.standing c.if-depth-join.false)
 
 pub bounds-bounds-v : goal.bounds-bounds-v
-bounds-bounds-v t c = small c.requires.standing c.if-depth-n.false
+bounds-bounds-v t c = small c.requires.standing c.if-depth-join.false
 
 -- no key is left
 pub returns-in_default : goal.returns-in_default
 returns-in_default t c =
     let st = c.requires.standing in
-    after_none c.args.bounds c.open_from-landed.ensures st (deep st c.if-depth-n.false) c.in_default.is
+    after_none c.args.bounds c.open_from-landed.ensures st (deep st c.if-depth-join.false) c.in_default.is
 
 -- ---- a key is found, and is not the given row's word
 
 pub walk_rest-requires-clause-underway : goal.walk_rest-requires-clause-underway
 walk_rest-requires-clause-underway t c =
     let st = c.requires.standing in
-    after_underway c.args.bounds c.open_from-landed.ensures st (deep st c.if-depth-n.false) c.in-Key.is
+    after_underway c.args.bounds c.open_from-landed.ensures st (deep st c.if-depth-join.false) c.in-Key.is
 
 pub returns-then-key-bound : goal.returns-then-key-bound
 returns-then-key-bound t c =
     let st = c.requires.standing in
-    after_past c.args.bounds c.open_from-landed.ensures st (deep st c.if-depth-n.false) c.in-Key.is c.if-key-bound.true c.walk_rest.ensures
+    after_past c.args.bounds c.open_from-landed.ensures st (deep st c.if-depth-join.false) c.in-Key.is c.if-key-bound.true c.walk_rest.ensures
 
 -- ---- it is: the descent below it
 
 pub offset_bounds-row-v : goal.offset_bounds-row-v
-offset_bounds-row-v t c = omega (arith, small c.requires.standing c.if-depth-n.false)
+offset_bounds-row-v t c = omega (arith, small c.requires.standing c.if-depth-join.false)
 
 pub bounds-row-v : goal.bounds-row-v
-bounds-row-v t c = small c.requires.standing c.if-depth-n.false
+bounds-row-v t c = small c.requires.standing c.if-depth-join.false
 
 pub descend_after-below-requires : goal.descend_after-below-requires
 descend_after-below-requires t c =
     let st = c.requires.standing in
-    let below = deep st c.if-depth-n.false in
+    let below = deep st c.if-depth-join.false in
     (omega (arith, c.decreases, below), (after_below c.args.bounds c.open_from-landed.ensures st below c.in-Key.is, c.requires.fits))
 
 -- the window is full
 pub returns-then-below : goal.returns-then-below
 returns-then-below t c =
     let st = c.requires.standing in
-    after_filled c.args.bounds c.open_from-landed.ensures st (deep st c.if-depth-n.false) c.in-Key.is c.if-key-bound.false c.args.found c.descend_after-below.ensures c.if-below.true
+    after_filled c.args.bounds c.open_from-landed.ensures st (deep st c.if-depth-join.false) c.in-Key.is c.if-key-bound.false c.args.found c.descend_after-below.ensures c.if-below.true
 
 -- ---- or the rest is walked
 
 pub onward-next-requires-clause-whole_agreed : goal.onward-next-requires-clause-whole_agreed
 onward-next-requires-clause-whole_agreed t c =
     let st = c.requires.standing in
-    after_agreed c.args.bounds c.open_from-landed.ensures st (deep st c.if-depth-n.false) c.in-Key.is
+    after_agreed c.args.bounds c.open_from-landed.ensures st (deep st c.if-depth-join.false) c.in-Key.is
 
 pub onward-next-requires-clause-same_atoms : goal.onward-next-requires-clause-same_atoms
 onward-next-requires-clause-same_atoms t c =
     let st = c.requires.standing in
-    after_same c.args.bounds c.open_from-landed.ensures st (deep st c.if-depth-n.false) c.in-Key.is
+    after_same c.args.bounds c.open_from-landed.ensures st (deep st c.if-depth-join.false) c.in-Key.is
 
 pub walk_rest-requires-2-clause-underway : goal.walk_rest-requires-2-clause-underway
 walk_rest-requires-2-clause-underway t c =
     let st = c.requires.standing in
-    after_next c.args.bounds c.open_from-landed.ensures st (deep st c.if-depth-n.false) c.in-Key.is c.onward-next.ensures.steps
+    after_next c.args.bounds c.open_from-landed.ensures st (deep st c.if-depth-join.false) c.in-Key.is c.onward-next.ensures.steps
 
 pub walk_rest-requires-2-clause-fits : goal.walk_rest-requires-2-clause-fits
 walk_rest-requires-2-clause-fits t c =
     let st = c.requires.standing in
     let long : length c.args.found ≡ max_variables = search rules in
-    after_fitting c.args.bounds c.open_from-landed.ensures st (deep st c.if-depth-n.false) c.in-Key.is c.if-key-bound.false c.args.found c.descend_after-below.ensures long c.requires.fits
+    after_fitting c.args.bounds c.open_from-landed.ensures st (deep st c.if-depth-join.false) c.in-Key.is c.if-key-bound.false c.args.found c.descend_after-below.ensures long c.requires.fits
 
 pub returns : goal.returns
 returns t c =
     let st = c.requires.standing in
-    after_rest c.args.bounds c.open_from-landed.ensures st (deep st c.if-depth-n.false) c.in-Key.is c.if-key-bound.false c.args.found c.descend_after-below.ensures c.onward-next.ensures.steps c.if-below.false c.walk_rest-2.ensures
+    after_rest c.args.bounds c.open_from-landed.ensures st (deep st c.if-depth-join.false) c.in-Key.is c.if-key-bound.false c.args.found c.descend_after-below.ensures c.onward-next.ensures.steps c.if-below.false c.walk_rest-2.ensures

@@ -52,14 +52,14 @@ bounds-row-v c = omega (arith, variable_small c.requires.underway, few_variables
 pub overflow_add-depth : goal.overflow_add-depth
 overflow_add-depth c = omega (arith, few_variables c.requires.underway, c.requires.underway.below)
 
-pub descend_in-below-requires : goal.descend_in-below-requires
-descend_in-below-requires c =
+pub descend-below-requires : goal.descend-below-requires
+descend-below-requires c =
     let e = c.in-Key.is in
     let i = c.loop-landed.invariant in
     record { standing = walk_below c.requires.underway e i; fits = walk_fits c.requires.underway e i }
 
 pub returns-then-below : goal.returns-then-below
-returns-then-below c = walk_full c.requires.underway c.in-Key.is c.loop-landed.invariant c.descend_in-below.ensures.descended c.if-below.true
+returns-then-below c = walk_full c.requires.underway c.in-Key.is c.loop-landed.invariant c.descend-below.ensures.descended c.if-below.true
 
 pub overflow_add-depth-in-loop-landed : goal.overflow_add-depth-in-loop-landed
 overflow_add-depth-in-loop-landed c = omega (arith, few_variables c.requires.underway, c.requires.underway.below)
@@ -74,4 +74,4 @@ pub loop-landed-smaller : goal.loop-landed-smaller
 loop-landed-smaller c = steps_less c.in-Key.is c.onward-next.ensures.steps
 
 pub loop-landed-preserved : goal.loop-landed-preserved
-loop-landed-preserved c = walk_next c.requires.underway c.in-Key.is c.loop-landed.invariant c.descend_in-below.ensures.descended (long (goal.at.loop-landed-preserved c).Start) c.if-below.false c.onward-next.ensures.steps
+loop-landed-preserved c = walk_next c.requires.underway c.in-Key.is c.loop-landed.invariant c.descend-below.ensures.descended (long (goal.at.loop-landed-preserved c).Start) c.if-below.false c.onward-next.ensures.steps

@@ -1,12 +1,12 @@
--- The measure of `descend_in`, how many variables are left, and its loop: the keys left at this depth lead to its end (Walking.antt).
+-- The measure of `descend`, how many variables are left, and its loop: the keys left at this depth lead to its end (Walking.antt).
 use Prim.Native.Nat.{◌-◌}
 use Rattle.join_openings.specs.Openings.{count_at}
 use Rattle.descent.proofs.Walking.{Walk, keys_left}
 use Rattle.descent.proofs.Counting.{Counting}
-use Rattle.descent.proofs.+descend_in.Given as goal
+use Rattle.descent.proofs.+descend.Given as goal
 
-abbrev pub decreases-descend_in : goal.decreases-descend_in
-decreases-descend_in l = l.join.now.n - l.depth
+abbrev pub decreases-descend : goal.decreases-descend
+decreases-descend l = l.join.now.n - l.depth
 
 abbrev pub invariant-loop-landed : goal.invariant-loop-landed
 invariant-loop-landed l =

@@ -1,4 +1,4 @@
--- `descend_in` meets its contract: with no variable left it writes one row; else the keys left at this depth lead to its end (Walking.antt), and the
+-- `descend` meets its contract: with no variable left it writes one row; else the keys left at this depth lead to its end (Walking.antt), and the
 -- call for each key is one depth further down.
 use Prim.Native.Nat.{ℕ, ◌+◌, ◌<◌}
 use native.Mathlib.Omega.{arith}
@@ -12,8 +12,8 @@ use Rattle.join_depths.specs.Depth.{Standing}
 use Rattle.descent.specs.Descent.{Completes}
 use Rattle.descent.proofs.Walking.{walk_start, walk_below, walk_agreed, walk_same, walk_fits, walk_full, walk_next, walk_none, steps_less, few_variables, deep_enough, variable_small}
 use Rattle.descent.proofs.Counting.{counting_start, completes_leaf, completes_came, counting_none, counting_full, counting_next}
-use Rattle.descent.proofs.+descend_in.Goals as goal
-use Rattle.descent.proofs.+descend_in.Goals.{Joined-depth-join-2, then-depth-join-2, else-depth-join-2}
+use Rattle.descent.proofs.+descend.Goals as goal
+use Rattle.descent.proofs.+descend.Goals.{Joined-depth-join-2, then-depth-join-2, else-depth-join-2}
 
 -- a variable is left
 deep : {pool plan ends : List ℕ} {n d : ℕ} {above owned : List ℕ} → Standing pool plan ends n d above owned → (d ≡ n → ⊥) → d < n
@@ -91,8 +91,8 @@ complete-below-requires-clause-fits t c =
     walk_fits c.open-first.ensures.begun st (deep st c.if-depth-join.false) c.in-Key.is c.loop-landed.invariant.0
 
 -- or there are more
-pub descend_in-below-requires : goal.descend_in-below-requires
-descend_in-below-requires t c =
+pub descend-below-requires : goal.descend-below-requires
+descend-below-requires t c =
     let st = c.requires.standing in
     let below = deep st c.if-depth-join.false in
     let b = c.open-first.ensures.begun in
@@ -103,7 +103,7 @@ descend_in-below-requires t c =
 under : (t : ℕ) (u : Joined-depth-join-2 t) → let l = u.loop-landed in let a = u.args in let w = u.if-depth-join-2 in Completes a.join.now.pool.now a.join.now.plan.now a.join.now.ends.now a.join.now.n (a.depth + 1) l.state.at l.state.own (set l.row (variable_at a.join.now.plan.now a.depth) u.in-Key.key) l.window l.rows l.seeks w.window w.below.rows w.below.full w.below.seeks
 under t u = elim u.if-depth-join-2.branch [
   | then-depth-join-2 w ↦ completes_came w.window-is w.below-is (completes_leaf w.if-depth-join-2.true w.complete-below.ensures)
-  | else-depth-join-2 w ↦ completes_came w.window-is w.below-is w.descend_in-below.ensures
+  | else-depth-join-2 w ↦ completes_came w.window-is w.below-is w.descend-below.ensures
 ]
 
 -- the window is full
