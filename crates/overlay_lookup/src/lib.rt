@@ -1,7 +1,7 @@
 // A lookup by first key in a table laid over another, each in a lent pool: the keys under it, as a part of the school's pool if the school has the key, else
 // of the maker's.
 //
-// `lookup` says where the run lies, as C is answered, and `run_of` lends the run itself. Nothing is asked of pools, headers or key; where the tables are
+// `lookup` says where the run lies, as C is answered, and `run_of` lends the run itself; both take pools and headers one by one, as C and Rust link them. Nothing is asked of pools, headers or key; where the tables are
 // refused, or neither has the key, the run is empty.
 #![tactic(auto)]
 
