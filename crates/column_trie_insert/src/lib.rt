@@ -68,7 +68,7 @@ fn add_row(pool: &mut [u64], t: ColumnTrie, tuple: &[u64], path: Path) -> Column
     out
 }
 
-// The refusal's number, 0 for none; whether the tuple was not there; and the header.
+// The refusal's number, 0 for none; whether the tuple was not there; and the header. C's struct, so a number stands where Rust has a Result.
 #[repr(C)]
 #[derive(Clone, Copy)]
 pub struct Inserted {

@@ -40,7 +40,7 @@ fn put_text(bytes: &mut [u8], pool: &[u64], t: ColumnTrie) -> usize
     writer.end
 }
 
-// The refusal's number, 0 for none, and the text's length.
+// The refusal's number, 0 for none, and the text's length. C's struct, so a number stands where Rust has a Result.
 #[repr(C)]
 #[derive(Clone, Copy)]
 pub struct Listed {

@@ -67,7 +67,7 @@ fn cut_row(pool: &mut [u64], t: ColumnTrie, fork: Option<Fork>) -> ColumnTrie
     out
 }
 
-// The refusal's number, 0 for none; whether the tuple was there; and the header.
+// The refusal's number, 0 for none; whether the tuple was there; and the header. C's struct, so a number stands where Rust has a Result.
 #[repr(C)]
 #[derive(Clone, Copy)]
 pub struct Removed {

@@ -80,7 +80,7 @@ fn put_file(bytes: &mut [u8], pool: &[u64], t: ColumnTrie)
     put_tag(bytes, end, 3, 0);
 }
 
-// The refusal's number, 0 for none, and the file's length.
+// The refusal's number, 0 for none, and the file's length. C's struct, so a number stands where Rust has a Result.
 #[repr(C)]
 #[derive(Clone, Copy)]
 pub struct FileWritten {

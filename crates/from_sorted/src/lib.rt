@@ -10,7 +10,7 @@ ghost use Rattle.from_sorted.specs.Push.{Appends, CanPush, Pushed, Filling, Fill
 
 use column_trie::{ColumnTrie, layer_at};
 
-// What a call that fills a table answers: a number, and the table's header.
+// What a call that fills a table answers: a number, and the table's header. C's struct, so a number stands where Rust has a Result.
 #[repr(C)]
 #[derive(Clone, Copy)]
 pub struct Built {

@@ -75,7 +75,8 @@ fn open_one(join: &Join, base: usize, state: &mut State) -> bool
     true
 }
 
-// Opens the atoms that take part at a depth, with both rings in atom order; false where one has no keys.
+// Opens the atoms that take part at a depth, with both rings in atom order; false where one has no keys. The two rings go side by side through a depth and are no struct: a
+// leapfrog's call takes the one or the other, and each contract says of each apart what becomes of it.
 pub fn open_all(
     join: &Join,
     depth: usize,

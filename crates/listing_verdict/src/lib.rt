@@ -7,7 +7,7 @@
 use join_query::Query;
 
 // The number of the first of the join's checks that the query fails, or 0; the verdict; the row that is wrong, where that is the verdict; the row that is missing, by
-// variable number, where that is. All else is zeros.
+// variable number, where that is. All else is zeros. C's struct, so numbers stand where Rust has a Result and an enum.
 #[repr(C)]
 #[derive(Clone, Copy)]
 pub struct Checked {

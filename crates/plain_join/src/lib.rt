@@ -52,6 +52,7 @@ fn search(asked: Asked, left: usize, mut found: Row, window: &mut [u64], rows: u
     written
 }
 
+// C's struct, so a number stands where Rust has a Result.
 #[repr(C)]
 #[derive(Clone, Copy)]
 pub struct PlainJoined {
