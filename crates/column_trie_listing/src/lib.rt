@@ -5,7 +5,7 @@
 // over no room at all before the first byte is written, and a refusal leaves the buffer as it was.
 #![tactic(auto)]
 
-ghost use Rattle.std.specs.Prelude.{◌≡◌, true, ◌+◌, ◌≤◌, ◌<◌, ◌^◌, length};
+ghost use Rattle.std.specs.Prelude.{◌+◌, ◌≤◌, ◌<◌, ◌^◌};
 ghost use Rattle.column_trie.specs.Table.{layer_in, layers_in};
 ghost use Rattle.layer_text.specs.Text.{layer_text, text};
 ghost use Rattle.layer_text.specs.Piece.{PieceWritten};
