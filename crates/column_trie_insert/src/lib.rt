@@ -37,12 +37,14 @@ fn add_layer(
     let intervals = t.interval_len[d];
     let mut out = t;
     out.data_len[d] = keys + 1;
-    wedge(pool, data_from, at, keys, key);
+    let data_to = data_from + keys;
+    wedge(&mut pool[data_from..data_to + 1], at, key);
+    let interval_to = interval_from + intervals;
     if fresh {
-        wedge_raised(pool, interval_from, i, intervals, at as u64);
+        wedge_raised(&mut pool[interval_from..interval_to + 1], i, at as u64);
         out.interval_len[d] = intervals + 1;
     } else {
-        raise(pool, interval_from, i + 1, intervals);
+        raise(&mut pool[interval_from + i + 1..interval_to]);
     }
     out
 }

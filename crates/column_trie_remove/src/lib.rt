@@ -34,12 +34,14 @@ fn cut_layer(
     let intervals = t.interval_len[d];
     let mut out = t;
     out.data_len[d] = keys - 1;
-    close(pool, data_from, at, keys);
+    let data_to = data_from + keys;
+    close(&mut pool[data_from..data_to], at);
+    let interval_to = interval_from + intervals;
     if lone {
-        close_lowered(pool, interval_from, i, intervals);
+        close_lowered(&mut pool[interval_from..interval_to], i);
         out.interval_len[d] = intervals - 1;
     } else {
-        lower(pool, interval_from, i + 1, intervals);
+        lower(&mut pool[interval_from + i + 1..interval_to]);
     }
     out
 }
