@@ -49,22 +49,28 @@ fn add_layer(
     out
 }
 
-// Adds the tuple's keys, layer by layer from the first that isn't stored; below it each has a new parent, and so its own interval.
+// Adds the tuple's keys, layer by layer from the first that isn't stored, whose place the path has; below it each has a new parent, and so its own interval.
+// It shares the walk alone with a removal's `cut_row`: one function for both would take the step on a layer as a closure, with the closure's pre and post in
+// the place of what either promises.
 fn add_row(pool: &mut [u64], t: ColumnTrie, tuple: &[u64], path: Path) -> ColumnTrie
     requires { Addable pool.old t tuple.now path }
     ensures { RowAdded pool.old pool.new t tuple.now result }
 {
     let mut out = t;
     let mut i = path.interval;
-    let mut at = path.at;
-    let mut fresh = t.tuple_count == 0;
+    let mut known = if t.tuple_count == 0 {
+        None
+    } else {
+        Some(path.at)
+    };
     for d in path.depth..t.arity {
-        if fresh {
-            at = Sound { pool, table: out }.begins(d, i);
-        }
+        let (at, fresh) = match known {
+            Some(at) => (at, false),
+            None => (Sound { pool, table: out }.begins(d, i), true),
+        };
         out = add_layer(pool, out, d, i, at, tuple[d], fresh);
         i = at;
-        fresh = true;
+        known = None;
     }
     out.tuple_count = t.tuple_count + 1;
     out

@@ -53,17 +53,18 @@ fn cut_row(pool: &mut [u64], t: ColumnTrie, fork: Option<Fork>) -> ColumnTrie
     ensures { ForkCut pool.old pool.new t fork result }
 {
     let mut out = t;
-    let (depth, mut i, mut at, mut lone) = match fork {
-        Some(f) => (f.depth, f.interval, f.at, false),
-        None => (0, 0, 0, true),
+    let (depth, mut i, mut known) = match fork {
+        Some(f) => (f.depth, f.interval, Some(f.at)),
+        None => (0, 0, None),
     };
     for d in depth..t.arity {
-        if lone {
-            at = Sound { pool, table: out }.begins(d, i);
-        }
+        let (at, lone) = match known {
+            Some(at) => (at, false),
+            None => (Sound { pool, table: out }.begins(d, i), true),
+        };
         out = cut_layer(pool, out, d, i, at, lone);
         i = at;
-        lone = true;
+        known = None;
     }
     out.tuple_count = t.tuple_count - 1;
     out
