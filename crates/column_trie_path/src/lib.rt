@@ -9,12 +9,11 @@ use column_trie::{ColumnTrie, layer_at};
 use seek::{SeekStrategy, partition_point};
 use sound_table::Sound;
 
-// Where a key stands in its group, or where it goes; whether the group has more than one key; and how many keys the search looked at. Nobody asks for
-// that number: it is there so that the contract can bound it. `there` is no Option's flag: `at` counts in both cases.
+// Where a key stands in its group, or, as an `Err`, where it goes; whether the group has more than one key; and how many keys the search looked at. Nobody
+// asks for that number: it is there so that the contract can bound it.
 #[derive(Clone, Copy)]
 pub struct KeyPlace {
-    pub at: usize,
-    pub there: bool,
+    pub place: Result<usize, usize>,
     pub several: bool,
     pub probes: usize,
 }
@@ -62,9 +61,10 @@ pub fn find_place(table: &Sound, d: usize, i: usize, key: u64) -> KeyPlace
     let run_to = data_from + to;
     let run = &table.pool[run_from..run_to];
     let sought = partition_point(SeekStrategy::Binary, run, key);
+    let at = from + sought.offset;
+    let place = if sought.hit { Ok(at) } else { Err(at) };
     KeyPlace {
-        at: from + sought.offset,
-        there: sought.hit,
+        place,
         several: from + 1 < to,
         probes: sought.probes,
     }
@@ -80,23 +80,26 @@ pub fn find_path(pool: &[u64], t: ColumnTrie, tuple: &[u64]) -> Path
     let mut fork = None;
     for d in 0..t.arity {
         let p = find_place(&table, d, i, tuple[d]);
-        if !p.there {
-            return Path {
-                depth: d,
-                interval: i,
-                at: p.at,
-                fork,
-            };
-        }
+        let at = match p.place {
+            Ok(at) => at,
+            Err(at) => {
+                return Path {
+                    depth: d,
+                    interval: i,
+                    at,
+                    fork,
+                };
+            }
+        };
         if p.several {
             let last = Fork {
                 depth: d,
                 interval: i,
-                at: p.at,
+                at,
             };
             fork = Some(last);
         }
-        i = p.at;
+        i = at;
     }
     Path {
         depth: t.arity,

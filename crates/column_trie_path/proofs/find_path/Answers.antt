@@ -4,7 +4,6 @@ use mathlib.Core.Path.{◌≡◌, refl, sym, subst}
 use mathlib.Core.Logic.{inl, inr}
 use native.Mathlib.Omega.{arith}
 use lib.ListN.{get_or}
-use borrow.Author.Tests.{not-true, not-false}
 use Rattle.relation.specs.Layers.{Layer}
 use Rattle.relation.proofs.Layers.{ranked_at}
 use Rattle.column_trie.specs.Table.{rows_in, layer_in, Undamaged}
@@ -55,15 +54,15 @@ find_place-p-requires c =
       subst (λ (l : Layer). Grouped l c.loop-d.i) (sym (layer_words (goal.at.find_place-p-requires c).Start d h)) (walking_grouped (held (goal.at.find_place-p-requires c).Start).width c.requires.1 c.loop-d.invariant.walk h),
     )
 
-pub returns-then-not-p : goal.returns-then-not-p
-returns-then-not-p c =
+pub returns-in-Err : goal.returns-in-Err
+returns-in-Err c =
     let v = c.loop-d.invariant in
-    walking_left (held (goal.at.returns-then-not-p c).Start).width c.requires.1 v.walk c.loop-d-test.true refl (place (goal.at.returns-then-not-p c).After-find_place-p (layer_words (goal.at.returns-then-not-p c).Start c.loop-d.d c.loop-d-test.true)) (not-true _ c.if-not-p.true) v.fork
+    walking_left (held (goal.at.returns-in-Err c).Start).width c.requires.1 v.walk c.loop-d-test.true refl (place (goal.at.returns-in-Err c).After-find_place-p (layer_words (goal.at.returns-in-Err c).Start c.loop-d.d c.loop-d-test.true)) c.in-Err.is v.fork
 
 pub loop-d-preserved : goal.loop-d-preserved
 loop-d-preserved c =
     let v = c.loop-d.invariant in
-    descending_next (held (goal.at.loop-d-preserved c).Start).width c.requires.1 v.walk c.loop-d-test.true refl (place (goal.at.loop-d-preserved c).After-find_place-p (layer_words (goal.at.loop-d-preserved c).Start c.loop-d.d c.loop-d-test.true)) (not-false _ c.if-not-p.false) v.fork
+    descending_next (held (goal.at.loop-d-preserved c).Start).width c.requires.1 v.walk c.loop-d-test.true refl (place (goal.at.loop-d-preserved c).After-find_place-p (layer_words (goal.at.loop-d-preserved c).Start c.loop-d.d c.loop-d-test.true)) c.in-Ok.is v.fork
     (elim c.if-p.branch [ then-p w ↦ inl (w.if-p.true, w.fork-is) | else-p w ↦ inr (w.if-p.false, w.fork-is) ])
 
 pub returns : goal.returns
