@@ -13,9 +13,9 @@ ghost use Rattle.column_trie_insert.specs.Grow.{Roomy, Addable, RowAdded};
 ghost use Rattle.column_trie_insert.specs.Insert.{Inserts};
 
 use column_trie::{ColumnTrie, layer_at};
-use column_trie_path::{Path, find_path, top};
+use column_trie_path::{Path, check, find_path, top};
 use refusal::Refusal;
-use sound_table::{Sound, undamaged};
+use sound_table::Sound;
 use wedge::{raise, wedge, wedge_raised};
 
 // Puts `key` at place `at` of layer d, under parent i, which has its interval already unless it is `fresh`. The header comes back with the lengths. It is no
@@ -101,11 +101,8 @@ fn unchanged(number: u64, table: ColumnTrie) -> Inserted
 pub fn insert(pool: &mut [u64], table: ColumnTrie, tuple: &[u64]) -> Inserted
     ensures { Inserts pool.old pool.new table tuple.now result }
 {
-    if !undamaged(pool, table) {
-        return unchanged(Refusal::Damaged.number(), table);
-    }
-    if tuple.len() != table.arity {
-        return unchanged(Refusal::BadLength.number(), table);
+    if let Err(refused) = check(pool, table, tuple) {
+        return unchanged(refused.number(), table);
     }
     let path = if table.tuple_count == 0 {
         top()

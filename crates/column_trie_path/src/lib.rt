@@ -1,13 +1,29 @@
-// Where a tuple's keys stand in a table: what an insert and a removal share. The search in a group is by halving.
+// What an insert and a removal share: their first checks, and where a tuple's keys stand in a table. The search in a group is by halving.
 #![tactic(auto)]
 
 ghost use Rattle.std.specs.Prelude.{◌≡◌, true, ◌<◌, length};
+ghost use Rattle.refusal.specs.Number.{given};
 ghost use Rattle.column_trie.specs.Table.{layer_in, rows_in, header_sound, undamaged};
+ghost use Rattle.column_trie_path.specs.Check.{tuple_number};
 ghost use Rattle.column_trie_path.specs.Place.{Grouped, KeyPlaceOf, PathOf};
 
 use column_trie::{ColumnTrie, layer_at};
+use refusal::Refusal;
 use seek::{SeekStrategy, partition_point};
-use sound_table::Sound;
+use sound_table::{Sound, undamaged};
+
+// The first check of an insert or a removal that refuses.
+pub fn check(pool: &[u64], t: ColumnTrie, tuple: &[u64]) -> Result<(), Refusal>
+    ensures { given result ≡ tuple_number pool.now t tuple.now }
+{
+    if !undamaged(pool, t) {
+        return Err(Refusal::Damaged);
+    }
+    if tuple.len() != t.arity {
+        return Err(Refusal::BadLength);
+    }
+    Ok(())
+}
 
 // Where a key stands in its group, or, as an `Err`, where it goes; whether the group has more than one key; and how many keys the search looked at. Nobody
 // asks for that number: it is there so that the contract can bound it.

@@ -12,9 +12,8 @@ ghost use Rattle.column_trie_remove.specs.Shrink.{shrunk, Shrinkable, ForkedSome
 ghost use Rattle.column_trie_remove.specs.Remove.{Removes};
 
 use column_trie::{ColumnTrie, layer_at};
-use column_trie_path::{Fork, find_path};
-use refusal::Refusal;
-use sound_table::{Sound, undamaged};
+use column_trie_path::{Fork, check, find_path};
+use sound_table::Sound;
 use wedge::{close, close_lowered, lower};
 
 // Takes the key at place `at` out of layer d. Its parent i loses its interval if that was its only key. The header comes back with the lengths.
@@ -95,11 +94,8 @@ fn unchanged(number: u64, table: ColumnTrie) -> Removed
 pub fn remove(pool: &mut [u64], table: ColumnTrie, tuple: &[u64]) -> Removed
     ensures { Removes pool.old pool.new table tuple.now result }
 {
-    if !undamaged(pool, table) {
-        return unchanged(Refusal::Damaged.number(), table);
-    }
-    if tuple.len() != table.arity {
-        return unchanged(Refusal::BadLength.number(), table);
+    if let Err(refused) = check(pool, table, tuple) {
+        return unchanged(refused.number(), table);
     }
     if table.tuple_count == 0 {
         return unchanged(0, table);
