@@ -84,12 +84,7 @@ pub fn read(bytes: &[u8], pool: &mut [u64], start: usize, capacity: usize) -> Bu
 {
     let file = match readable(bytes, pool.len(), start, capacity) {
         Ok(file) => file,
-        Err(refused) => {
-            return Built {
-                number: refused.number(),
-                table: ColumnTrie::empty(0, 0, 0),
-            };
-        }
+        Err(refused) => return Built::refused(refused),
     };
     let mut empty = ColumnTrie::empty(start, file.arity, capacity);
     empty.grade = read_kinds(bytes, file.arity);

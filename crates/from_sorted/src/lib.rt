@@ -3,12 +3,14 @@
 
 ghost use Rattle.std.specs.Prelude.{◌≡◌, ◌+◌, ◌-◌, ◌≤◌, ◌<◌, length, take, get_or};
 ghost use Rattle.relation.proofs.Order.{shared};
+ghost use Rattle.refusal.specs.Number.{number_of};
 ghost use Rattle.column_trie.specs.Limits.{max_arity};
-ghost use Rattle.column_trie.specs.Table.{relengthed};
+ghost use Rattle.column_trie.specs.Table.{empty_table, relengthed};
 ghost use Rattle.from_sorted.specs.Given.{rows_given};
 ghost use Rattle.from_sorted.specs.Push.{Appends, CanPush, Pushed, Filling, Fills};
 
 use column_trie::{ColumnTrie, layer_at};
+use refusal::Refusal;
 
 // What a call that fills a table answers: a number, and the table's header. C's struct, so a number stands where Rust has a Result.
 #[repr(C)]
@@ -16,6 +18,18 @@ use column_trie::{ColumnTrie, layer_at};
 pub struct Built {
     pub number: u64,
     pub table: ColumnTrie,
+}
+
+impl Built {
+    // What a refused call answers: the header is all zeros.
+    pub fn refused(by: Refusal) -> Built
+        ensures { (result.number ≡ number_of by) × (result.table ≡ empty_table 0 0 0) }
+    {
+        Built {
+            number: by.number(),
+            table: ColumnTrie::empty(0, 0, 0),
+        }
+    }
 }
 
 // How many leading keys two rows share, each the first `arity` words of what is lent.
