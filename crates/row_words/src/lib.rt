@@ -8,7 +8,7 @@ ghost use Rattle.row_words.specs.Words.{Fields, Wordable, Worded, AllPacked};
 use column_trie::ColumnTrie;
 use permuted_rows::Permuted;
 use row_path::next_path;
-use sound_table::Sound;
+use sound_table::{Intact, Sound};
 
 fn four(i: usize, x: usize, y: usize, z: usize) -> u64
     requires { (i < 65536) × (x < 65536) × (y < 65536) × (z < 65536) }
@@ -59,9 +59,11 @@ pub fn pack_rows(rows: &Permuted, words: &mut [u64])
 {
     let arity = rows.table.arity;
     let mut path = [0usize; ColumnTrie::MAX_ARITY];
-    let table = Sound {
-        pool: rows.pool,
-        table: rows.table,
+    let table = Intact {
+        sound: Sound {
+            pool: rows.pool,
+            table: rows.table,
+        },
     };
     for k in 0..words.len() {
         next_path(&table, &mut path, k);
