@@ -15,7 +15,7 @@ ghost use Rattle.column_trie_insert.specs.Insert.{Inserts};
 use column_trie::{ColumnTrie, layer_at};
 use column_trie_path::{Path, check, find_path, top};
 use refusal::Refusal;
-use sound_table::Sound;
+use sound_table::{Intact, Sound};
 use wedge::{raise, wedge, wedge_raised};
 
 // Puts `key` at place `at` of layer d, under parent i, which has its interval already unless it is `fresh`. The header comes back with the lengths. It is no
@@ -107,7 +107,10 @@ pub fn insert(pool: &mut [u64], table: ColumnTrie, tuple: &[u64]) -> Inserted
     let path = if table.tuple_count == 0 {
         top()
     } else {
-        find_path(pool, table, tuple)
+        let rows = Intact {
+            sound: Sound { pool, table },
+        };
+        find_path(&rows, tuple)
     };
     if path.depth == table.arity {
         return unchanged(0, table);

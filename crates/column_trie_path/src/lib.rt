@@ -1,16 +1,16 @@
 // What an insert and a removal share: their first checks, and where a tuple's keys stand in a table. The search in a group is by halving.
 #![tactic(auto)]
 
-ghost use Rattle.std.specs.Prelude.{◌≡◌, true, ◌<◌, length};
+ghost use Rattle.std.specs.Prelude.{◌≡◌, ◌<◌, length};
 ghost use Rattle.refusal.specs.Number.{given};
-ghost use Rattle.column_trie.specs.Table.{layer_in, rows_in, header_sound, undamaged};
+ghost use Rattle.column_trie.specs.Table.{layer_in, rows_in};
 ghost use Rattle.column_trie_path.specs.Check.{tuple_number};
 ghost use Rattle.column_trie_path.specs.Place.{Grouped, KeyPlaceOf, PathOf};
 
 use column_trie::{ColumnTrie, layer_at};
 use refusal::Refusal;
 use seek::{SeekStrategy, partition_point};
-use sound_table::{Sound, undamaged};
+use sound_table::{Intact, Sound, undamaged};
 
 // The first check of an insert or a removal that refuses.
 pub fn check(pool: &[u64], t: ColumnTrie, tuple: &[u64]) -> Result<(), Refusal>
@@ -87,15 +87,15 @@ pub fn find_place(table: &Sound, d: usize, i: usize, key: u64) -> KeyPlace
 }
 
 // Down the layers while the tuple's keys are stored, past the forks. The table has rows.
-pub fn find_path(pool: &[u64], t: ColumnTrie, tuple: &[u64]) -> Path
-    requires { (undamaged pool.now t ≡ true) × (length tuple.now ≡ t.arity) × (0 < t.tuple_count) }
-    ensures { PathOf t.arity (rows_in pool.now t) tuple.now result }
+pub fn find_path(rows: &Intact, tuple: &[u64]) -> Path
+    requires { (length tuple.now ≡ rows.now.sound.table.arity) × (0 < rows.now.sound.table.tuple_count) }
+    ensures { PathOf rows.now.sound.table.arity (rows_in rows.now.sound.pool.now rows.now.sound.table) tuple.now result }
 {
-    let table = Sound { pool, table: t };
+    let arity = rows.sound.table.arity;
     let mut i = 0;
     let mut fork = None;
-    for d in 0..t.arity {
-        let p = find_place(&table, d, i, tuple[d]);
+    for d in 0..arity {
+        let p = find_place(&rows.sound, d, i, tuple[d]);
         let at = match p.place {
             Ok(at) => at,
             Err(at) => {
@@ -118,7 +118,7 @@ pub fn find_path(pool: &[u64], t: ColumnTrie, tuple: &[u64]) -> Path
         i = at;
     }
     Path {
-        depth: t.arity,
+        depth: arity,
         interval: i,
         at: i,
         fork,

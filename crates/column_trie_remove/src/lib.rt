@@ -13,7 +13,7 @@ ghost use Rattle.column_trie_remove.specs.Remove.{Removes};
 
 use column_trie::{ColumnTrie, layer_at};
 use column_trie_path::{Fork, check, find_path};
-use sound_table::Sound;
+use sound_table::{Intact, Sound};
 use wedge::{close, close_lowered, lower};
 
 // Takes the key at place `at` out of layer d. Its parent i loses its interval if that was its only key. The header comes back with the lengths.
@@ -100,7 +100,10 @@ pub fn remove(pool: &mut [u64], table: ColumnTrie, tuple: &[u64]) -> Removed
     if table.tuple_count == 0 {
         return unchanged(0, table);
     }
-    let path = find_path(pool, table, tuple);
+    let rows = Intact {
+        sound: Sound { pool, table },
+    };
+    let path = find_path(&rows, tuple);
     if path.depth != table.arity {
         return unchanged(0, table);
     }

@@ -7,6 +7,7 @@ use lib.ListN.{length}
 use Rattle.refusal.specs.Number.{number_of}
 use Rattle.refusal.proofs.Numbers.{not_zero}
 use Rattle.column_trie.specs.Table.{rows_in, undamaged}
+use Rattle.column_trie.proofs.Damage.{undamaged_header}
 use Rattle.column_trie.proofs.Layers.{Whole}
 use Rattle.column_trie_path.specs.declared.Path.{Path}
 use Rattle.column_trie_path.specs.Place.{PathOf}
@@ -48,10 +49,16 @@ returns-in-Err c =
     let e = c.in-Err.refused in
     refused a.pool.now a.table a.tuple.now (number_of e) c.in-Err.ensures (not_zero e) c.unchanged.result (c.unchanged.ensures.0 ∙ c.number.ensures, c.unchanged.ensures.1, c.unchanged.ensures.2)
 
+pub invariant_of-rows-clause-sound : goal.invariant_of-rows-clause-sound
+invariant_of-rows-clause-sound c = undamaged_header c.args.pool.now c.args.table (passed (goal.at.invariant_of-rows-clause-sound c).In_default).0
+
+pub invariant_of-rows-else-table-eq0 : goal.invariant_of-rows-else-table-eq0
+invariant_of-rows-else-table-eq0 c = record { undamaged = (passed (goal.at.invariant_of-rows-else-table-eq0 c).In_default).0 }
+
 pub find_path-path-requires : goal.find_path-path-requires
 find_path-path-requires c =
     let p = passed (goal.at.find_path-path-requires c).In_default in
-    (p.0, p.1, lt_of_le-ne (omega arith) (λ z. c.if-table-eq0.false (sym z)))
+    (p.1, lt_of_le-ne (omega arith) (λ z. c.if-table-eq0.false (sym z)))
 
 pub returns-then-path-table : goal.returns-then-path-table
 returns-then-path-table c = there_already (located (goal.at.returns-then-path-table c).Joined-table-eq0 (passed (goal.at.returns-then-path-table c).In_default)) c.if-path-table.true c.unchanged-then-path-table.result c.unchanged-then-path-table.ensures

@@ -4,6 +4,7 @@ use native.Mathlib.Omega.{arith}
 use lib.Arith.{lt_of_le-ne}
 use Rattle.refusal.specs.Number.{number_of}
 use Rattle.refusal.proofs.Numbers.{not_zero}
+use Rattle.column_trie.proofs.Damage.{undamaged_header}
 use Rattle.column_trie_path.proofs.Checks.{accepted}
 use Rattle.column_trie_remove.proofs.Removes.{Accepted, refused, no_row, not_found, forked, taken_out}
 use borrow.Author.Rules.{rules}
@@ -23,10 +24,16 @@ returns-in-Err c =
 pub returns-then-table-eq0 : goal.returns-then-table-eq0
 returns-then-table-eq0 c = no_row (passed (goal.at.returns-then-table-eq0 c).In_default) c.if-table-eq0.true c.unchanged-then-table-eq0.result c.unchanged-then-table-eq0.ensures
 
+pub invariant_of-rows-clause-sound : goal.invariant_of-rows-clause-sound
+invariant_of-rows-clause-sound c = undamaged_header c.args.pool.now c.args.table (passed (goal.at.invariant_of-rows-clause-sound c).In_default).sound
+
+pub invariant_of-rows-2 : goal.invariant_of-rows-2
+invariant_of-rows-2 c = record { undamaged = (passed (goal.at.invariant_of-rows-2 c).In_default).sound }
+
 pub find_path-path-requires : goal.find_path-path-requires
 find_path-path-requires c =
     let p = passed (goal.at.find_path-path-requires c).In_default in
-    (p.sound, p.long, lt_of_le-ne (omega arith) (λ z. c.if-table-eq0.false (sym z)))
+    (p.long, lt_of_le-ne (omega arith) (λ z. c.if-table-eq0.false (sym z)))
 
 pub returns-then-path-table : goal.returns-then-path-table
 returns-then-path-table c = not_found (passed (goal.at.returns-then-path-table c).In_default) c.find_path-path.ensures c.if-path-table.true c.unchanged-then-path-table.result c.unchanged-then-path-table.ensures
