@@ -2,12 +2,15 @@
 -- there, and is the key's place once the group's start is added.
 use Prim.Native.Nat.{ℕ, suc, ◌+◌, ◌-◌, ◌≤◌, ◌<◌}
 use mathlib.Core.Path.{◌≡◌, sym, ap, ap₂, subst, ◌∙◌}
+use mathlib.Core.Bool.{true, false}
+use mathlib.Core.Logic.{◌⊎◌, inl, inr, ⊎_elim}
 use mathlib.Core.List.{List}
 use native.Mathlib.Omega.{arith}
 use native.Mathlib.Numerals.{add-one}
 use lib.Arith.{lt_of_le-ne}
 use lib.Dec.{ltb}
 use lib.ListN.{length, take, drop, get_or}
+use Rattle.std.specs.Prelude.{Result, Ok, Err}
 use Rattle.relation.proofs.Tests.{not_both}
 use Rattle.seek.specs.Offset.{NonFalling, Leading}
 use Rattle.seek.specs.Probes.{digits}
@@ -21,7 +24,7 @@ use Rattle.column_trie.specs.declared.ColumnTrie.{ColumnTrie}
 use Rattle.column_trie.proofs.Groups.{keys_long, intervals_long, starts_group, ends_group}
 use Rattle.column_trie.proofs.Header.{LayerFits, length_part}
 use Rattle.column_trie.proofs.Words.{part_at}
-use Rattle.column_trie_path.specs.Place.{Grouped, KeyPlaceOf}
+use Rattle.column_trie_path.specs.Place.{Grouped, KeyPlaceOf, either}
 
 -- a layer in the pool, a group of it, and where the code reads that its data starts, and the group in it starts and ends
 pub record GroupAt (pool : List ℕ) (t : ColumnTrie) (d i data_from from to : ℕ) : Type 0 where
@@ -89,17 +92,37 @@ module _ {pool : List ℕ} {t : ColumnTrie} {d i data_from from to : ℕ} (u : G
         let e : from + (j - from) ≡ j = omega (arith, starts) in
         subst (λ (n : ℕ). get_or (layer_in pool t d).keys n 0 < key) e (omega (arith, l.before (j - from) (omega (arith, starts)), run_at_lem (j - from) (omega (arith, starts, l.inside, run_long))))
 
-    pub place_sought : KeyPlaceOf (layer_in pool t d) i key (record { at = from + offset; there = hit_at (run pool data_from from to) key offset; several = ltb (from + 1) to; probes = probes })
-    place_sought =
-        let words = run pool data_from from to in
+    -- the place told is the seek's, there if it hits
+    pub place_sought :
+        (place : Result ℕ ℕ) → ((hit_at (run pool data_from from to) key offset ≡ true) × (place ≡ Ok (from + offset))) ⊎ ((hit_at (run pool data_from from to) key offset ≡ false) × (place ≡ Err (from + offset))) →
+        KeyPlaceOf (layer_in pool t d) i key (record { place = place; several = ltb (from + 1) to; probes = probes })
+    place_sought place s =
         record {
-          from = omega (arith, starts);
-          to = omega (arith, ends, run_long, l.inside, group_fits);
-          below = before;
-          found = λ e. let h = hit_means words key offset e in (omega (arith, ends, run_long, h.0), sym (run_at_lem offset (omega (arith, run_long, h.0))) ∙ h.1);
-          absent = λ e k.
-              let h : offset < length words = omega (arith, ends, run_long) in
-              omega (arith, run_at_lem offset (omega (arith, run_long)), lt_of_le-ne (l.stops h) (λ q. not_both (hit_at words key offset) (hit_given words key offset h (sym q)) e));
+          from = omega (arith, starts, same);
+          to = omega (arith, ends, run_long, l.inside, group_fits, same);
+          below = λ j h k. before j h (subst (λ (n : ℕ). j < n) same k);
+          found = there s;
+          absent = elsewhere s;
           several = ap₂ ltb (add-one from ∙ ap suc starts) ends;
           few = probes_few c;
         }
+      where
+        words : List ℕ
+        words = run pool data_from from to
+
+        same : either place ≡ from + offset
+        same = ⊎_elim (λ (x : (hit_at words key offset ≡ true) × (place ≡ Ok (from + offset))). ap either x.1) (λ (x : (hit_at words key offset ≡ false) × (place ≡ Err (from + offset))). ap either x.1) s
+
+        there : ((hit_at words key offset ≡ true) × (place ≡ Ok (from + offset))) ⊎ ((hit_at words key offset ≡ false) × (place ≡ Err (from + offset))) → (at : ℕ) → place ≡ Ok at → (at < group_to (layer_in pool t d) i) × (get_or (layer_in pool t d).keys at 0 ≡ key)
+        there (inl x) at e =
+            let h = hit_means words key offset x.0 in
+            let q : from + offset ≡ at = cc in
+            subst (λ (n : ℕ). (n < group_to (layer_in pool t d) i) × (get_or (layer_in pool t d).keys n 0 ≡ key)) q (omega (arith, ends, run_long, h.0), sym (run_at_lem offset (omega (arith, run_long, h.0))) ∙ h.1)
+        there (inr x) at e = cc
+
+        elsewhere : ((hit_at words key offset ≡ true) × (place ≡ Ok (from + offset))) ⊎ ((hit_at words key offset ≡ false) × (place ≡ Err (from + offset))) → (at : ℕ) → place ≡ Err at → at < group_to (layer_in pool t d) i → key < get_or (layer_in pool t d).keys at 0
+        elsewhere (inl x) at e k = cc
+        elsewhere (inr x) at e k =
+            let q : from + offset ≡ at = cc in
+            let h : offset < length words = omega (arith, ends, run_long) in
+            subst (λ (n : ℕ). key < get_or (layer_in pool t d).keys n 0) q (omega (arith, run_at_lem offset (omega (arith, run_long)), lt_of_le-ne (l.stops h) (λ z. not_both (hit_at words key offset) (hit_given words key offset h (sym z)) x.0)))

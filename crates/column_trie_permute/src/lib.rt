@@ -96,10 +96,7 @@ pub fn permute(
     ensures { Permutes pool.now table columns into.old start capacity into.new result }
 {
     if let Err(refused) = check(pool, table, columns, into.len(), start, capacity) {
-        return Built {
-            number: refused.number(),
-            table: ColumnTrie::empty(0, 0, 0),
-        };
+        return Built::refused(refused);
     }
     let arity = table.arity;
     let mut empty = ColumnTrie::empty(start, arity, capacity);

@@ -17,7 +17,7 @@ ghost use Rattle.file_read.specs.Read.{read_number, Reads};
 use column_trie::{ColumnTrie, capacity_ok, lies_in};
 use file_bytes::read_row;
 use file_check::{Checked, check, row_place};
-use from_sorted::{Built, Lengths, common_prefix_len};
+use from_sorted::{Built, Lengths};
 use refusal::Refusal;
 
 // What file the bytes are, if a pool of `len` words has room for a table of it; else the first check that refuses.
@@ -71,8 +71,7 @@ fn load(bytes: &[u8], at: usize, n: usize, pool: &mut [u64], t: ColumnTrie) -> C
     for i in 1..n {
         let place = row_place(at, arity, i);
         let row = read_row(bytes, place, arity);
-        let d = common_prefix_len(&last, &row, arity);
-        lengths.append_row(pool, t, &row, d, d + 1);
+        lengths.append_next(pool, t, &last, &row);
         last = row;
     }
     lengths.filled(t)
@@ -84,12 +83,7 @@ pub fn read(bytes: &[u8], pool: &mut [u64], start: usize, capacity: usize) -> Bu
 {
     let file = match readable(bytes, pool.len(), start, capacity) {
         Ok(file) => file,
-        Err(refused) => {
-            return Built {
-                number: refused.number(),
-                table: ColumnTrie::empty(0, 0, 0),
-            };
-        }
+        Err(refused) => return Built::refused(refused),
     };
     let mut empty = ColumnTrie::empty(start, file.arity, capacity);
     empty.grade = read_kinds(bytes, file.arity);

@@ -1,22 +1,20 @@
 -- The goals of `load` that the check leaves.
 use Prim.Native.Nat.{ℕ, ◌+◌, ◌*◌, ◌-◌, ◌≤◌, ◌<◌}
-use mathlib.Core.Path.{◌≡◌, sym, ap, ap₂, ◌∙◌, subst}
+use mathlib.Core.Path.{◌≡◌, sym, ap, ◌∙◌, subst}
 use mathlib.Core.List.{List, []}
 use native.Mathlib.Omega.{arith}
 use lib.ListN.{length, take, drop, get_or}
 use Rattle.relation.specs.Order.{Row}
-use Rattle.relation.proofs.Order.{shared}
 use Rattle.column_trie.specs.Limits.{max_arity}
-use Rattle.from_sorted.specs.Push.{Pushing, Fills}
-use Rattle.from_sorted.proofs.Fill.{pushing_first, filled_first, pushing_next, filled_next, fills_none, fills_all, can_push, pushed}
+use Rattle.from_sorted.specs.Push.{Following, Fills}
+use Rattle.from_sorted.proofs.Fill.{pushing_first, filled_first, fills_none, fills_all, can_push, pushed}
 use Rattle.table_file.specs.Bytes.{decode}
 use Rattle.table_file.specs.File.{parse}
 use Rattle.table_file.specs.Places.{place}
 use Rattle.file_read.specs.Load.{rows_found}
-use Rattle.file_read.proofs.Strict.{neighbours_differ}
 use borrow.Author.Rules.{rules}
 use Rattle.file_read.proofs.load.Goals as goal
-use Rattle.file_read.proofs.load.Goals.{After-common_prefix_len-d, After-read_row-last, After-read_row-row, Start}
+use Rattle.file_read.proofs.load.Goals.{After-read_row-last, After-read_row-row, Start}
 
 -- what the function is handed
 module _ (s : Start) where
@@ -69,52 +67,38 @@ read_row-row-requires c = seated (goal.at.read_row-row-requires c).Start c.loop-
 row_long : (c : After-read_row-row) → length c.read_row-row.result ≡ max_arity
 row_long c = search rules
 
-pub common_prefix_len-d-requires : goal.common_prefix_len-d-requires
-common_prefix_len-d-requires c =
-    (omega (arith, c.requires.fill.few, c.loop-i.invariant.1), omega (arith, c.requires.fill.few, row_long (goal.at.common_prefix_len-d-requires c).After-read_row-row))
-
--- the row that a turn appends, and from which column on
-module _ (c : After-common_prefix_len-d) where
+-- the row that a turn appends is the next one
+module _ (c : After-read_row-row) where
   abbrev rows : List Row
   rows = rows_found (parse c.args.bytes.now)
 
   abbrev i : ℕ
   i = c.loop-i.i
 
-  ahead : i < length rows
-  ahead = omega (arith, c.requires.many, c.loop-i-test.true)
-
   row_read : take c.args.t.arity c.read_row-row.result ≡ get_or rows i []
   row_read = c.read_row-row.ensures ∙ ap (λ (z : ℕ). decode c.args.t.arity (drop z c.args.bytes.now)) c.row_place-place.ensures ∙ (c.requires.lies i c.loop-i-test.true).is
 
-  -- the keys that row i shares with the row before it, and that it differs from it
-  from : c.common_prefix_len-d.result ≡ shared (get_or rows (i - 1) []) (get_or rows i [])
-  from = c.common_prefix_len-d.ensures ∙ ap₂ shared c.loop-i.invariant.2 row_read
+  following : Following (length c.args.pool.now) c.args.t rows c.append_row.new.pool c.loop-i.pool c.loop-i.lengths.data c.loop-i.lengths.intervals i (take c.args.t.arity c.loop-i.last) (take c.args.t.arity c.read_row-row.result)
+  following =
+      record {
+        filling = c.requires.fill;
+        width = c.requires.width;
+        filled = c.loop-i.invariant.0;
+        same = c.loop-i.invariant.0.long ∙ c.append_row.auto.pool;
+        more = omega (arith, c.requires.many, c.loop-i-test.true);
+        last_is = c.loop-i.invariant.2;
+        row_is = row_read;
+      }
 
-  differs : c.common_prefix_len-d.result < c.args.t.arity
-  differs = omega (arith, from, neighbours_differ c.requires.asc c.requires.width i c.loop-i.invariant.0.low ahead)
-
-  next : Pushing (length c.loop-i.pool) c.args.t c.loop-i.lengths.data c.loop-i.lengths.intervals (take i rows) (get_or rows i []) c.common_prefix_len-d.result (c.common_prefix_len-d.result + 1)
-  next =
-      let l = c.loop-i in
-      let d = c.common_prefix_len-d.result in
-      subst (λ (n : ℕ). Pushing n c.args.t l.lengths.data l.lengths.intervals (take i rows) (get_or rows i []) d (d + 1)) (sym (l.invariant.0.long ∙ c.append_row.auto.pool))
-      (pushing_next c.requires.fill c.requires.width d l.invariant.0 ahead from differs)
-
-pub overflow_add-d : goal.overflow_add-d
-overflow_add-d c = omega (arith, differs (goal.at.overflow_add-d c).After-common_prefix_len-d, c.requires.fill.few)
-
-pub append_row-requires-in-loop-i : goal.append_row-requires-in-loop-i
-append_row-requires-in-loop-i c =
-    let k = (goal.at.append_row-requires-in-loop-i c).After-common_prefix_len-d in
-    can_push (row_read k) (next k)
+pub append_next-requires : goal.append_next-requires
+append_next-requires c = (length c.args.pool.now, rows_found (parse c.args.bytes.now), c.append_row.new.pool, c.loop-i.i, following (goal.at.append_next-requires c).After-read_row-row)
 
 pub loop-i-preserved : goal.loop-i-preserved
 loop-i-preserved c =
-    let k = (goal.at.loop-i-preserved c).After-common_prefix_len-d in
+    let k = (goal.at.loop-i-preserved c).After-read_row-row in
     let q : c.loop-i.i + 1 - 1 ≡ c.loop-i.i = omega arith in (
-      filled_next c.requires.fill c.requires.width c.loop-i.invariant.0 (ahead k) c.append_row-in-loop-i.auto.pool (pushed (row_read k) (next k) c.append_row-in-loop-i.ensures),
-      row_long (goal.at.loop-i-preserved c).After-read_row-row,
+      c.append_next.ensures (length c.args.pool.now) (rows k) c.append_row.new.pool c.loop-i.i (following k),
+      row_long k,
       row_read k ∙ ap (λ (n : ℕ). get_or (rows k) n []) (sym q),
     )
 
