@@ -1,10 +1,12 @@
 // Numbers and rows as bytes, words high byte first: read and written where they lie (internal). The fields' lengths and the rows' words of a table file are such numbers.
+// And how many rows fill a field of such a file.
 #![tactic(auto)]
 
-ghost use Rattle.std.specs.Prelude.{◌≡◌, ◌+◌, ◌*◌, ◌≤◌, length, take, drop};
+ghost use Rattle.std.specs.Prelude.{◌≡◌, ◌+◌, ◌*◌, ◌≤◌, ◌<◌, length, take, drop};
 ghost use Rattle.column_trie.specs.Limits.{max_arity};
 ghost use Rattle.column_trie.specs.Pool.{lay};
 ghost use Rattle.table_file.specs.Bytes.{bytes_of, number, decode};
+ghost use Rattle.table_file.specs.File.{per_field};
 
 use column_trie::ColumnTrie;
 
@@ -38,4 +40,12 @@ pub fn put_word(text: &mut [u8], at: usize, word: u64)
     ensures { text.new ≡ lay text.old at (bytes_of 8 word) }
 {
     text[at..at + 8].copy_from_slice(&word.to_be_bytes());
+}
+
+// How many rows fill a field.
+pub fn per_field(arity: usize) -> usize
+    requires { (0 < arity) × (arity ≤ 8) }
+    ensures { (result ≡ per_field arity) × (0 < result) × (8 * (result * arity) ≤ 65535) }
+{
+    65535 / (8 * arity)
 }

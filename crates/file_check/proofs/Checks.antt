@@ -205,19 +205,17 @@ module _ (a : ℕ) (pos : 0 < a) (bytes : List ℕ) (at : ℕ) (b : Bytes bytes)
     count : number 2 (drop 1 (drop at bytes)) / (8 * a) ≡ n / (8 * a)
     count = ap (λ (k : ℕ). k / (8 * a)) (said_at ∙ sym e)
 
-    pub at_none : (n / (8 * a) ≡ 65535 / (8 * a) → ⊥) → same (drop (at + 3 + n) bytes) end ≡ false → field_rows a (drop at bytes) ≡ None
-    unfolding per_field
+    pub at_none : (n / (8 * a) ≡ per_field a → ⊥) → same (drop (at + 3 + n) bytes) end ≡ false → field_rows a (drop at bytes) ≡ None
     at_none h k = rows_bad a pos (drop at bytes) bd (λ g. ⊎_elim (λ (x : number 2 (drop 1 (drop at bytes)) / (8 * a) ≡ per_field a). h (sym count ∙ x)) (λ (x : same (drop (3 + number 2 (drop 1 (drop at bytes))) (drop at bytes)) end ≡ true). not_both (same (drop (at + 3 + n) bytes) end) (subst (λ (l : List ℕ). same l end ≡ true) more x) k) g.last)
 
-    pub at_some : get_or bytes at 0 ≡ 2 → 0 < n → n % (8 * a) ≡ 0 → 3 ≤ length bytes - at → n ≤ length bytes - at - 3 → (n / (8 * a) ≡ 65535 / (8 * a)) ⊎ (same (drop (at + 3 + n) bytes) end ≡ true) → field_rows a (drop at bytes) ≡ Some (n / (8 * a))
-    unfolding per_field
+    pub at_some : get_or bytes at 0 ≡ 2 → 0 < n → n % (8 * a) ≡ 0 → 3 ≤ length bytes - at → n ≤ length bytes - at - 3 → (n / (8 * a) ≡ per_field a) ⊎ (same (drop (at + 3 + n) bytes) end ≡ true) → field_rows a (drop at bytes) ≡ Some (n / (8 * a))
     at_some t s w l m o =
         rows_good a pos (drop at bytes) bd
         (record {
           tag = tag_at ∙ t;
           whole = ap (λ (k : ℕ). k % (8 * a)) (said_at ∙ sym e) ∙ w;
           long = omega (arith, length-drop at bytes, said_at);
-          last = ⊎_elim (λ (x : n / (8 * a) ≡ 65535 / (8 * a)). inl (count ∙ x)) (λ (x : same (drop (at + 3 + n) bytes) end ≡ true). inr (subst (λ (l : List ℕ). same l end ≡ true) (sym more) x)) o;
+          last = ⊎_elim (λ (x : n / (8 * a) ≡ per_field a). inl (count ∙ x)) (λ (x : same (drop (at + 3 + n) bytes) end ≡ true). inr (subst (λ (l : List ℕ). same l end ≡ true) (sym more) x)) o;
         })
         (omega (arith, said_at))
         ∙ ap Some count

@@ -9,7 +9,7 @@ ghost use Rattle.table_file.specs.Places.{place};
 ghost use Rattle.file_check.specs.Checks.{field_rows, counted, kinds_ok, head_len, given, rows_from, HasRows, checked};
 
 use column_trie::arity_ok;
-use file_bytes::{read_number, read_row};
+use file_bytes::{per_field, read_number, read_row};
 
 // Whether the file ends at `at`.
 fn ends_at(bytes: &[u8], at: usize) -> bool
@@ -57,9 +57,7 @@ pub fn row_place(at: usize, arity: usize, i: usize) -> usize
     requires { (0 < arity) × (arity ≤ 8) × (at + place arity i < 18446744073709551616) }
     ensures { result ≡ at + place arity i }
 {
-    let size = 8 * arity;
-    let m = 65535 / size;
-    let field = i / m;
+    let field = i / per_field(arity);
     at + (3 * (field + 1) + 8 * (i * arity))
 }
 
@@ -92,7 +90,7 @@ impl<'a> Body<'a> {
             return None;
         }
         let n = len / size;
-        if n == 65535 / size || ends_at(bytes, p + 3 + len) {
+        if n == per_field(self.arity) || ends_at(bytes, p + 3 + len) {
             Some(n)
         } else {
             None

@@ -3,16 +3,16 @@
 // A row's words are read by its path, which goes along from row to row, so that the whole is linear in the bytes.
 #![tactic(auto)]
 
-ghost use Rattle.std.specs.Prelude.{◌≡◌, true, [], ◌∷◌, ◌+◌, ◌*◌, ◌-◌, ◌≤◌, ◌<◌, length, take, drop, get_or};
+ghost use Rattle.std.specs.Prelude.{◌≡◌, true, [], ◌∷◌, ◌+◌, ◌*◌, ◌-◌, ◌≤◌, length, take, drop, get_or};
 ghost use Rattle.relation.specs.Rows.{flat};
 ghost use Rattle.column_trie.specs.Pool.{lay};
 ghost use Rattle.column_trie.specs.Table.{rows_in, undamaged};
 ghost use Rattle.table_file.specs.Bytes.{bytes_of, encode};
-ghost use Rattle.table_file.specs.File.{per_field, rows_field};
+ghost use Rattle.table_file.specs.File.{rows_field};
 ghost use Rattle.file_rows.specs.Rows.{fields_in, Putting, RowsPut, Laid};
 
 use column_trie::{ColumnTrie, Sound, layer_at};
-use file_bytes::put_word;
+use file_bytes::{per_field, put_word};
 use row_path::next_path;
 
 // Writes row i from `at` on. The path is that of the row before, and becomes that of row i. The parameters are no struct: lent as `&mut self`, pool and
@@ -63,15 +63,6 @@ pub fn put_tag(bytes: &mut [u8], at: usize, tag: u8, len: usize)
 {
     let [high, low] = (len as u16).to_be_bytes();
     bytes[at..at + 3].copy_from_slice(&[tag, high, low]);
-}
-
-// How many rows fill a field.
-pub fn per_field(arity: usize) -> usize
-    requires { (0 < arity) × (arity ≤ 8) }
-    ensures { (result ≡ per_field arity) × (0 < result) × (8 * (result * arity) ≤ 65535) }
-{
-    let size = 8 * arity;
-    65535 / size
 }
 
 // Writes the field of n rows, the first of them row i, from `at` on.

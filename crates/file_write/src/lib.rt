@@ -16,7 +16,8 @@ ghost use Rattle.file_write.specs.Write.{kinds_of, file_in, write_number, Writes
 ghost use Rattle.file_write.specs.Head.{head_of, file_len};
 
 use column_trie::{ColumnTrie, undamaged};
-use file_rows::{per_field, put_fields, put_tag};
+use file_bytes::per_field;
+use file_rows::{put_fields, put_tag};
 use refusal::Refusal;
 
 // Whether some column is a grade.
