@@ -15,7 +15,7 @@ ghost use Rattle.file_read.specs.Load.{rows_found, Loading, HasKinds};
 ghost use Rattle.file_read.specs.Read.{read_number, Reads};
 
 use column_trie::{ColumnTrie, capacity_ok, lies_in};
-use file_bytes::read_row;
+use file_bytes::{Tag, read_row};
 use file_check::{Checked, check, row_place};
 use from_sorted::{Built, Lengths, common_prefix_len};
 use refusal::Refusal;
@@ -46,7 +46,7 @@ fn read_kinds(bytes: &[u8], arity: usize) -> [bool; ColumnTrie::MAX_ARITY]
     ensures { result ≡ kept_kinds arity (kinds_read arity bytes.now) }
 {
     let mut grade: [bool; ColumnTrie::MAX_ARITY] = [false; ColumnTrie::MAX_ARITY];
-    if bytes[4] != 4 {
+    if bytes[4] != Tag::Kinds.byte() {
         return grade;
     }
     for d in 0..arity {
@@ -66,11 +66,11 @@ fn load(bytes: &[u8], at: usize, n: usize, pool: &mut [u64], t: ColumnTrie) -> C
     let arity = t.arity;
     let mut lengths = Lengths::of(t);
     let first = row_place(at, arity, 0);
-    let mut last = read_row(bytes, first, arity);
+    let mut last = read_row(&bytes[first..], arity);
     lengths.append_row(pool, t, &last, 0, 0);
     for i in 1..n {
         let place = row_place(at, arity, i);
-        let row = read_row(bytes, place, arity);
+        let row = read_row(&bytes[place..], arity);
         let d = common_prefix_len(&last, &row, arity);
         lengths.append_row(pool, t, &row, d, d + 1);
         last = row;

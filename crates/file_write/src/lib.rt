@@ -16,7 +16,7 @@ ghost use Rattle.file_write.specs.Write.{kinds_of, file_in, write_number, Writes
 ghost use Rattle.file_write.specs.Head.{head_of, file_len};
 
 use column_trie::{ColumnTrie, undamaged};
-use file_bytes::per_field;
+use file_bytes::{Tag, per_field};
 use file_rows::{put_fields, put_tag};
 use refusal::Refusal;
 
@@ -50,12 +50,12 @@ fn put_head(bytes: &mut [u8], t: ColumnTrie) -> usize
     requires { (t.arity ≤ max_arity) × (length (head_of t) ≤ length bytes.old) }
     ensures { Laid bytes.old 0 (head_of t) bytes.new result }
 {
-    put_tag(bytes, 0, 1, 1);
+    put_tag(bytes, 0, Tag::Arity, 1);
     bytes[3] = t.arity as u8;
     if !some_grade(t) {
         return 4;
     }
-    put_tag(bytes, 4, 4, t.arity);
+    put_tag(bytes, 4, Tag::Kinds, t.arity);
     put_kinds(bytes, 7, t);
     7 + t.arity
 }
@@ -78,7 +78,7 @@ fn put_file(bytes: &mut [u8], pool: &[u64], t: ColumnTrie)
 {
     let body = put_head(bytes, t);
     let end = put_fields(bytes, body, pool, t);
-    put_tag(bytes, end, 3, 0);
+    put_tag(bytes, end, Tag::End, 0);
 }
 
 // The refusal's number, 0 for none, and the file's length. C's struct, so a number stands where Rust has a Result.
