@@ -12,9 +12,10 @@ ghost use Rattle.layer_by_layer.specs.Relay.{Relaid};
 ghost use Rattle.column_trie_insert.specs.Grow.{Roomy, Addable, RowAdded};
 ghost use Rattle.column_trie_insert.specs.Insert.{Inserts};
 
-use column_trie::{ColumnTrie, Sound, layer_at, undamaged};
+use column_trie::{ColumnTrie, layer_at};
 use column_trie_path::{Path, find_path, top};
 use refusal::Refusal;
+use sound_table::{Sound, undamaged};
 use wedge::{raise, wedge, wedge_raised};
 
 // Puts `key` at place `at` of layer d, under parent i, which has its interval already unless it is `fresh`. The header comes back with the lengths. It is no

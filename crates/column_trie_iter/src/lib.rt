@@ -10,10 +10,11 @@
 ghost use Rattle.std.specs.Prelude.{◌≡◌};
 ghost use Rattle.column_trie_iter.specs.Cursor.{no_key, key_of, unmoved, next_of, unsought, sought_of, end_of, unopened, open_of, unrisen, up_of};
 
-use column_trie::{ColumnTrie, Sound};
+use column_trie::ColumnTrie;
 use column_trie_place::ColumnTrieIter;
 use refusal::Refusal;
 use seek::SeekStrategy;
+use sound_table::Sound;
 
 // The answers are C's structs, so they have a number and a flag where Rust has Result and Option. Of each `number` is the refusal's, 0 for none.
 // Where `found` is false the key is 0.

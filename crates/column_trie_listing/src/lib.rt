@@ -12,9 +12,10 @@ ghost use Rattle.layer_text.specs.Piece.{PieceWritten};
 ghost use Rattle.layer_text.specs.Wrote.{Wrote};
 ghost use Rattle.column_trie_listing.specs.List.{Lists};
 
-use column_trie::{ColumnTrie, Sound, undamaged};
+use column_trie::ColumnTrie;
 use layer_text::Writer;
 use refusal::Refusal;
+use sound_table::{Sound, undamaged};
 
 // Layer d of the table, read from the pool.
 fn put_depth(writer: &mut Writer, table: &Sound, d: usize)

@@ -5,8 +5,9 @@ ghost use Rattle.std.specs.Prelude.{◌≡◌, true, ◌<◌, length};
 ghost use Rattle.column_trie.specs.Table.{layer_in, rows_in, header_sound, undamaged};
 ghost use Rattle.column_trie_path.specs.Place.{Grouped, KeyPlaceOf, PathOf};
 
-use column_trie::{ColumnTrie, Sound, layer_at};
+use column_trie::{ColumnTrie, layer_at};
 use seek::{SeekStrategy, partition_point};
+use sound_table::Sound;
 
 // Where a key stands in its group, or where it goes; whether the group has more than one key; and how many keys the search looked at. Nobody asks for
 // that number: it is there so that the contract can bound it. `there` is no Option's flag: `at` counts in both cases.

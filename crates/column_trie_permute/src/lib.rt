@@ -11,11 +11,12 @@ ghost use Rattle.from_sorted.specs.Answer.{kept_kinds};
 ghost use Rattle.refusal.specs.Number.{given};
 ghost use Rattle.column_trie_permute.specs.Permute.{kinds_permuted, permute_number, Permutes};
 
-use column_trie::{ColumnTrie, capacity_ok, layer_at, lies_in, undamaged};
+use column_trie::{ColumnTrie, capacity_ok, layer_at, lies_in};
 use from_sorted::Built;
 use permuted_fill::{lay_rows, rank_into};
 use permuted_rows::Permuted;
 use refusal::Refusal;
+use sound_table::undamaged;
 
 // Whether the first numbers, as many as there are columns, are a permutation of the columns: each a column, and none marked before.
 fn columns_ok(columns: [usize; ColumnTrie::MAX_ARITY], arity: usize) -> bool

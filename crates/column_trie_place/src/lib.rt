@@ -12,8 +12,9 @@ ghost use Rattle.column_trie.specs.Table.{layer_in};
 ghost use Rattle.column_trie_place.specs.Checks.{at_root, past};
 ghost use Rattle.column_trie_place.specs.Inside.{place_below, Placed, has_children, owner_of};
 
-use column_trie::{ColumnTrie, Sound};
+use column_trie::ColumnTrie;
 use refusal::Refusal;
+use sound_table::Sound;
 
 // depth: 0 at the root, else one more than the number of the layer. interval_i: whose children are looked at. slice_offset: how many of them
 // are passed.

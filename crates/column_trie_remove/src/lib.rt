@@ -11,9 +11,10 @@ ghost use Rattle.layer_by_layer.specs.Relay.{Relaid};
 ghost use Rattle.column_trie_remove.specs.Shrink.{shrunk, Shrinkable, ForkedSome, ForkCut};
 ghost use Rattle.column_trie_remove.specs.Remove.{Removes};
 
-use column_trie::{ColumnTrie, Sound, layer_at, undamaged};
+use column_trie::{ColumnTrie, layer_at};
 use column_trie_path::{Fork, find_path};
 use refusal::Refusal;
+use sound_table::{Sound, undamaged};
 use wedge::{close, close_lowered, lower};
 
 // Takes the key at place `at` out of layer d. Its parent i loses its interval if that was its only key. The header comes back with the lengths.

@@ -12,9 +12,10 @@ ghost use Rattle.table_file.specs.File.{rows_field};
 ghost use Rattle.file_bytes.specs.Tags.{byte_of};
 ghost use Rattle.file_rows.specs.Rows.{fields_in, Putting, RowsPut, Laid};
 
-use column_trie::{ColumnTrie, Sound, layer_at};
+use column_trie::{ColumnTrie, layer_at};
 use file_bytes::{Tag, per_field, put_word};
 use row_path::next_path;
+use sound_table::Sound;
 
 // Writes row i from `at` on. The path is that of the row before, and becomes that of row i. The parameters are no struct: lent as `&mut self`, pool and
 // header might change, and each contract would have to say that they stay.

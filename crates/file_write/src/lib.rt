@@ -15,10 +15,11 @@ ghost use Rattle.file_rows.specs.Rows.{Laid};
 ghost use Rattle.file_write.specs.Write.{kinds_of, file_in, write_number, Writes};
 ghost use Rattle.file_write.specs.Head.{head_of, file_len};
 
-use column_trie::{ColumnTrie, undamaged};
+use column_trie::ColumnTrie;
 use file_bytes::{Tag, per_field};
 use file_rows::{put_fields, put_tag};
 use refusal::Refusal;
+use sound_table::undamaged;
 
 // Whether some column is a grade.
 fn some_grade(t: ColumnTrie) -> bool

@@ -12,10 +12,11 @@ ghost use Rattle.join_query.specs.Query.{max_tables, max_variables, table_at, va
 ghost use Rattle.join_query.specs.Checking.{reached};
 ghost use Rattle.refusal.specs.Number.{given};
 
-use column_trie::{ColumnTrie, undamaged};
+use column_trie::ColumnTrie;
 use join_query::{Atom, Query, Tables};
 use laid_over::same_shape;
 use refusal::Refusal;
+use sound_table::undamaged;
 
 // Not 8: the order, n numbers long, is a permutation of 0 to n - 1, and n is at most 8.
 fn order_ok(q: Query) -> bool

@@ -41,10 +41,10 @@ impl<'a> Laid<'a> {
     pub fn check(&self) -> Result<(), Refusal>
         ensures { given result ≡ tables_number self.now.school_pool.now self.now.school self.now.maker_pool.now self.now.maker }
     {
-        if !column_trie::undamaged(self.school_pool, self.school) {
+        if !sound_table::undamaged(self.school_pool, self.school) {
             return Err(Refusal::Damaged);
         }
-        if !column_trie::undamaged(self.maker_pool, self.maker) {
+        if !sound_table::undamaged(self.maker_pool, self.maker) {
             return Err(Refusal::Damaged);
         }
         if !laid_over::same_shape(self.school, self.maker) {

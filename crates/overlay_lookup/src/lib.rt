@@ -9,10 +9,11 @@ ghost use Rattle.std.specs.Prelude.{◌≡◌, ◌<◌};
 ghost use Rattle.refusal.specs.Number.{given};
 ghost use Rattle.overlay_lookup.specs.Lookup.{lookup_number, found_in, no_run, looked_up, run_in};
 
-use column_trie::{ColumnTrie, Sound};
+use column_trie::ColumnTrie;
 use overlay_checks::Laid;
 use refusal::Refusal;
 use seek::SeekStrategy;
+use sound_table::Sound;
 
 // Where the keys under a first key lie in a table's pool: `len` words from `from` on.
 #[derive(Clone, Copy)]

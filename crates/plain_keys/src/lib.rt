@@ -9,8 +9,9 @@ ghost use Rattle.column_trie.specs.Table.{rows_in, Undamaged};
 ghost use Rattle.join_query.specs.Query.{rows_at};
 ghost use Rattle.plain_keys.specs.Keys.{words, bound, group_at, group_keys, Grouped, head_of, Named, Readable};
 
-use column_trie::{ColumnTrie, Sound};
+use column_trie::ColumnTrie;
 use join_query::{Atom, Query, Tables};
+use sound_table::Sound;
 
 // A word for each variable, by number.
 pub type Row = [u64; Query::MAX_VARIABLES];

@@ -8,8 +8,9 @@ ghost use Rattle.std.specs.Prelude.{◌≡◌, true, [], ◌<◌, get_or};
 ghost use Rattle.relation.specs.Paths.{owner};
 ghost use Rattle.column_trie.specs.Table.{layer_in, rows_in, data_len_at, undamaged};
 
-use column_trie::{Sound, layer_at};
+use column_trie::layer_at;
 use seek::halve;
+use sound_table::Sound;
 
 // The place in the layer above of the parent of the key at `place` of layer d.
 fn parent_of(rows: &Sound, d: usize, place: usize) -> usize

@@ -8,7 +8,8 @@ ghost use Rattle.std.specs.Prelude.{◌≡◌, true, ◌-◌, ◌<◌};
 ghost use Rattle.column_trie.specs.Table.{layers_in, undamaged};
 ghost use Rattle.row_path.specs.Path.{OnPath};
 
-use column_trie::{ColumnTrie, Sound};
+use column_trie::ColumnTrie;
+use sound_table::Sound;
 
 // Turns the path of row i - 1 into that of row i, and the path of row 0 into itself: from the last layer up, a parent goes on where its children end.
 pub fn next_path(rows: &Sound, path: &mut [usize; ColumnTrie::MAX_ARITY], i: usize)

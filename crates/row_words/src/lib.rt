@@ -5,9 +5,10 @@ ghost use Rattle.std.specs.Prelude.{◌≡◌, ℕ, ◌≤◌, ◌<◌, length, 
 ghost use Rattle.column_trie.specs.Limits.{max_arity};
 ghost use Rattle.row_words.specs.Words.{Fields, Wordable, Worded, AllPacked};
 
-use column_trie::{ColumnTrie, Sound};
+use column_trie::ColumnTrie;
 use permuted_rows::Permuted;
 use row_path::next_path;
+use sound_table::Sound;
 
 fn four(i: usize, x: usize, y: usize, z: usize) -> u64
     requires { (i < 65536) × (x < 65536) × (y < 65536) × (z < 65536) }

@@ -1,10 +1,10 @@
--- `column_trie::Sound::begins` meets its contract: the header puts the layer's list of intervals into the pool.
+-- `sound_table::Sound::begins` meets its contract: the header puts the layer's list of intervals into the pool.
 use native.Mathlib.Omega.{arith}
 use lib.ListN.{length}
-use Rattle.column_trie.proofs.Groups.{begins_here}
+use Rattle.sound_table.proofs.Groups.{begins_here}
 use Rattle.column_trie.proofs.Header.{LayerFits, layer_fits, header_told}
-use Rattle.column_trie.proofs.Sound.begins.Goals as goal
-use Rattle.column_trie.proofs.Sound.begins.Goals.{Start}
+use Rattle.sound_table.proofs.Sound.begins.Goals as goal
+use Rattle.sound_table.proofs.Sound.begins.Goals.{Start}
 
 -- where the layer lies
 told : (s : Start) → LayerFits (length s.args.self.now.pool.now) s.args.self.now.table s.args.d

@@ -1,10 +1,11 @@
 -- The goals of `layers_linked` that the check leaves.
 use lib.ListN.{length}
 use Rattle.column_trie.proofs.Header.{InPool, header_told}
-use Rattle.column_trie.proofs.Layers.{Whole, linking_start, linking_next, linking_not, linking_done}
+use Rattle.column_trie.specs.Table.{Whole}
+use Rattle.sound_table.proofs.Linking.{linking_start, linking_next, linking_not, linking_done}
 use mathlib.Core.Path.{sym, ◌∙◌}
-use Rattle.column_trie.proofs.Sound.layers_linked.Goals as goal
-use Rattle.column_trie.proofs.Sound.layers_linked.Goals.{Start, else-self-eq0, then-self-eq0}
+use Rattle.sound_table.proofs.Sound.layers_linked.Goals as goal
+use Rattle.sound_table.proofs.Sound.layers_linked.Goals.{Start, else-self-eq0, then-self-eq0}
 
 -- what the function requires, and what its parameter's type says
 told : (s : Start) → InPool (length s.args.self.now.pool.now) s.args.self.now.table

@@ -1,4 +1,4 @@
--- `column_trie::Sound::layer_linked` meets its contract: the lists handed on are the layer's, and as long as the header says.
+-- `sound_table::Sound::layer_linked` meets its contract: the lists handed on are the layer's, and as long as the header says.
 use mathlib.Core.Path.{◌≡◌, sym, ap₂, ◌∙◌}
 use mathlib.Core.Bool.{Bool}
 use lib.ListN.{length}
@@ -9,8 +9,8 @@ use Rattle.relation.proofs.Tests.{gate_shut, gate_open}
 use Rattle.column_trie.specs.Table.{interval_len_at, layer_in}
 use Rattle.column_trie.proofs.Header.{layer_fits, header_told}
 use Rattle.column_trie.proofs.Groups.{intervals_long}
-use Rattle.column_trie.proofs.Sound.layer_linked.Goals as goal
-use Rattle.column_trie.proofs.Sound.layer_linked.Goals.{Start}
+use Rattle.sound_table.proofs.Sound.layer_linked.Goals as goal
+use Rattle.sound_table.proofs.Sound.layer_linked.Goals.{Start}
 
 -- the list of intervals is as long as the header says
 long : (s : Start) → length (layer_in s.args.self.now.pool.now s.args.self.now.table s.args.d).intervals ≡ interval_len_at s.args.self.now.table s.args.d

@@ -6,7 +6,7 @@ use Rattle.relation.proofs.Tests.{every_all, every_more, every_fails, every_fewe
 use Rattle.column_trie.specs.Limits.{max_arity}
 use Rattle.column_trie.specs.Table.{past_at}
 use Rattle.column_trie.proofs.Header.{past_told, past_not}
-use Rattle.column_trie.proofs.past_arity.Goals as goal
+use Rattle.sound_table.proofs.past_arity.Goals as goal
 
 pub loop-d-init : goal.loop-d-init
 loop-d-init c =

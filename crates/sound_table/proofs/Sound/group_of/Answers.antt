@@ -1,4 +1,4 @@
--- `column_trie::Sound::group_of` meets its contract: the group's two ends are those of its interval and the next, and each way out is one of the definition's
+-- `sound_table::Sound::group_of` meets its contract: the group's two ends are those of its interval and the next, and each way out is one of the definition's
 -- tests (Groups.antt).
 use Prim.Native.Nat.{◌<◌}
 use mathlib.Core.Path.{◌≡◌}
@@ -6,10 +6,11 @@ use native.Mathlib.Omega.{arith}
 use lib.ListN.{length}
 use Rattle.column_trie.specs.Groups.{group_from, group_to}
 use Rattle.column_trie.specs.Table.{layer_in}
-use Rattle.column_trie.proofs.Groups.{keys_long, intervals_long, starts_group, ends_group, unlisted, falling, over, lying}
+use Rattle.column_trie.proofs.Groups.{keys_long, intervals_long, starts_group, ends_group}
 use Rattle.column_trie.proofs.Header.{LayerFits, layer_fits, header_told}
-use Rattle.column_trie.proofs.Sound.group_of.Goals as goal
-use Rattle.column_trie.proofs.Sound.group_of.Goals.{After-begins-to, Start, then-to-from-via-then-to-from, then-to-from-via-else-to-from+then-self-d-2}
+use Rattle.sound_table.proofs.Groups.{unlisted, falling, over, lying}
+use Rattle.sound_table.proofs.Sound.group_of.Goals as goal
+use Rattle.sound_table.proofs.Sound.group_of.Goals.{After-begins-to, Start, then-to-from-via-then-to-from, then-to-from-via-else-to-from+then-self-d-2}
 
 -- where the layer lies
 told : (s : Start) → LayerFits (length s.args.self.now.pool.now) s.args.self.now.table s.args.d

@@ -1,16 +1,15 @@
--- `column_trie::undamaged` meets its contract: each way out is the test's (Damage.antt).
+-- `sound_table::undamaged` meets its contract: each way out is the test's (Ways.antt).
 use Prim.Native.Nat.{◌-◌}
 use mathlib.Core.Path.{sym, ◌∙◌}
 use mathlib.Core.Bool.{◌||◌}
 use lib.Dec.{eqb}
 use Rattle.relation.specs.Undamaged.{chain}
 use Rattle.relation.proofs.Tests.{not_both, gate_shut, gate_open}
-use Rattle.column_trie.specs.Table.{layers_in, data_len_at}
-use Rattle.column_trie.proofs.Layers.{Whole}
-use Rattle.column_trie.proofs.Damage.{bad_header, bad_past, by_layers}
+use Rattle.column_trie.specs.Table.{Whole, layers_in, data_len_at}
+use Rattle.sound_table.proofs.Ways.{bad_header, bad_past, by_layers}
 use borrow.Author.Rules.{rules}
-use Rattle.column_trie.proofs.undamaged.Goals as goal
-use Rattle.column_trie.proofs.undamaged.Goals.{Start, then-header_sound, else-header_sound, then-past_arity, else-past_arity}
+use Rattle.sound_table.proofs.undamaged.Goals as goal
+use Rattle.sound_table.proofs.undamaged.Goals.{Start, then-header_sound, else-header_sound, then-past_arity, else-past_arity}
 
 whole : (s : Start) → Whole s.args.t
 whole s = record { data_long = search rules; interval_long = search rules }
