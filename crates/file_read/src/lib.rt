@@ -55,21 +55,21 @@ fn read_kinds(bytes: &[u8], arity: usize) -> [bool; ColumnTrie::MAX_ARITY]
     grade
 }
 
-// Fills the empty table t with the n rows of the file, whose fields of rows begin at `at`. The lengths are kept beside the header until the end, as in a build.
-fn load(bytes: &[u8], at: usize, n: usize, pool: &mut [u64], t: ColumnTrie) -> ColumnTrie
-    requires { Loading bytes.now at n (length pool.old) t }
+// Fills the empty table t with the rows of the file that the bytes are. The lengths are kept beside the header until the end, as in a build.
+fn load(bytes: &[u8], file: Checked, pool: &mut [u64], t: ColumnTrie) -> ColumnTrie
+    requires { Loading bytes.now file.body file.rows (length pool.old) t }
     ensures { Fills pool.old t (rows_found (parse bytes.now)) pool.new result }
 {
-    if n == 0 {
+    if file.rows == 0 {
         return t;
     }
     let arity = t.arity;
     let mut lengths = Lengths::of(t);
-    let first = row_place(at, arity, 0);
+    let first = row_place(file.body, arity, 0);
     let mut last = read_row(&bytes[first..], arity);
     lengths.append_row(pool, t, &last, 0, 0);
-    for i in 1..n {
-        let place = row_place(at, arity, i);
+    for i in 1..file.rows {
+        let place = row_place(file.body, arity, i);
         let row = read_row(&bytes[place..], arity);
         let d = common_prefix_len(&last, &row, arity);
         lengths.append_row(pool, t, &row, d, d + 1);
@@ -93,6 +93,6 @@ pub fn read(bytes: &[u8], pool: &mut [u64], start: usize, capacity: usize) -> Bu
     };
     let mut empty = ColumnTrie::empty(start, file.arity, capacity);
     empty.grade = read_kinds(bytes, file.arity);
-    let table = load(bytes, file.body, file.rows, pool, empty);
+    let table = load(bytes, file, pool, empty);
     Built { number: 0, table }
 }

@@ -29,19 +29,19 @@ module _ (s : Start) where
   abbrev a : ℕ
   a = s.args.t.arity
 
-  placed : (i : ℕ) → i < s.args.n → (0 < a) × (a ≤ 8) × (s.args.at + place a i < 18446744073709551616)
+  placed : (i : ℕ) → i < s.args.file.rows → (0 < a) × (a ≤ 8) × (s.args.file.body + place a i < 18446744073709551616)
   placed i h = (s.requires.fill.positive, s.requires.fill.few, omega (arith, (s.requires.lies i h).inside, s.well_formed))
 
-  starts : (i : ℕ) → i < s.args.n → (y : ℕ) → y ≡ s.args.at + place a i → y ≤ length s.args.bytes.now
+  starts : (i : ℕ) → i < s.args.file.rows → (y : ℕ) → y ≡ s.args.file.body + place a i → y ≤ length s.args.bytes.now
   starts i h y e = omega (arith, (s.requires.lies i h).inside)
 
-  seated : (i : ℕ) → i < s.args.n → (y : ℕ) → y ≡ s.args.at + place a i → (a ≤ max_arity) × (8 * a ≤ length (take (length s.args.bytes.now - y) (drop y s.args.bytes.now)))
+  seated : (i : ℕ) → i < s.args.file.rows → (y : ℕ) → y ≡ s.args.file.body + place a i → (a ≤ max_arity) × (8 * a ≤ length (take (length s.args.bytes.now - y) (drop y s.args.bytes.now)))
   seated i h y e = (s.requires.fill.few, omega (arith, (s.requires.lies i h).inside, ap length (take_rest s.args.bytes.now y), length-drop y s.args.bytes.now))
 
 -- the first row, read
 module _ (k : After-read_row-last) where
-  some : 0 < k.args.n
-  some = omega (arith, k.if-n-eq0.false)
+  some : 0 < k.args.file.rows
+  some = omega (arith, k.if-file-eq0.false)
 
   first_row : take k.args.t.arity k.read_row-last.result ≡ get_or (rows_found (parse k.args.bytes.now)) 0 []
   first_row = there k.requires 0 some _ k.row_place-first.ensures k.read_row-last.ensures
@@ -49,17 +49,17 @@ module _ (k : After-read_row-last) where
   first : 0 < length (rows_found (parse k.args.bytes.now))
   first = omega (arith, k.requires.many, some)
 
-pub returns-then-n-eq0 : goal.returns-then-n-eq0
-returns-then-n-eq0 c = fills_none c.requires.fill c.requires.width (sym c.requires.many ∙ c.if-n-eq0.true)
+pub returns-then-file-eq0 : goal.returns-then-file-eq0
+returns-then-file-eq0 c = fills_none c.requires.fill c.requires.width (sym c.requires.many ∙ c.if-file-eq0.true)
 
 pub row_place-first-requires : goal.row_place-first-requires
-row_place-first-requires c = placed (goal.at.row_place-first-requires c).Start 0 (omega (arith, c.if-n-eq0.false))
+row_place-first-requires c = placed (goal.at.row_place-first-requires c).Start 0 (omega (arith, c.if-file-eq0.false))
 
 pub slice_bounds-read_row-start : goal.slice_bounds-read_row-start
-slice_bounds-read_row-start c = starts (goal.at.slice_bounds-read_row-start c).Start 0 (omega (arith, c.if-n-eq0.false)) c.row_place-first.result c.row_place-first.ensures
+slice_bounds-read_row-start c = starts (goal.at.slice_bounds-read_row-start c).Start 0 (omega (arith, c.if-file-eq0.false)) c.row_place-first.result c.row_place-first.ensures
 
 pub slice_bounds-read_row-count : goal.slice_bounds-read_row-count
-slice_bounds-read_row-count c = starts (goal.at.slice_bounds-read_row-count c).Start 0 (omega (arith, c.if-n-eq0.false)) c.row_place-first.result c.row_place-first.ensures
+slice_bounds-read_row-count c = starts (goal.at.slice_bounds-read_row-count c).Start 0 (omega (arith, c.if-file-eq0.false)) c.row_place-first.result c.row_place-first.ensures
 
 pub slice_bounds-read_row-start-in-loop-i : goal.slice_bounds-read_row-start-in-loop-i
 slice_bounds-read_row-start-in-loop-i c = starts (goal.at.slice_bounds-read_row-start-in-loop-i c).Start c.loop-i.i c.loop-i-test.true c.row_place-place.result c.row_place-place.ensures
@@ -68,7 +68,7 @@ pub slice_bounds-read_row-count-in-loop-i : goal.slice_bounds-read_row-count-in-
 slice_bounds-read_row-count-in-loop-i c = starts (goal.at.slice_bounds-read_row-count-in-loop-i c).Start c.loop-i.i c.loop-i-test.true c.row_place-place.result c.row_place-place.ensures
 
 pub read_row-last-requires : goal.read_row-last-requires
-read_row-last-requires c = seated (goal.at.read_row-last-requires c).Start 0 (omega (arith, c.if-n-eq0.false)) c.row_place-first.result c.row_place-first.ensures
+read_row-last-requires c = seated (goal.at.read_row-last-requires c).Start 0 (omega (arith, c.if-file-eq0.false)) c.row_place-first.result c.row_place-first.ensures
 
 pub append_row-requires : goal.append_row-requires
 append_row-requires c =
