@@ -17,7 +17,7 @@ use refusal::Refusal;
 use sound_table::Sound;
 
 // depth: 0 at the root, else one more than the number of the layer. interval_i: whose children are looked at. slice_offset: how many of them
-// are passed.
+// are passed. It is C's struct `ducatbriar_cursor`, so the root is three zeros and no case of its own.
 #[repr(C)]
 #[derive(Clone, Copy)]
 pub struct ColumnTrieIter {

@@ -13,7 +13,7 @@ use column_trie_iter::{EndAnswer, KeyAnswer, NextAnswer, OpenAnswer, SeekAnswer,
 use column_trie_place::ColumnTrieIter;
 use overlay_iter::{LaidNextAnswer, LaidOpenAnswer, LaidSeekAnswer, LaidUpAnswer};
 use overlay_lookup::LookedUp;
-use overlay_place::LaidIter;
+use laid_iter::LaidIter;
 use strategy_word::strategy_of;
 
 #[unsafe(no_mangle)]

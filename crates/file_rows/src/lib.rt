@@ -15,7 +15,7 @@ ghost use Rattle.file_rows.specs.Rows.{fields_in, Putting, RowsPut, Laid};
 use column_trie::{ColumnTrie, layer_at};
 use file_bytes::{Tag, per_field, put_word};
 use row_path::next_path;
-use sound_table::Sound;
+use sound_table::{Intact, Sound};
 
 // Writes row i from `at` on. The path is that of the row before, and becomes that of row i. The parameters are no struct: lent as `&mut self`, pool and
 // header might change, and each contract would have to say that they stay.
@@ -30,7 +30,9 @@ fn put_row(
     requires { Putting pool.now t path.old i 1 at (length bytes.old) }
     ensures { RowsPut pool.now t i bytes.old at (encode (get_or (rows_in pool.now t) i [])) bytes.new path.new }
 {
-    let rows = Sound { pool, table: t };
+    let rows = Intact {
+        sound: Sound { pool, table: t },
+    };
     next_path(&rows, path, i);
     for d in 0..t.arity {
         let place = layer_at(t, d) + path[d];

@@ -1,3 +1,4 @@
 mod Groups
 mod Linking
+pub mod Told
 mod Ways

@@ -128,3 +128,10 @@ pub fn undamaged(pool: &[u64], t: ColumnTrie) -> bool
         && t.tuple_count == t.data_len[t.arity - 1]
         && Sound { pool, table: t }.layers_linked()
 }
+
+// An undamaged table, with the pool that it lies in: its layers are those of a set of rows.
+#[derive(Clone, Copy)]
+pub struct Intact<'a> {
+    pub sound: Sound<'a>,
+    ghost undamaged: { undamaged sound.pool.now sound.table ≡ true },
+}

@@ -51,7 +51,7 @@ pub invariant_of-rows-clause-sound : goal.invariant_of-rows-clause-sound
 invariant_of-rows-clause-sound c = undamaged_header c.args.pool.now c.args.t c.requires.sound
 
 pub next_path-requires : goal.next_path-requires
-next_path-requires c = (c.requires.sound, omega (arith, c.requires.there), c.requires.before)
+next_path-requires c = (omega (arith, c.requires.there), c.requires.before)
 
 pub loop-d-init : goal.loop-d-init
 loop-d-init c = no_words c.args.bytes.now c.args.at (get_or (rows_in c.args.pool.now c.args.t) c.args.i [])

@@ -18,7 +18,7 @@ loop-k-init c =
     (start_path rows.whole (undamaged_told rows.pool.now rows.table rows.legible.sound), none_packed rows c.args.words.now)
 
 pub next_path-requires : goal.next_path-requires
-next_path-requires c = (c.args.rows.now.legible.sound, omega (arith, c.loop-k-test.true, c.requires), c.loop-k.invariant.0)
+next_path-requires c = (omega (arith, c.loop-k-test.true, c.requires), c.loop-k.invariant.0)
 
 pub row_word-requires : goal.row_word-requires
 row_word-requires c = wordable c.args.rows.now c.next_path.ensures (omega (arith, c.loop-k-test.true, c.requires)) (few_rows c.args.rows.now)
