@@ -8,7 +8,6 @@ ghost use Rattle.row_words.specs.Words.{Wordable, Worded, AllPacked};
 use column_trie::ColumnTrie;
 use permuted_rows::{Permuted, four};
 use row_path::next_path;
-use sound_table::{Intact, Sound};
 
 // Where the path has the key of new column k; 0 if there is no such column.
 fn path_place(
@@ -50,12 +49,7 @@ pub fn pack_rows(rows: &Permuted, words: &mut [u64])
 {
     let arity = rows.table.arity;
     let mut path = [0usize; ColumnTrie::MAX_ARITY];
-    let table = Intact {
-        sound: Sound {
-            pool: rows.pool,
-            table: rows.table,
-        },
-    };
+    let table = rows.intact();
     for k in 0..words.len() {
         next_path(&table, &mut path, k);
         words[k] = row_word(arity, rows.columns, path, k);
