@@ -19,7 +19,7 @@ use column_trie::ColumnTrie;
 use file_bytes::{Tag, per_field};
 use file_rows::{put_fields, put_tag};
 use refusal::Refusal;
-use sound_table::undamaged;
+use sound_table::{Intact, Sound, undamaged};
 
 // Whether some column is a grade.
 fn some_grade(kinds: &[bool]) -> bool
@@ -83,7 +83,10 @@ fn put_file(bytes: &mut [u8], pool: &[u64], t: ColumnTrie)
 {
     let kinds = &t.grade[..t.arity];
     let body = put_head(bytes, kinds);
-    let end = put_fields(bytes, body, pool, t);
+    let rows = Intact {
+        sound: Sound { pool, table: t },
+    };
+    let end = put_fields(bytes, body, &rows);
     put_tag(bytes, end, Tag::End, 0);
 }
 

@@ -5,7 +5,7 @@ use mathlib.Core.Path.{◌≡◌, ap, ◌∙◌, subst}
 use native.Mathlib.Omega.{arith}
 use lib.ListN.{length}
 use Rattle.column_trie.specs.Table.{Undamaged}
-use Rattle.column_trie.proofs.Damage.{undamaged_told}
+use Rattle.column_trie.proofs.Damage.{undamaged_told, undamaged_header}
 use Rattle.column_trie.proofs.Pool.{lay_length}
 use borrow.Author.Rules.{rules}
 use Rattle.column_trie.specs.Limits.{max_arity}
@@ -47,8 +47,11 @@ shared_ref_as_front-kinds c = (sound (goal.at.shared_ref_as_front-kinds c).Start
 pub put_head-body-requires : goal.put_head-body-requires
 put_head-body-requires c = let h = head_here (goal.at.put_head-body-requires c).Start in (h.0, omega (arith, c.requires.1, ap length h.1, parts (goal.at.put_head-body-requires c).Start))
 
+pub invariant_of-rows-clause-sound : goal.invariant_of-rows-clause-sound
+invariant_of-rows-clause-sound c = undamaged_header c.args.pool.now c.args.t c.requires.0
+
 pub put_fields-end-requires : goal.put_fields-end-requires
-put_fields-end-requires c = let s = (goal.at.put_fields-end-requires c).Start in (c.requires.0, omega (arith, c.requires.1, parts s, (laid (goal.at.put_fields-end-requires c).After-put_head-body).ends, headed (goal.at.put_fields-end-requires c).After-put_head-body))
+put_fields-end-requires c = let s = (goal.at.put_fields-end-requires c).Start in omega (arith, c.requires.1, parts s, (laid (goal.at.put_fields-end-requires c).After-put_head-body).ends, headed (goal.at.put_fields-end-requires c).After-put_head-body)
 
 pub put_tag-requires : goal.put_tag-requires
 put_tag-requires c =
