@@ -59,7 +59,8 @@ pub fn read_row(bytes: &[u8], arity: usize) -> [u64; ColumnTrie::MAX_ARITY]
     row
 }
 
-// Writes the word as eight bytes from `at` on, high byte first.
+// Writes the word as eight bytes from `at` on, high byte first. What writes a file is lent the whole with a place, here and in file_rows and file_write: each contract says what is
+// laid where in the whole, and a call with `&mut text[at..]` would be no shorter.
 pub fn put_word(text: &mut [u8], at: usize, word: u64)
     requires { at + 8 ≤ length text.old }
     ensures { text.new ≡ lay text.old at (bytes_of 8 word) }
