@@ -8,7 +8,6 @@ ghost use Rattle.bounded_depth.specs.From.{DepthFrom};
 
 use join_depths::depth::open;
 use join_openings::Join;
-use join_plan::{COUNT, DEPTH_WORDS};
 use leapfrog_search::Landed;
 use query::MAX_ATOMS;
 use stretches::State;
@@ -32,7 +31,7 @@ pub fn open_from(
     let Landed::Key { key: _, p: _ } = landed else {
         return landed;
     };
-    let k = join.plan[DEPTH_WORDS * depth + COUNT];
+    let k = join.plan[depth].count;
     let s = whole_seek(
         join.pool,
         state,

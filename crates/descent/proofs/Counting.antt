@@ -42,13 +42,14 @@ use Rattle.descent.specs.declared.Walked.{Walked}
 use Rattle.join_query.specs.declared.Query.{Query}
 use Rattle.join_query.specs.declared.Tables.{Tables}
 use Rattle.join_query.proofs.Accepted.{sized, tables}
+use Rattle.join_plan.specs.Plan.{Plan}
 use Rattle.join_depths.proofs.Wholes.{whole_first, whole_ready, ready_wholes}
 use Rattle.join_depths.proofs.Standing.{order_next, variable_is}
 use Rattle.descent.proofs.Walking.{Goes, Walk, first, rest, gained, gains, goes_below, descended_leaf}
 
 -- ---- the last depth
 
-pub last_is : {pool : List ℕ} {ts : Tables} {q : Query} {plan ends : List ℕ} {n d : ℕ} {f : ℕ → Row} → Based pool ts q plan ends n d f → d < n → none (rest q d) ≡ eqb (d + 1) n
+pub last_is : {pool : List ℕ} {ts : Tables} {q : Query} {plan : Plan} {ends : List ℕ} {n d : ℕ} {f : ℕ → Row} → Based pool ts q plan ends n d f → d < n → none (rest q d) ≡ eqb (d + 1) n
 last_is {q = q} {n = n} {d} b h = go (ℕ_discrete (d + 1) n)
   where
     long : length (order_of q) ≡ n
@@ -75,7 +76,7 @@ answers_stood w runs runs' last (Nothing p) m e a = a.0
 abbrev tally : Progress → ℕ → Tally
 tally s m = record { progress = s; seeks = m }
 
-pub record Counts (pool : List ℕ) (ts : Tables) (q : Query) (plan ends : List ℕ) (n d : ℕ) (f : ℕ → Row) (found : Row) (t₀ : Tally) (z : State) (ring by_atom : List ℕ) (landed : Landed) (s : Progress) (seeks : ℕ) : Type 0 where
+pub record Counts (pool : List ℕ) (ts : Tables) (q : Query) (plan : Plan) (ends : List ℕ) (n d : ℕ) (f : ℕ → Row) (found : Row) (t₀ : Tally) (z : State) (ring by_atom : List ℕ) (landed : Landed) (s : Progress) (seeks : ℕ) : Type 0 where
   pub fuel : ℕ
   pub went : Went
   pub made : ℕ
@@ -97,7 +98,7 @@ map_from : (x y : ℕ) → x ≤ y → (rs : List (List ℕ)) → map (from y) (
 map_from x y h [] = refl
 map_from x y h (r ∷ rs) = ap₂ (λ (y : List ℕ) (ys : List (List ℕ)). y ∷ ys) (from_from x y h r) (map_from x y h rs)
 
-module _ {pool : List ℕ} {ts : Tables} {q : Query} {plan ends : List ℕ} {n d : ℕ} {f : ℕ → Row} {found : Row} where
+module _ {pool : List ℕ} {ts : Tables} {q : Query} {plan : Plan} {ends : List ℕ} {n d : ℕ} {f : ℕ → Row} {found : Row} where
   pub counts_start : Based pool ts q plan ends n d f → {z : State} {ring by_atom : List ℕ} {landed : Landed} {s₀ : Progress} {before seeks : ℕ} → Begins pool ts q plan ends n d z by_atom f landed → Starts pool ts q plan ends d z ring by_atom f before landed seeks → (m : ℕ) → before ≡ capped m → Counts pool ts q plan ends n d f found (tally s₀ m) z ring by_atom landed s₀ seeks
   counts_start b {z} {ring} {landed = landed} {s₀} {before} g st m e = record {
     fuel = total (groups_at pool ts q d f);
@@ -157,14 +158,14 @@ module _ {pool : List ℕ} {ts : Tables} {q : Query} {plan ends : List ℕ} {n d
 
 -- ---- the loop's invariant, and the ends of the loop: for every query
 
-pub record Counting (pool plan ends : List ℕ) (n d : ℕ) (z₀ : State) (ring by_atom : List ℕ) (landed₀ : Landed) (found w₀ : List ℕ) (from before seeks₀ : ℕ) (w : List ℕ) (z : State) (landed : Landed) (rows seeks : ℕ) : Type 0 where
+pub record Counting (pool : List ℕ) (plan : Plan) (ends : List ℕ) (n d : ℕ) (z₀ : State) (ring by_atom : List ℕ) (landed₀ : Landed) (found w₀ : List ℕ) (from before seeks₀ : ℕ) (w : List ℕ) (z : State) (landed : Landed) (rows seeks : ℕ) : Type 0 where
   pub counts : (ts : Tables) (q : Query) (f : ℕ → Row) → Based pool ts q plan ends n d f → Begins pool ts q plan ends n d z₀ by_atom f landed₀ → Starts pool ts q plan ends d z₀ ring by_atom f before landed₀ seeks₀ → (m : ℕ) → before ≡ capped m → Counts pool ts q plan ends n d f found (tally (written w₀ from false) m) z ring by_atom landed (written w rows false) seeks
 
-pub counting_start : {pool plan ends : List ℕ} {n d : ℕ} {z₀ : State} {ring by_atom : List ℕ} {landed₀ : Landed} {found w₀ : List ℕ} {from before seeks₀ : ℕ} → Counting pool plan ends n d z₀ ring by_atom landed₀ found w₀ from before seeks₀ w₀ z₀ landed₀ from seeks₀
+pub counting_start : {pool : List ℕ} {plan : Plan} {ends : List ℕ} {n d : ℕ} {z₀ : State} {ring by_atom : List ℕ} {landed₀ : Landed} {found w₀ : List ℕ} {from before seeks₀ : ℕ} → Counting pool plan ends n d z₀ ring by_atom landed₀ found w₀ from before seeks₀ w₀ z₀ landed₀ from seeks₀
 counting_start = record { counts = λ ts q f b g st m e. counts_start b g st m e }
 
 -- no variable is left: the row is written, and nothing is sought
-pub completes_leaf : {pool plan ends : List ℕ} {n d : ℕ} {at own : List ℕ} {found w₀ : List ℕ} {from before : ℕ} {w : List ℕ} {r : Walked} → d ≡ n → (written w r.rows r.full ≡ emit n (written w₀ from false) (take n found)) × (r.seeks ≡ before) → Completes pool plan ends n d at own found w₀ from before w r.rows r.full r.seeks
+pub completes_leaf : {pool : List ℕ} {plan : Plan} {ends : List ℕ} {n d : ℕ} {at own : List ℕ} {found w₀ : List ℕ} {from before : ℕ} {w : List ℕ} {r : Walked} → d ≡ n → (written w r.rows r.full ≡ emit n (written w₀ from false) (take n found)) × (r.seeks ≡ before) → Completes pool plan ends n d at own found w₀ from before w r.rows r.full r.seeks
 completes_leaf {pool} {n = n} {d} {found = found} {w₀} {from} e r = record {
   descended = descended_leaf e r.0;
   counts = λ ts q f s m h.
@@ -174,12 +175,12 @@ completes_leaf {pool} {n = n} {d} {found = found} {w₀} {from} e r = record {
 }
 
 -- where two ways to complete a row meet, its window and its answer are those of the way that was gone
-pub completes_came : {pool plan ends : List ℕ} {n d : ℕ} {at own : List ℕ} {found w₀ : List ℕ} {from before : ℕ} {w w' : List ℕ} {r r' : Walked} → w ≡ w' → r ≡ r' → Completes pool plan ends n d at own found w₀ from before w' r'.rows r'.full r'.seeks → Completes pool plan ends n d at own found w₀ from before w r.rows r.full r.seeks
+pub completes_came : {pool : List ℕ} {plan : Plan} {ends : List ℕ} {n d : ℕ} {at own : List ℕ} {found w₀ : List ℕ} {from before : ℕ} {w w' : List ℕ} {r r' : Walked} → w ≡ w' → r ≡ r' → Completes pool plan ends n d at own found w₀ from before w' r'.rows r'.full r'.seeks → Completes pool plan ends n d at own found w₀ from before w r.rows r.full r.seeks
 completes_came {pool} {plan} {ends} {n} {d} {at} {own} {found} {w₀} {from} {before} {w} {r' = r'} e h c =
     subst (λ (y : Walked). Completes pool plan ends n d at own found w₀ from before w y.rows y.full y.seeks) (sym h)
     (subst (λ (y : List ℕ). Completes pool plan ends n d at own found w₀ from before y r'.rows r'.full r'.seeks) (sym e) c)
 
-module _ {pool plan ends : List ℕ} {n d : ℕ} {above owned : List ℕ} {z₀ : State} {ring by_atom : List ℕ} {before : ℕ} {r₀ : Searched} (b : Opening pool plan ends n d above owned z₀ ring by_atom before r₀) (below : d < n) {found w₀ : List ℕ} {from : ℕ} {w : List ℕ} {z : State} {rows seeks : ℕ} {landed : Landed} (j : Counting pool plan ends n d z₀ ring by_atom r₀.landed found w₀ from before r₀.seeks w z landed rows seeks) where
+module _ {pool : List ℕ} {plan : Plan} {ends : List ℕ} {n d : ℕ} {above owned : List ℕ} {z₀ : State} {ring by_atom : List ℕ} {before : ℕ} {r₀ : Searched} (b : Opening pool plan ends n d above owned z₀ ring by_atom before r₀) (below : d < n) {found w₀ : List ℕ} {from : ℕ} {w : List ℕ} {z : State} {rows seeks : ℕ} {landed : Landed} (j : Counting pool plan ends n d z₀ ring by_atom r₀.landed found w₀ from before r₀.seeks w z landed rows seeks) where
   now : {landed' : Landed} → landed ≡ landed' → (ts : Tables) (q : Query) (f : ℕ → Row) → Stands pool ts q plan ends n d above owned f → (m : ℕ) → before ≡ capped m → Counts pool ts q plan ends n d f found (tally (written w₀ from false) m) z ring by_atom landed' (written w rows false) seeks
   now e ts q f s m h = subst (λ (y : Landed). Counts pool ts q plan ends n d f found (tally (written w₀ from false) m) z ring by_atom y (written w rows false) seeks) e (j.counts ts q f s.based (b.begun.begins ts q f s) (b.starts ts q f s) m h)
 

@@ -17,7 +17,7 @@ use Rattle.column_trie.proofs.Stored.{in_pool}
 use Rattle.query.specs.Limits.{max_atoms}
 use Rattle.join_query.specs.Query.{max_tables, max_variables, atom_at, table_at, atom_table, Accepted}
 use Rattle.join_query.specs.Checking.{reached}
-use Rattle.join_plan.specs.Plan.{second_of, Low, Planned, FirstsEnded, Plannable}
+use Rattle.join_plan.specs.Plan.{Plan, second_of, Low, Planned, FirstsEnded, Plannable}
 use Rattle.join_window.specs.Window.{written}
 use Rattle.join_depths.specs.Depth.{Placed, PlacedIn, Stands, Standing}
 use Rattle.descent.specs.Descent.{Descended}
@@ -82,7 +82,7 @@ module _ {pool : List ℕ} {ts : Tables} {q : Query} {len : ℕ} (a : Accepted p
     low₂ = λ i h. second (λ x. Low (table_at ts x)) (atom_at q i) (low l (sound a i h)) (λ e. low l (sound_maker a i h e));
   }
 
-  module _ {plan ends : List ℕ} (p : Planned plan ts q) (e : FirstsEnded ends ts q q.atom_count) where
+  module _ {plan : Plan} {ends : List ℕ} (p : Planned plan ts q) (e : FirstsEnded ends ts q q.atom_count) where
     pub stands_root : Stands pool ts q plan ends q.n 0 (replicate max_atoms 0) (replicate max_atoms 0) none
     unfolding reached
     stands_root = record {

@@ -38,6 +38,7 @@ use Rattle.join_query.specs.declared.Query.{Query}
 use Rattle.join_query.specs.declared.Tables.{Tables}
 use Rattle.join_query.proofs.Lists.{reached_in, reached_out}
 use Rattle.join_query.proofs.Accepted.{sized, tables, atoms_length}
+use Rattle.join_plan.specs.Plan.{Plan}
 use Rattle.join_depths.proofs.Standing.{left_vars, order_next, variable_is}
 use Rattle.join_depths.proofs.Wholes.{whole_first}
 use Rattle.join_depths.proofs.Beginnings.{opened_moved}
@@ -49,7 +50,7 @@ use Rattle.join_depths.proofs.Below.{placed_next}
 abbrev pub gained : Query → ℕ → (ℕ → Row) → ℕ → ℕ → Row
 gained q d f x i = pick (takes_part q d f i) (f i ++ x ∷ []) (f i)
 
-module _ {pool : List ℕ} {ts : Tables} {q : Query} {plan ends : List ℕ} {n d : ℕ} {z : State} {by_atom : List ℕ} {f : ℕ → Row} (o : Opened pool ts q plan ends n d z by_atom f) {x p : ℕ} (g : WholeAgreed pool z ends by_atom (count_at plan d) x p) where
+module _ {pool : List ℕ} {ts : Tables} {q : Query} {plan : Plan} {ends : List ℕ} {n d : ℕ} {z : State} {by_atom : List ℕ} {f : ℕ → Row} (o : Opened pool ts q plan ends n d z by_atom f) {x p : ℕ} (g : WholeAgreed pool z ends by_atom (count_at plan d) x p) where
   -- by cases of whether atom i takes part
   part_cases : (P : Row → Type 0) (i : ℕ) → (takes_part q d f i ≡ true → P (f i ++ x ∷ [])) → (takes_part q d f i ≡ false → P (f i)) → P (gained q d f x i)
   part_cases P i a b = go (takes_part q d f i) refl
@@ -98,7 +99,7 @@ module _ {pool : List ℕ} {ts : Tables} {q : Query} {plan ends : List ℕ} {n d
 
 -- ---- the keys left, of one query
 
-module _ (pool : List ℕ) (ts : Tables) (q : Query) (plan ends : List ℕ) (n d : ℕ) (f : ℕ → Row) (found : Row) (s₀ : Progress) where
+module _ (pool : List ℕ) (ts : Tables) (q : Query) (plan : Plan) (ends : List ℕ) (n d : ℕ) (f : ℕ → Row) (found : Row) (s₀ : Progress) where
   -- the keys left lead to the end of the depth, and where one is found, the atoms are opened
   pub record Goes (z : State) (by_atom : List ℕ) (landed : Landed) (s : Progress) : Type 0 where
     to_go : ToGo n (get_or (order_of q) d 0) (drop (suc d) (order_of q)) (standings f (atoms_of pool ts q)) found s₀ (left_of (wholes_in pool z ends by_atom (count_at plan d)) landed) s
@@ -115,7 +116,7 @@ first q d = get_or (order_of q) d 0
 abbrev pub rest : Query → ℕ → List ℕ
 rest q d = drop (suc d) (order_of q)
 
-module _ {pool : List ℕ} {ts : Tables} {q : Query} {plan ends : List ℕ} {n d : ℕ} {f : ℕ → Row} {found : Row} {s₀ : Progress} where
+module _ {pool : List ℕ} {ts : Tables} {q : Query} {plan : Plan} {ends : List ℕ} {n d : ℕ} {f : ℕ → Row} {found : Row} {s₀ : Progress} where
   goes_start : Based pool ts q plan ends n d f → {z : State} {by_atom : List ℕ} {landed : Landed} → Begins pool ts q plan ends n d z by_atom f landed → Goes pool ts q plan ends n d f found s₀ z by_atom landed s₀
   goes_start b g = record {
     to_go = to_go_same n (first q d) (rest q d) (standings f (atoms_of pool ts q)) found s₀ (sym g.keys) (engine_start n (first q d) (rest q d) f (atoms_of pool ts q) (tables b.accepted) found s₀);
@@ -153,7 +154,7 @@ module _ {pool : List ℕ} {ts : Tables} {q : Query} {plan ends : List ℕ} {n d
 -- ---- the loop's invariant
 
 -- z₀ and landed₀ are what the opening left, the rest is as it stands now
-pub record Walk (pool plan ends : List ℕ) (n d : ℕ) (z₀ : State) (ring by_atom : List ℕ) (landed₀ : Landed) (found w₀ : List ℕ) (from : ℕ) (w : List ℕ) (z : State) (landed : Landed) (row : List ℕ) (rows : ℕ) : Type 0 where
+pub record Walk (pool : List ℕ) (plan : Plan) (ends : List ℕ) (n d : ℕ) (z₀ : State) (ring by_atom : List ℕ) (landed₀ : Landed) (found w₀ : List ℕ) (from : ℕ) (w : List ℕ) (z : State) (landed : Landed) (row : List ℕ) (rows : ℕ) : Type 0 where
   pub agreed : AgreedAt pool z ends by_atom (count_at plan d) landed
   pub same : IfFound landed (SameAtoms by_atom ring (count_at plan d))
   pub window : length w ≡ length w₀
@@ -162,7 +163,7 @@ pub record Walk (pool plan ends : List ℕ) (n d : ℕ) (z₀ : State) (ring by_
   pub long : length row ≡ max_variables
   pub goes : (ts : Tables) (q : Query) (f : ℕ → Row) → Based pool ts q plan ends n d f → Begins pool ts q plan ends n d z₀ by_atom f landed₀ → Goes pool ts q plan ends n d f found (written w₀ from false) z by_atom landed (written w rows false)
 
-module _ {pool plan ends : List ℕ} {n d : ℕ} {above owned : List ℕ} {z₀ : State} {ring by_atom : List ℕ} {landed₀ : Landed} (b : DepthBegun pool plan ends n d above owned z₀ ring by_atom landed₀) {found w₀ : List ℕ} {from : ℕ} where
+module _ {pool : List ℕ} {plan : Plan} {ends : List ℕ} {n d : ℕ} {above owned : List ℕ} {z₀ : State} {ring by_atom : List ℕ} {landed₀ : Landed} (b : DepthBegun pool plan ends n d above owned z₀ ring by_atom landed₀) {found w₀ : List ℕ} {from : ℕ} where
   pub walk_start : length found ≡ max_variables → Fits n (length w₀) from → Walk pool plan ends n d z₀ ring by_atom landed₀ found w₀ from w₀ z₀ landed₀ found from
   walk_start l h = record {
     agreed = b.agreed;
@@ -182,14 +183,14 @@ pub steps_less : {pool ends by_atom : List ℕ} {k : ℕ} {z z' : State} {x y p 
 steps_less {pool} {ends} {by_atom} {k} {z} e t = omega (arith, ap length t.keys, ap (keys_left pool z ends by_atom k) e)
 
 -- what the call for the key x leaves, of one query: in the terms of its order
-below_is : (row : List ℕ) {pool : List ℕ} {ts : Tables} {q : Query} {plan ends : List ℕ} {n d : ℕ} {z : State} {by_atom : List ℕ} {f : ℕ → Row} {found w w' : List ℕ} {x p rows rows' : ℕ} {full : Bool} {s₀ : Progress} → Goes pool ts q plan ends n d f found s₀ z by_atom (Key x p) (written w rows false) → WholeAgreed pool z ends by_atom (count_at plan d) x p → ((y : ℕ) → set row (variable_at plan d) y ≡ set found (variable_at plan d) y) → Descended pool plan ends n (d + 1) z.at z.own (set row (variable_at plan d) x) w rows w' rows' full → Descends n (rest q d) (standings (gained q d f x) (atoms_of pool ts q)) (set found (first q d) x) (written w rows false) (written w' rows' full)
+below_is : (row : List ℕ) {pool : List ℕ} {ts : Tables} {q : Query} {plan : Plan} {ends : List ℕ} {n d : ℕ} {z : State} {by_atom : List ℕ} {f : ℕ → Row} {found w w' : List ℕ} {x p rows rows' : ℕ} {full : Bool} {s₀ : Progress} → Goes pool ts q plan ends n d f found s₀ z by_atom (Key x p) (written w rows false) → WholeAgreed pool z ends by_atom (count_at plan d) x p → ((y : ℕ) → set row (variable_at plan d) y ≡ set found (variable_at plan d) y) → Descended pool plan ends n (d + 1) z.at z.own (set row (variable_at plan d) x) w rows w' rows' full → Descends n (rest q d) (standings (gained q d f x) (atoms_of pool ts q)) (set found (first q d) x) (written w rows false) (written w' rows' full)
 below_is row {pool} {ts} {q} {plan} {n} {d} {f = f} {found} {w} {w'} {x} {rows = rows} {rows'} {full} g a others r =
     let e : set row (variable_at plan d) x ≡ set found (first q d) x = others x ∙ ap (λ (y : ℕ). set found y x) (variable_is g.opened.based g.opened.below) in
     subst (λ (l : List ℕ). Descends n l (standings (gained q d f x) (atoms_of pool ts q)) (set found (first q d) x) (written w rows false) (written w' rows' full)) (ap (λ (m : ℕ). drop m (order_of q)) (add-one d))
     (subst (λ (l : Row). Descends n (drop (d + 1) (order_of q)) (standings (gained q d f x) (atoms_of pool ts q)) l (written w rows false) (written w' rows' full)) e
     (r.descends ts q (gained q d f x) (goes_below g a)))
 
-module _ {pool plan ends : List ℕ} {n d : ℕ} {above owned : List ℕ} {z₀ : State} {ring by_atom : List ℕ} {landed₀ : Landed} (b : DepthBegun pool plan ends n d above owned z₀ ring by_atom landed₀) (st : Standing pool plan ends n d above owned) (below : d < n) {found w₀ : List ℕ} {from : ℕ} {w : List ℕ} {z : State} {row : List ℕ} {rows : ℕ} where
+module _ {pool : List ℕ} {plan : Plan} {ends : List ℕ} {n d : ℕ} {above owned : List ℕ} {z₀ : State} {ring by_atom : List ℕ} {landed₀ : Landed} (b : DepthBegun pool plan ends n d above owned z₀ ring by_atom landed₀) (st : Standing pool plan ends n d above owned) (below : d < n) {found w₀ : List ℕ} {from : ℕ} {w : List ℕ} {z : State} {row : List ℕ} {rows : ℕ} where
   -- a key is found
   module _ {landed : Landed} {x p : ℕ} (e : landed ≡ Key x p) (now : Walk pool plan ends n d z₀ ring by_atom landed₀ found w₀ from w z landed row rows) where
     i : Walk pool plan ends n d z₀ ring by_atom landed₀ found w₀ from w z (Key x p) row rows
@@ -258,7 +259,7 @@ module _ {pool plan ends : List ℕ} {n d : ℕ} {above owned : List ℕ} {z₀ 
 
 -- ---- numbers that the code relies on
 
-module _ {pool plan ends : List ℕ} {n d : ℕ} {above owned : List ℕ} (st : Standing pool plan ends n d above owned) where
+module _ {pool : List ℕ} {plan : Plan} {ends : List ℕ} {n d : ℕ} {above owned : List ℕ} (st : Standing pool plan ends n d above owned) where
   pub few_variables : n ≤ max_variables
   few_variables = omega (arith, (sized st.stands.based.accepted).few, st.stands.based.size)
 
@@ -279,7 +280,7 @@ module _ {pool plan ends : List ℕ} {n d : ℕ} {above owned : List ℕ} (st : 
 
 -- ---- no variable is left
 
-pub descended_leaf : {pool plan ends : List ℕ} {n d : ℕ} {at own : List ℕ} {found w₀ : List ℕ} {from : ℕ} {w : List ℕ} {rows : ℕ} {full : Bool} → d ≡ n → written w rows full ≡ emit n (written w₀ from false) (take n found) → Descended pool plan ends n d at own found w₀ from w rows full
+pub descended_leaf : {pool : List ℕ} {plan : Plan} {ends : List ℕ} {n d : ℕ} {at own : List ℕ} {found w₀ : List ℕ} {from : ℕ} {w : List ℕ} {rows : ℕ} {full : Bool} → d ≡ n → written w rows full ≡ emit n (written w₀ from false) (take n found) → Descended pool plan ends n d at own found w₀ from w rows full
 descended_leaf {pool} {n = n} {d} {found = found} {w₀} {from} {w} {rows} {full} e r = record {
   descends = λ ts q f s.
       let none : [] ≡ drop d (order_of q) = sym (drop_of_length-le (order_of q) (let h : length (order_of q) ≤ d = omega (arith, (sized s.based.accepted).permutation.size, s.based.size) in h)) in

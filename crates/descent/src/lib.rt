@@ -11,7 +11,6 @@ ghost use Rattle.descent.specs.Descent.{Completes};
 
 use join_depths::depth::{onward, open};
 use join_openings::Join;
-use join_plan::{COUNT, DEPTH_WORDS};
 use join_query::Query;
 use join_window::emit;
 use leapfrog_search::Landed;
@@ -66,8 +65,8 @@ pub fn descend(
     if depth == join.n {
         return complete(window, &found, join.n, from, before);
     }
-    let v = join.plan[DEPTH_WORDS * depth];
-    let k = join.plan[DEPTH_WORDS * depth + COUNT];
+    let v = join.plan[depth].variable;
+    let k = join.plan[depth].count;
     let mut state = State {
         at: above,
         end: [0; MAX_ATOMS],

@@ -34,6 +34,7 @@ use Rattle.join_query.specs.Query.{max_variables, order_of, atoms_of}
 use Rattle.join_query.specs.declared.Query.{Query}
 use Rattle.join_query.specs.declared.Tables.{Tables}
 use Rattle.join_query.proofs.Accepted.{sized, tables}
+use Rattle.join_plan.specs.Plan.{Plan}
 use Rattle.join_window.specs.Window.{written, Fits}
 use Rattle.join_openings.specs.Openings.{variable_at, count_at}
 use Rattle.join_depths.specs.Depth.{Stands, Standing, AgreedAt, IfFound, common_at, Steps}
@@ -50,7 +51,7 @@ use Rattle.descent_after.specs.Descent.{DescendedAfter}
 
 -- ---- no variable is left
 
-pub after_leaf : {pool plan ends : List ℕ} {n d : ℕ} {at own : List ℕ} {found given w : List ℕ} {rows : ℕ} → d ≡ n → DescendedAfter pool plan ends n d at own found given w rows w rows false
+pub after_leaf : {pool : List ℕ} {plan : Plan} {ends : List ℕ} {n d : ℕ} {at own : List ℕ} {found given w : List ℕ} {rows : ℕ} → d ≡ n → DescendedAfter pool plan ends n d at own found given w rows w rows false
 after_leaf {pool} {n = n} {d} {found = found} {given} {w} {rows} e = record {
   descends = λ ts q f s.
       let none : [] ≡ drop d (order_of q) = sym (drop_of_length-le (order_of q) (let h : length (order_of q) ≤ d = omega (arith, (sized s.based.accepted).permutation.size, s.based.size) in h)) in
@@ -78,7 +79,7 @@ module _ (n v : ℕ) (vs : List ℕ) (atoms : List Atom) (row given : Row) where
 
 -- ---- one depth, opened from the given row's word on
 
-module _ {pool plan ends : List ℕ} {n d : ℕ} {above owned : List ℕ} {z : State} {ring by_atom : List ℕ} (given : Row) {landed : Landed} (b : DepthFrom pool plan ends n d above owned z ring by_atom (get_or given (variable_at plan d) 0) landed) (st : Standing pool plan ends n d above owned) (below : d < n) where
+module _ {pool : List ℕ} {plan : Plan} {ends : List ℕ} {n d : ℕ} {above owned : List ℕ} {z : State} {ring by_atom : List ℕ} (given : Row) {landed : Landed} (b : DepthFrom pool plan ends n d above owned z ring by_atom (get_or given (variable_at plan d) 0) landed) (st : Standing pool plan ends n d above owned) (below : d < n) where
   -- of one query
   module _ {ts : Tables} {q : Query} {f : ℕ → Row} (s : Stands pool ts q plan ends n d above owned f) where
     abbrev atoms : List Atom

@@ -10,7 +10,6 @@ ghost use Rattle.descent_after.specs.Descent.{DescendedAfter};
 use bounded_depth::open_from;
 use join_depths::depth::onward;
 use join_openings::Join;
-use join_plan::{COUNT, DEPTH_WORDS};
 use join_query::Query;
 use join_window::Written;
 use leapfrog_search::Landed;
@@ -40,8 +39,8 @@ pub fn descend_after(
             full: false,
         };
     }
-    let v = join.plan[DEPTH_WORDS * depth];
-    let k = join.plan[DEPTH_WORDS * depth + COUNT];
+    let v = join.plan[depth].variable;
+    let k = join.plan[depth].count;
     let bound = bounds[v];
     let mut state = State {
         at: above,

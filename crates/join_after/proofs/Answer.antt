@@ -19,7 +19,7 @@ use Rattle.join_query.specs.Query.{max_variables, order_of, atoms_of, join_numbe
 use Rattle.join_query.specs.declared.Query.{Query}
 use Rattle.join_query.specs.declared.Tables.{Tables}
 use Rattle.join_query.proofs.Accepted.{sized, passes}
-use Rattle.join_plan.specs.Plan.{Planned, FirstsEnded}
+use Rattle.join_plan.specs.Plan.{Plan, Planned, FirstsEnded}
 use Rattle.join_window.specs.Window.{written, Fits}
 use Rattle.descent.specs.Descent.{Descended}
 use Rattle.descent.proofs.Root.{stands_root, joined}
@@ -49,7 +49,7 @@ module _ {pool : List ℕ} {ts : Tables} {q : Query} (w : List ℕ) (a : Accepte
 
   -- ---- the descents from the root
 
-  module _ {plan ends : List ℕ} (p : Planned plan ts q) (e : FirstsEnded ends ts q q.atom_count) {w' : List ℕ} {rows : ℕ} {full : Bool} where
+  module _ {plan : Plan} {ends : List ℕ} (p : Planned plan ts q) (e : FirstsEnded ends ts q q.atom_count) {w' : List ℕ} {rows : ℕ} {full : Bool} where
     pub listed_on : DescendedAfter pool plan ends q.n 0 (replicate max_atoms 0) (replicate max_atoms 0) (replicate max_variables 0) given w 0 w' rows full → written w' rows full ≡ listed_from pool ts q (Some given) w
     listed_on d = engine_after_root (passes a) (λ i. _) (λ i h. refl) (replicate max_variables 0) given w (omega (arith, (sized a).few)) (d.descends ts q _ (stands_root a p e))
 

@@ -14,7 +14,7 @@ use descent::descend;
 use descent_after::descend_after;
 use join_checks::check;
 use join_openings::Join;
-use join_plan::{ENDS, PLAN_WORDS, make_ends, make_plan};
+use join_plan::{DepthPlan, ENDS, make_ends, make_plan};
 use join_query::{Query, Tables};
 use join_window::Written;
 use last_row::last_row;
@@ -34,7 +34,7 @@ fn list_after(
     requires { Accepted pool.now tables query (length window.old) }
     ensures { written window.new result.rows result.full ≡ listed_from pool.now tables query after window.old }
 {
-    let mut plan = [0usize; PLAN_WORDS];
+    let mut plan = [DepthPlan::EMPTY; Query::MAX_VARIABLES];
     make_plan(&mut plan, tables, query);
     let mut ends = [0usize; ENDS];
     make_ends(&mut ends, tables, query);

@@ -15,6 +15,7 @@ ghost use Rattle.refusal.specs.Number.{given};
 use column_trie::ColumnTrie;
 use join_query::{Atom, Query, Tables};
 use laid_over::same_shape;
+use query::permutes;
 use refusal::Refusal;
 use sound_table::undamaged;
 
@@ -22,16 +23,7 @@ use sound_table::undamaged;
 fn order_ok(q: Query) -> bool
     ensures { result ≡ order_ok q }
 {
-    if Query::MAX_VARIABLES < q.n {
-        return false;
-    }
-    for i in 0..q.n {
-        let v = q.order[i];
-        if q.n <= v || q.order[..i].contains(&v) {
-            return false;
-        }
-    }
-    true
+    q.n <= Query::MAX_VARIABLES && permutes(&q.order[..q.n])
 }
 
 // Whether the atom's table is one of `count`, and its maker's where it is laid over.

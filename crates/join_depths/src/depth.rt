@@ -7,7 +7,6 @@ ghost use Rattle.stretches.specs.Whole.{WholeAgreed};
 ghost use Rattle.join_depths.specs.Depth.{Standing, Fresh, Opening, Onward, since_of};
 
 use join_openings::{Join, open_all};
-use join_plan::{COUNT, DEPTH_WORDS};
 use leapfrog_search::{Landed, Searched};
 use query::MAX_ATOMS;
 use stretches::{State, whole_init, whole_next};
@@ -41,7 +40,7 @@ pub fn open(
             seeks,
         };
     }
-    let k = join.plan[DEPTH_WORDS * depth + COUNT];
+    let k = join.plan[depth].count;
     since(
         seeks,
         whole_init(join.pool, state, join.ends, ring, k, join.strategy),

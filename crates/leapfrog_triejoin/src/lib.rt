@@ -11,7 +11,7 @@ ghost use Rattle.leapfrog_triejoin.specs.Outcome.{Joins};
 use descent::descend;
 use join_checks::check;
 use join_openings::Join;
-use join_plan::{ENDS, PLAN_WORDS, make_ends, make_plan};
+use join_plan::{DepthPlan, ENDS, make_ends, make_plan};
 use join_query::{Query, Tables};
 use refusal::Refusal;
 use seek::SeekStrategy;
@@ -44,7 +44,7 @@ pub fn join(
             seeks: 0,
         };
     }
-    let mut plan = [0usize; PLAN_WORDS];
+    let mut plan = [DepthPlan::EMPTY; Query::MAX_VARIABLES];
     make_plan(&mut plan, tables, query);
     let mut ends = [0usize; ENDS];
     make_ends(&mut ends, tables, query);

@@ -24,6 +24,7 @@ use Rattle.join_query.specs.Query.{max_variables, order_of, atoms_of}
 use Rattle.join_query.specs.declared.Query.{Query}
 use Rattle.join_query.specs.declared.Tables.{Tables}
 use Rattle.join_query.proofs.Accepted.{sized}
+use Rattle.join_plan.specs.Plan.{Plan}
 use Rattle.join_window.specs.Window.{written, Fits}
 use Rattle.join_openings.specs.Openings.{variable_at, count_at}
 use Rattle.join_depths.specs.Depth.{Standing, AgreedAt, IfFound, Steps}
@@ -54,21 +55,21 @@ module _ (n : ℕ) (rows : ℕ → List Row) where
   emits_none s e = e
 
 -- the keys of one query are left so, and the rows under them lead to the end
-pub record Goes (pool : List ℕ) (ts : Tables) (q : Query) (plan ends : List ℕ) (n d : ℕ) (f : ℕ → Row) (found : Row) (e : Progress) (z : State) (by_atom : List ℕ) (landed : Landed) (s : Progress) : Type 0 where
+pub record Goes (pool : List ℕ) (ts : Tables) (q : Query) (plan : Plan) (ends : List ℕ) (n d : ℕ) (f : ℕ → Row) (found : Row) (e : Progress) (z : State) (by_atom : List ℕ) (landed : Landed) (s : Progress) : Type 0 where
   pub left : KeysLeft pool ts q plan ends n d z by_atom f landed
   pub leads : emits n s (rows_left pool ts q n d f found (keys_at pool plan ends d z by_atom landed)) ≡ e
 
 -- ---- the loop's invariant
 
 -- z₀ and landed₀ are where it started, the rest is as it stands now
-pub record Walking (pool plan ends : List ℕ) (n d : ℕ) (z₀ : State) (ring by_atom : List ℕ) (landed₀ : Landed) (found w₀ : List ℕ) (from : ℕ) (w : List ℕ) (z : State) (landed : Landed) (rows : ℕ) : Type 0 where
+pub record Walking (pool : List ℕ) (plan : Plan) (ends : List ℕ) (n d : ℕ) (z₀ : State) (ring by_atom : List ℕ) (landed₀ : Landed) (found w₀ : List ℕ) (from : ℕ) (w : List ℕ) (z : State) (landed : Landed) (rows : ℕ) : Type 0 where
   pub agreed : AgreedAt pool z ends by_atom (count_at plan d) landed
   pub same : IfFound landed (SameAtoms by_atom ring (count_at plan d))
   pub window : length w ≡ length w₀
   pub fits : Fits n (length w₀) rows
   pub goes : (ts : Tables) (q : Query) (f : ℕ → Row) → KeysLeft pool ts q plan ends n d z₀ by_atom f landed₀ → Goes pool ts q plan ends n d f found (emits n (written w₀ from false) (rows_left pool ts q n d f found (keys_at pool plan ends d z₀ by_atom landed₀))) z by_atom landed (written w rows false)
 
-module _ {pool plan ends : List ℕ} {n d : ℕ} {z₀ : State} {ring by_atom : List ℕ} {landed₀ : Landed} (u : Underway pool plan ends n d z₀ ring by_atom landed₀) where
+module _ {pool : List ℕ} {plan : Plan} {ends : List ℕ} {n d : ℕ} {z₀ : State} {ring by_atom : List ℕ} {landed₀ : Landed} (u : Underway pool plan ends n d z₀ ring by_atom landed₀) where
   pub few_variables : n ≤ max_variables
   few_variables = omega (arith, (sized u.left.based.accepted).few, u.left.based.size)
 

@@ -9,7 +9,6 @@ ghost use Rattle.rest_of_depth.specs.Rest.{Underway, Walks};
 use descent::descend;
 use join_depths::depth::onward;
 use join_openings::Join;
-use join_plan::{COUNT, DEPTH_WORDS};
 use join_query::Query;
 use join_window::Written;
 use leapfrog_search::Landed;
@@ -32,8 +31,8 @@ pub fn walk_rest(
     requires fits { Fits join.now.n (length window.old) from }
     ensures { Walks join.now.pool.now join.now.plan.now join.now.ends.now join.now.n depth opened by_atom start found window.old from window.new result.rows result.full }
 {
-    let v = join.plan[DEPTH_WORDS * depth];
-    let k = join.plan[DEPTH_WORDS * depth + COUNT];
+    let v = join.plan[depth].variable;
+    let k = join.plan[depth].count;
     let mut state = opened;
     let mut landed = start;
     let mut rows = from;

@@ -7,6 +7,7 @@ use mathlib.Core.List.{List}
 use lib.ListN.{length, set, length-set}
 use borrow.Author.Rules.{rules}
 use Rattle.join_query.specs.Query.{max_variables}
+use Rattle.join_plan.specs.Plan.{Plan}
 use Rattle.join_openings.specs.Openings.{variable_at}
 use Rattle.join_depths.specs.Depth.{Standing}
 use Rattle.descent.specs.Descent.{Completes}
@@ -16,7 +17,7 @@ use Rattle.descent.proofs.+descend.Goals as goal
 use Rattle.descent.proofs.+descend.Goals.{Joined-depth-join-2, then-depth-join-2, else-depth-join-2}
 
 -- a variable is left
-deep : {pool plan ends : List ℕ} {n d : ℕ} {above owned : List ℕ} → Standing pool plan ends n d above owned → (d ≡ n → ⊥) → d < n
+deep : {pool : List ℕ} {plan : Plan} {ends : List ℕ} {n d : ℕ} {above owned : List ℕ} → Standing pool plan ends n d above owned → (d ≡ n → ⊥) → d < n
 deep st h = omega (arith, deep_enough st, h)
 
 -- ---- no variable is left
@@ -31,20 +32,11 @@ returns-then-depth-join t c = completes_leaf c.if-depth-join.true c.complete.ens
 
 -- ---- the depth is opened
 
-pub overflow_mul-v : goal.overflow_mul-v
-overflow_mul-v t c = omega (arith, few_variables c.requires.standing, deep c.requires.standing c.if-depth-join.false)
-
 pub offset_bounds-join-depth : goal.offset_bounds-join-depth
 offset_bounds-join-depth t c = omega (arith, few_variables c.requires.standing, deep c.requires.standing c.if-depth-join.false)
 
 pub bounds-join-depth : goal.bounds-join-depth
 bounds-join-depth t c = omega (arith, few_variables c.requires.standing, deep c.requires.standing c.if-depth-join.false)
-
-pub overflow_mul-k : goal.overflow_mul-k
-overflow_mul-k t c = omega (arith, few_variables c.requires.standing, deep c.requires.standing c.if-depth-join.false)
-
-pub overflow_add-k : goal.overflow_add-k
-overflow_add-k t c = omega (arith, few_variables c.requires.standing, deep c.requires.standing c.if-depth-join.false)
 
 pub offset_bounds-join-depth-2 : goal.offset_bounds-join-depth-2
 offset_bounds-join-depth-2 t c = omega (arith, few_variables c.requires.standing, deep c.requires.standing c.if-depth-join.false)

@@ -7,6 +7,7 @@ use mathlib.Core.List.{List}
 use lib.ListN.{length}
 use borrow.Author.Rules.{rules}
 use Rattle.join_query.specs.Query.{max_variables}
+use Rattle.join_plan.specs.Plan.{Plan}
 use Rattle.join_openings.specs.Openings.{variable_at}
 use Rattle.join_depths.specs.Depth.{Standing}
 use Rattle.descent.proofs.Walking.{few_variables, deep_enough, variable_small}
@@ -14,10 +15,10 @@ use Rattle.descent_after.proofs.Bounding.{after_leaf, after_underway, after_none
 use Rattle.descent_after.proofs.+descend_after.Goals as goal
 
 -- a variable is left
-deep : {pool plan ends : List ℕ} {n d : ℕ} {above owned : List ℕ} → Standing pool plan ends n d above owned → (d ≡ n → ⊥) → d < n
+deep : {pool : List ℕ} {plan : Plan} {ends : List ℕ} {n d : ℕ} {above owned : List ℕ} → Standing pool plan ends n d above owned → (d ≡ n → ⊥) → d < n
 deep st h = omega (arith, deep_enough st, h)
 
-small : {pool plan ends : List ℕ} {n d : ℕ} {above owned : List ℕ} → Standing pool plan ends n d above owned → (d ≡ n → ⊥) → variable_at plan d < max_variables
+small : {pool : List ℕ} {plan : Plan} {ends : List ℕ} {n d : ℕ} {above owned : List ℕ} → Standing pool plan ends n d above owned → (d ≡ n → ⊥) → variable_at plan d < max_variables
 small st h = variable_small st (deep st h)
 
 -- ---- no variable is left
@@ -27,20 +28,11 @@ returns-then-depth-join t c = after_leaf c.if-depth-join.true
 
 -- ---- the depth is opened
 
-pub overflow_mul-v : goal.overflow_mul-v
-overflow_mul-v t c = omega (arith, few_variables c.requires.standing, deep c.requires.standing c.if-depth-join.false)
-
 pub offset_bounds-join-depth : goal.offset_bounds-join-depth
 offset_bounds-join-depth t c = omega (arith, few_variables c.requires.standing, deep c.requires.standing c.if-depth-join.false)
 
 pub bounds-join-depth : goal.bounds-join-depth
 bounds-join-depth t c = omega (arith, few_variables c.requires.standing, deep c.requires.standing c.if-depth-join.false)
-
-pub overflow_mul-k : goal.overflow_mul-k
-overflow_mul-k t c = omega (arith, few_variables c.requires.standing, deep c.requires.standing c.if-depth-join.false)
-
-pub overflow_add-k : goal.overflow_add-k
-overflow_add-k t c = omega (arith, few_variables c.requires.standing, deep c.requires.standing c.if-depth-join.false)
 
 pub offset_bounds-join-depth-2 : goal.offset_bounds-join-depth-2
 offset_bounds-join-depth-2 t c = omega (arith, few_variables c.requires.standing, deep c.requires.standing c.if-depth-join.false)

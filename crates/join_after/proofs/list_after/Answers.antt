@@ -9,8 +9,8 @@ use Rattle.join_after.specs.From.{listed_from}
 use Rattle.join_after.proofs.Answer.{fits_none, listed_on, listed_all}
 use Rattle.join_after.proofs.list_after.Goals as goal
 
-pub make_plan-requires-clause-plannable : goal.make_plan-requires-clause-plannable
-make_plan-requires-clause-plannable c = plannable c.requires (omega (arith, c.well_formed))
+pub make_plan-requires : goal.make_plan-requires
+make_plan-requires c = plannable c.requires (omega (arith, c.well_formed))
 
 pub make_ends-requires-clause-plannable : goal.make_ends-requires-clause-plannable
 make_ends-requires-clause-plannable c = plannable c.requires (omega (arith, c.well_formed))

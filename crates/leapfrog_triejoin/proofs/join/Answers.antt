@@ -29,7 +29,7 @@ returns-in-Err c =
     joins_refused a.pool.now a.tables a.query a.window.now c.number.result (c.number.ensures ∙ c.in-Err.ensures) (λ e. not_zero c.in-Err.refused (sym c.number.ensures ∙ e))
 
 pub make_plan-requires : goal.make_plan-requires
-make_plan-requires c = record { plannable = plannable (accepted (goal.at.make_plan-requires c).In_default) (omega (arith, c.well_formed)); plan_len = refl }
+make_plan-requires c = plannable (accepted (goal.at.make_plan-requires c).In_default) (omega (arith, c.well_formed))
 
 pub make_ends-requires : goal.make_ends-requires
 make_ends-requires c = record { plannable = plannable (accepted (goal.at.make_ends-requires c).In_default) (omega (arith, c.well_formed)); ends_len = refl }

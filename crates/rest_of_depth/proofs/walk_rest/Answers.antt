@@ -13,20 +13,11 @@ use Rattle.rest_of_depth.proofs.walk_rest.Goals.{Start}
 long : (s : Start) → length s.args.found ≡ max_variables
 long s = search rules
 
-pub overflow_mul-v : goal.overflow_mul-v
-overflow_mul-v c = omega (arith, few_variables c.requires.underway, c.requires.underway.below)
-
 pub offset_bounds-join-depth : goal.offset_bounds-join-depth
 offset_bounds-join-depth c = omega (arith, few_variables c.requires.underway, c.requires.underway.below)
 
 pub bounds-join-depth : goal.bounds-join-depth
 bounds-join-depth c = omega (arith, few_variables c.requires.underway, c.requires.underway.below)
-
-pub overflow_mul-k : goal.overflow_mul-k
-overflow_mul-k c = omega (arith, few_variables c.requires.underway, c.requires.underway.below)
-
-pub overflow_add-k : goal.overflow_add-k
-overflow_add-k c = omega (arith, few_variables c.requires.underway, c.requires.underway.below)
 
 pub offset_bounds-join-depth-2 : goal.offset_bounds-join-depth-2
 offset_bounds-join-depth-2 c = omega (arith, few_variables c.requires.underway, c.requires.underway.below)

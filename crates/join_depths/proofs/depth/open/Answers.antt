@@ -23,12 +23,6 @@ pub returns-then-not-open_all : goal.returns-then-not-open_all
 returns-then-not-open_all c =
     opening_refused (arrays (goal.at.returns-then-not-open_all c).Start) c.requires.depth_lt_n.0 (search rules) (all_false c.open_all.ensures c.if-not-open_all.true)
 
-pub overflow_mul-k : goal.overflow_mul-k
-overflow_mul-k c = omega (arith, can (goal.at.overflow_mul-k c).Start)
-
-pub overflow_add-k : goal.overflow_add-k
-overflow_add-k c = omega (arith, can (goal.at.overflow_add-k c).Start)
-
 pub offset_bounds-join-depth : goal.offset_bounds-join-depth
 offset_bounds-join-depth c = omega (arith, can (goal.at.offset_bounds-join-depth c).Start)
 

@@ -1,9 +1,9 @@
--- `file_rows::per_field` meets its contract.
+-- `file_bytes::per_field` meets its contract.
 use mathlib.Core.Path.{refl}
 use native.Mathlib.Omega.{arith}
 use Rattle.table_file.specs.File.{per_field}
 use Rattle.table_file.proofs.Fields.{per_some, per_fits}
-use Rattle.file_rows.proofs.per_field.Goals as goal
+use Rattle.file_bytes.proofs.per_field.Goals as goal
 
 pub returns : goal.returns
 unfolding per_field
