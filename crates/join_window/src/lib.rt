@@ -1,10 +1,10 @@
-// Internal: how a row is written into the window, by a function that asks of its caller that the rows before it lie there.
+// Internal: how a row is written into the window, and read from words in which rows lie, by functions that ask of their callers where it may lie.
 #![tactic(auto)]
 
-ghost use Rattle.std.specs.Prelude.{◌≡◌, false, ◌≤◌, length, take};
+ghost use Rattle.std.specs.Prelude.{◌≡◌, false, ◌+◌, ◌≤◌, length, take, drop};
 ghost use Rattle.query.specs.Window.{emit};
 ghost use Rattle.join_query.specs.Query.{max_variables};
-ghost use Rattle.join_window.specs.Window.{written, Fits};
+ghost use Rattle.join_window.specs.Window.{written, Fits, zeros_behind};
 
 use join_query::Query;
 
@@ -30,4 +30,14 @@ pub fn emit(window: &mut [u64], row: &[u64; Query::MAX_VARIABLES], n: usize, row
         rows: rows + 1,
         full: false,
     }
+}
+
+// The row of the n words from `base` on, zeros behind.
+pub fn row_at(words: &[u64], base: usize, n: usize) -> [u64; Query::MAX_VARIABLES]
+    requires { (n ≤ max_variables) × (base + n ≤ length words.now) }
+    ensures { result ≡ zeros_behind (take n (drop base words.now)) }
+{
+    let mut row = [0u64; Query::MAX_VARIABLES];
+    row[..n].copy_from_slice(&words[base..base + n]);
+    row
 }

@@ -13,11 +13,11 @@ use column_trie::ColumnTrie;
 use join_query::{Atom, Query, Tables};
 use sound_table::Sound;
 
-// A word for each variable, by number.
+// A word for each variable, by number. There is no heap, so a row is an array of the most variables, here and in the crates above, of which the query's n count.
 pub type Row = [u64; Query::MAX_VARIABLES];
 
 // The group of interval i of layer `d`: the keys that follow the words for which the interval stands; with the place of the first of them in the layer. A key's place is the
-// number of its interval below.
+// number of its interval below. A pair: with a struct, of four lines, the plain engine had more than the 120 that are asked (docs/DECISIONS.md 67).
 fn group<'a>(rows: &Sound<'a>, d: usize, i: usize) -> (usize, &'a [u64])
     requires { Grouped rows.now.pool.now rows.now.table d i }
     ensures { (result.0 ≡ group_at rows.now.pool.now rows.now.table d i) × (result.1.now ≡ group_keys rows.now.pool.now rows.now.table d i) }
@@ -29,6 +29,7 @@ fn group<'a>(rows: &Sound<'a>, d: usize, i: usize) -> (usize, &'a [u64])
 
 // The table is a header by value here, and a `Sound` only inside: what a `Sound` says of its arrays the check knows of a parameter, but not of an entry of `tables`.
 // The least key of the table in column `len`, from the row's word there on, or above it, that follows the row's words for the columns before.
+// `past` leaves the word itself out. No enum of two: with its four lines the plain engine had more than the 120 that are asked (docs/DECISIONS.md 67).
 fn next_in(pool: &[u64], t: ColumnTrie, a: Atom, row: Row, len: usize, past: bool) -> Option<u64>
     requires { Undamaged pool.now t × (len < t.arity) × Named a len }
     ensures { result ≡ head_of (from (bound past (get_or (words a row) len 0)) (keys_under (take len (words a row)) (rows_in pool.now t))) }
