@@ -22,9 +22,9 @@ pub fn open_from(
     by_atom: &mut [usize; MAX_ATOMS],
     target: u64,
 ) -> Landed
-    requires standing { Standing join.now.pool.now join.now.plan.now join.now.ends.now join.now.n depth state.old.at state.old.own }
-    requires depth_lt_n { (depth < join.now.n) × Fresh state.old join.now.ends.now ring.old by_atom.old }
-    ensures { DepthFrom join.now.pool.now join.now.plan.now join.now.ends.now join.now.n depth state.old.at state.old.own state.new ring.new by_atom.new target result }
+    requires standing { Standing join.now.leap.pool.now join.now.plan.now join.now.leap.ends.now join.now.n depth state.old.at state.old.own }
+    requires depth_lt_n { (depth < join.now.n) × Fresh state.old join.now.leap.ends.now ring.old by_atom.old }
+    ensures { DepthFrom join.now.leap.pool.now join.now.plan.now join.now.leap.ends.now join.now.n depth state.old.at state.old.own state.new ring.new by_atom.new target result }
 {
     let first = open(join, depth, state, ring, by_atom, 0);
     let landed = first.landed;
@@ -32,15 +32,6 @@ pub fn open_from(
         return landed;
     };
     let k = join.plan[depth].count;
-    let s = whole_seek(
-        join.pool,
-        state,
-        join.ends,
-        by_atom,
-        k,
-        0,
-        target,
-        join.strategy,
-    );
+    let s = whole_seek(&join.leap, state, by_atom, k, 0, target);
     s.landed
 }

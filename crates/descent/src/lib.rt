@@ -58,9 +58,9 @@ pub fn descend(
     from: usize,
     before: u64,
 ) -> Walked
-    requires standing { Standing join.now.pool.now join.now.plan.now join.now.ends.now join.now.n depth above owned }
+    requires standing { Standing join.now.leap.pool.now join.now.plan.now join.now.leap.ends.now join.now.n depth above owned }
     requires fits { Fits join.now.n (length window.old) from }
-    ensures { Completes join.now.pool.now join.now.plan.now join.now.ends.now join.now.n depth above owned found window.old from before window.new result.rows result.full result.seeks }
+    ensures { Completes join.now.leap.pool.now join.now.plan.now join.now.leap.ends.now join.now.n depth above owned found window.old from before window.new result.rows result.full result.seeks }
 {
     if depth == join.n {
         return complete(window, &found, join.n, from, before);

@@ -29,9 +29,9 @@ pub fn descend_after(
     window: &mut [u64],
     from: usize,
 ) -> Written
-    requires standing { Standing join.now.pool.now join.now.plan.now join.now.ends.now join.now.n depth above owned }
+    requires standing { Standing join.now.leap.pool.now join.now.plan.now join.now.leap.ends.now join.now.n depth above owned }
     requires fits { Fits join.now.n (length window.old) from }
-    ensures { DescendedAfter join.now.pool.now join.now.plan.now join.now.ends.now join.now.n depth above owned found bounds window.old from window.new result.rows result.full }
+    ensures { DescendedAfter join.now.leap.pool.now join.now.plan.now join.now.leap.ends.now join.now.n depth above owned found bounds window.old from window.new result.rows result.full }
 {
     if depth == join.n {
         return Written {

@@ -14,13 +14,14 @@ use descent::descend;
 use descent_after::descend_after;
 use join_checks::check;
 use join_openings::Join;
-use join_plan::{DepthPlan, ENDS, make_ends, make_plan};
+use join_plan::{DepthPlan, make_ends, make_plan};
 use join_query::{Query, Tables};
 use join_window::Written;
 use last_row::last_row;
 use refusal::Refusal;
 use rows_after::JoinedAfter;
 use seek::SeekStrategy;
+use stretches::{Leap, RUN_ENDS};
 
 // Writes the rows that a call lists, of a query that passed the checks: those after the given row, or all of them where none is given.
 fn list_after(
@@ -34,16 +35,19 @@ fn list_after(
     requires { Accepted pool.now tables query (length window.old) }
     ensures { written window.new result.rows result.full ≡ listed_from pool.now tables query after window.old }
 {
-    let mut plan = [DepthPlan::EMPTY; Query::MAX_VARIABLES];
+    let mut plan = [DepthPlan::empty(); Query::MAX_VARIABLES];
     make_plan(&mut plan, tables, query);
-    let mut ends = [0usize; ENDS];
+    let mut ends = [0usize; RUN_ENDS];
     make_ends(&mut ends, tables, query);
-    let join = Join {
+    let leap = Leap {
         pool,
-        plan: &plan,
         ends: &ends,
-        n: query.n,
         strategy,
+    };
+    let join = Join {
+        leap,
+        plan: &plan,
+        n: query.n,
     };
     let at = [0usize; Query::MAX_ATOMS];
     let row = [0u64; Query::MAX_VARIABLES];

@@ -10,9 +10,10 @@ ghost use Rattle.join_plan.specs.Plan.{above_of, second_of, firsts_end, Low, Ope
 use column_trie::{ColumnTrie, layer_at};
 use join_checks::{heads, reached};
 use join_query::{Atom, Query, Tables};
+use stretches::RUN_ENDS;
 
 // A table's opening of a layer: where the keys above the layer start, where its keys start and how many they are, and the same of its intervals.
-#[derive(Clone, Copy)]
+#[derive(Clone, Copy, Default)]
 pub struct LayerPlan {
     pub above: usize,
     pub keys: usize,
@@ -21,33 +22,14 @@ pub struct LayerPlan {
     pub interval_count: usize,
 }
 
-impl LayerPlan {
-    pub const EMPTY: LayerPlan = LayerPlan {
-        above: 0,
-        keys: 0,
-        key_count: 0,
-        intervals: 0,
-        interval_count: 0,
-    };
-}
-
 // An atom's opening: of its table and of its second one, which is its maker's where it is laid over and else its own again; and whether it is opened in both
 // at once, at the first column of an atom that is laid over.
-#[derive(Clone, Copy)]
+#[derive(Clone, Copy, Default)]
 pub struct AtomPlan {
     pub atom: usize,
     pub school: LayerPlan,
     pub maker: LayerPlan,
     pub both: bool,
-}
-
-impl AtomPlan {
-    pub const EMPTY: AtomPlan = AtomPlan {
-        atom: 0,
-        school: LayerPlan::EMPTY,
-        maker: LayerPlan::EMPTY,
-        both: false,
-    };
 }
 
 // A depth: its variable, and the openings of the atoms that take part, in atom order, the first `count` of the array.
@@ -59,19 +41,21 @@ pub struct DepthPlan {
 }
 
 impl DepthPlan {
-    // What stands where no depth is planned.
-    pub const EMPTY: DepthPlan = DepthPlan {
-        variable: 0,
-        count: 0,
-        openings: [AtomPlan::EMPTY; Query::MAX_ATOMS],
-    };
+    // A depth at which no atom takes part. A function and no constant: a constant's parts would lie beside the plan on a join's stack.
+    pub fn empty() -> DepthPlan
+        ensures { result.count ≡ 0 }
+    {
+        DepthPlan {
+            variable: 0,
+            count: 0,
+            openings: [AtomPlan::default(); Query::MAX_ATOMS],
+        }
+    }
 }
 
-// The depths of a query, the first n of the array. It is filled where it lies and never handed back: a join that goes on has no room on the stack for a second one.
+// The depths of a query, the first n of the array. It is filled where it lies and never handed back: a function that hands it back had a join that goes on need
+// 32,631 bytes of stack on Arm, where 20,480 are allowed (portable/test).
 pub type Plan = [DepthPlan; Query::MAX_VARIABLES];
-
-// Beside the plan: for each atom where the first keys of its table end, and those of its maker's.
-pub const ENDS: usize = 2 * Query::MAX_ATOMS;
 
 // Where the keys above a layer start; above the first, 0.
 fn above_of(t: ColumnTrie, layer: usize) -> usize
@@ -119,7 +103,8 @@ fn second_of(a: Atom) -> usize
     if a.laid_over { a.maker } else { a.table }
 }
 
-// Plans one depth.
+// Plans one depth. Tables and query are no struct with `Plannable` in a ghost field: it would be made for two calls, `make_plan` and `make_ends`, of which each proves
+// it in one line, and `Low` is of one table out of them.
 fn plan_depth(depth: &mut DepthPlan, ts: Tables, q: Query, d: usize)
     requires { Plannable ts q × (d < q.n) }
     ensures { DepthPlanned depth.new ts q d }
@@ -158,8 +143,8 @@ fn firsts_end(t: ColumnTrie) -> usize
     layer_at(t, 0) + t.data_len[0]
 }
 
-// Writes the ends of the first keys of each atom's tables.
-pub fn make_ends(ends: &mut [usize; ENDS], ts: Tables, q: Query)
+// Writes, beside the plan, for each atom where the first keys of its table end, and those of its maker's.
+pub fn make_ends(ends: &mut [usize; RUN_ENDS], ts: Tables, q: Query)
     requires plannable { Plannable ts q }
     requires ends_len { length ends.old ≡ 2 * max_atoms }
     ensures { FirstsEnded ends.new ts q q.atom_count }

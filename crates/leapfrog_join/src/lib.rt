@@ -18,7 +18,8 @@ use query::MAX_ATOMS;
 use ring_sort::sort_ring;
 use seek::SeekStrategy;
 
-// What a leapfrog's seek answers: besides, whether it hit: it found a common key, and that key is its target.
+// What a leapfrog's seek answers: besides, whether it hit: it found a common key, and that key is its target. That could be told from the rest, and stands here
+// since the leapfrog's own seek is to say it (`RanFor`).
 #[derive(Clone, Copy)]
 pub struct SearchedFor {
     pub searched: Searched,

@@ -11,10 +11,11 @@ ghost use Rattle.leapfrog_triejoin.specs.Outcome.{Joins};
 use descent::descend;
 use join_checks::check;
 use join_openings::Join;
-use join_plan::{DepthPlan, ENDS, make_ends, make_plan};
+use join_plan::{DepthPlan, make_ends, make_plan};
 use join_query::{Query, Tables};
 use refusal::Refusal;
 use seek::SeekStrategy;
+use stretches::{Leap, RUN_ENDS};
 
 // C's `ducatbriar_joined`: `number` is 0 where nothing refuses, and the rows count also beside 12.
 #[repr(C)]
@@ -44,16 +45,19 @@ pub fn join(
             seeks: 0,
         };
     }
-    let mut plan = [DepthPlan::EMPTY; Query::MAX_VARIABLES];
+    let mut plan = [DepthPlan::empty(); Query::MAX_VARIABLES];
     make_plan(&mut plan, tables, query);
-    let mut ends = [0usize; ENDS];
+    let mut ends = [0usize; RUN_ENDS];
     make_ends(&mut ends, tables, query);
-    let join = Join {
+    let leap = Leap {
         pool,
-        plan: &plan,
         ends: &ends,
-        n: query.n,
         strategy,
+    };
+    let join = Join {
+        leap,
+        plan: &plan,
+        n: query.n,
     };
     let at = [0usize; Query::MAX_ATOMS];
     let row = [0u64; Query::MAX_VARIABLES];

@@ -27,9 +27,9 @@ pub fn walk_rest(
     window: &mut [u64],
     from: usize,
 ) -> Written
-    requires underway { Underway join.now.pool.now join.now.plan.now join.now.ends.now join.now.n depth opened ring by_atom start }
+    requires underway { Underway join.now.leap.pool.now join.now.plan.now join.now.leap.ends.now join.now.n depth opened ring by_atom start }
     requires fits { Fits join.now.n (length window.old) from }
-    ensures { Walks join.now.pool.now join.now.plan.now join.now.ends.now join.now.n depth opened by_atom start found window.old from window.new result.rows result.full }
+    ensures { Walks join.now.leap.pool.now join.now.plan.now join.now.leap.ends.now join.now.n depth opened by_atom start found window.old from window.new result.rows result.full }
 {
     let v = join.plan[depth].variable;
     let k = join.plan[depth].count;

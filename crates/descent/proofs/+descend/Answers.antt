@@ -92,7 +92,7 @@ descend-below-requires t c =
     (omega (arith, c.decreases, below), (walk_below b st below c.in-Key.is i, walk_fits b st below c.in-Key.is i))
 
 -- either way the rows that complete it are written
-under : (t : ℕ) (u : Joined-depth-join-2 t) → let l = u.loop-landed in let a = u.args in let w = u.if-depth-join-2 in Completes a.join.now.pool.now a.join.now.plan.now a.join.now.ends.now a.join.now.n (a.depth + 1) l.state.at l.state.own (set l.row (variable_at a.join.now.plan.now a.depth) u.in-Key.key) l.window l.rows l.seeks w.window w.below.rows w.below.full w.below.seeks
+under : (t : ℕ) (u : Joined-depth-join-2 t) → let l = u.loop-landed in let a = u.args in let w = u.if-depth-join-2 in Completes a.join.now.leap.pool.now a.join.now.plan.now a.join.now.leap.ends.now a.join.now.n (a.depth + 1) l.state.at l.state.own (set l.row (variable_at a.join.now.plan.now a.depth) u.in-Key.key) l.window l.rows l.seeks w.window w.below.rows w.below.full w.below.seeks
 under t u = elim u.if-depth-join-2.branch [
   | then-depth-join-2 w ↦ completes_came w.window-is w.below-is (completes_leaf w.if-depth-join-2.true w.complete-below.ensures)
   | else-depth-join-2 w ↦ completes_came w.window-is w.below-is w.descend-below.ensures

@@ -10,8 +10,8 @@ decreases-descend l = l.join.now.n - l.depth
 
 abbrev pub invariant-loop-landed : goal.invariant-loop-landed
 invariant-loop-landed l =
-    Walk l.join.pool.now l.join.plan.now l.join.ends.now l.join.n l.depth l.initial.state l.ring l.by_atom l.initial.landed l.initial.row l.initial.window l.from l.window l.state l.landed l.row l.rows
-    × Counting l.join.pool.now l.join.plan.now l.join.ends.now l.join.n l.depth l.initial.state l.ring l.by_atom l.initial.landed l.initial.row l.initial.window l.from l.before l.initial.seeks l.window l.state l.landed l.rows l.seeks
+    Walk l.join.leap.pool.now l.join.plan.now l.join.leap.ends.now l.join.n l.depth l.initial.state l.ring l.by_atom l.initial.landed l.initial.row l.initial.window l.from l.window l.state l.landed l.row l.rows
+    × Counting l.join.leap.pool.now l.join.plan.now l.join.leap.ends.now l.join.n l.depth l.initial.state l.ring l.by_atom l.initial.landed l.initial.row l.initial.window l.from l.before l.initial.seeks l.window l.state l.landed l.rows l.seeks
 
 abbrev pub decreases-loop-landed : goal.decreases-loop-landed
-decreases-loop-landed l = keys_left l.join.pool.now l.state l.join.ends.now l.by_atom (count_at l.join.plan.now l.depth) l.landed
+decreases-loop-landed l = keys_left l.join.leap.pool.now l.state l.join.leap.ends.now l.by_atom (count_at l.join.plan.now l.depth) l.landed

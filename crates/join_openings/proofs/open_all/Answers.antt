@@ -7,7 +7,7 @@ use Rattle.join_openings.proofs.Openings.{opens_true, opens_false, opens_start, 
 use Rattle.join_openings.proofs.open_all.Goals as goal
 
 pub loop-j-init : goal.loop-j-init
-loop-j-init c = opens_start c.args.join.now.pool.now c.args.join.now.plan.now c.args.depth c.requires.arrays
+loop-j-init c = opens_start c.args.join.now.leap.pool.now c.args.join.now.plan.now c.args.depth c.requires.arrays
 
 pub open_one-requires : goal.open_one-requires
 open_one-requires c = let l = c.loop-j in record { sized = l.invariant.arrays.sized; one_openable = opens_can c.requires.openable l.invariant (omega arith) }
@@ -38,4 +38,4 @@ returns c =
     let l = c.loop-j in
     let e : l.j ≡ count_at c.args.join.now.plan.now c.args.depth = omega arith in
     all
-    (subst (λ (m : ℕ). Opens c.args.join.now.pool.now c.args.join.now.plan.now c.args.join.now.ends.now c.args.depth m c.args.state.now l.state l.ring l.by_atom) e l.invariant)
+    (subst (λ (m : ℕ). Opens c.args.join.now.leap.pool.now c.args.join.now.plan.now c.args.join.now.leap.ends.now c.args.depth m c.args.state.now l.state l.ring l.by_atom) e l.invariant)

@@ -5,7 +5,7 @@ use Rattle.rest_of_depth.proofs.Resting.{Walking}
 use Rattle.rest_of_depth.proofs.walk_rest.Given as goal
 
 abbrev pub invariant-loop-landed : goal.invariant-loop-landed
-invariant-loop-landed l = Walking l.join.pool.now l.join.plan.now l.join.ends.now l.join.n l.depth l.initial.state l.ring l.by_atom l.initial.landed l.found l.initial.window l.from l.window l.state l.landed l.rows
+invariant-loop-landed l = Walking l.join.leap.pool.now l.join.plan.now l.join.leap.ends.now l.join.n l.depth l.initial.state l.ring l.by_atom l.initial.landed l.found l.initial.window l.from l.window l.state l.landed l.rows
 
 abbrev pub decreases-loop-landed : goal.decreases-loop-landed
-decreases-loop-landed l = keys_left l.join.pool.now l.state l.join.ends.now l.by_atom (count_at l.join.plan.now l.depth) l.landed
+decreases-loop-landed l = keys_left l.join.leap.pool.now l.state l.join.leap.ends.now l.by_atom (count_at l.join.plan.now l.depth) l.landed

@@ -13,7 +13,7 @@ use Rattle.join_depths.proofs.depth.open.Goals.{Start}
 abbrev arrays : Start → State
 arrays s = s.args.state.now
 
-can : (s : Start) → Openable s.args.join.now.pool.now s.args.join.now.plan.now s.args.join.now.ends.now s.args.depth (arrays s)
+can : (s : Start) → Openable s.args.join.now.leap.pool.now s.args.join.now.plan.now s.args.join.now.leap.ends.now s.args.depth (arrays s)
 can s = openable (arrays s) s.requires.standing.stands s.requires.depth_lt_n.0 s.requires.depth_lt_n.1.last
 
 pub open_all-requires : goal.open_all-requires
