@@ -1,9 +1,8 @@
 -- The descent: its end, and the loop over the keys of one depth.
 -- Idea: for every query whose atoms stand so, the keys left lead to the end of the depth (`ToGo` of the theory); the key found is the first of them, and where
 -- all agree on it, the atoms that take part stand for one word more.
-use Prim.Native.Nat.{ℕ, suc, ◌+◌, ◌*◌, ◌≤◌, ◌<◌}
+use Prim.Native.Nat.{ℕ, suc, ◌+◌, ◌≤◌, ◌<◌}
 use native.Mathlib.Omega.{arith}
-use native.Mathlib.Nat.{le-mul_of_pos_right}
 use native.Mathlib.Numerals.{add-one}
 use mathlib.Core.Path.{◌≡◌, refl, sym, subst, ap, ◌∙◌}
 use mathlib.Core.Bool.{Bool, true, false}
@@ -15,7 +14,7 @@ use Rattle.query.specs.Meet.{meet}
 use Rattle.query.specs.Solve.{headed}
 use Rattle.query.specs.Window.{Progress, emit}
 use Rattle.query.specs.Descend.{standings, nobody, Joinable, Descends}
-use Rattle.query.proofs.Descend.{ToGo, leaf, descends_fits, to_go_same, to_go_none, to_go_full}
+use Rattle.query.proofs.Descend.{ToGo, leaf, to_go_same, to_go_none, to_go_full}
 use Rattle.query.proofs.Meet.{get_or_in}
 use Rattle.query.proofs.Under.{Gains}
 use Rattle.query.proofs.Engine.{engine_start, engine_key, engine_joinable}
@@ -30,7 +29,7 @@ use Rattle.stretches.specs.declared.State.{State}
 use Rattle.stretches.specs.Whole.{WholeAgreed}
 use Rattle.join_query.specs.Query.{max_variables, atom_at, order_of, vars_of, atoms_of}
 use Rattle.join_plan.specs.Plan as plans
-use Rattle.join_window.specs.Window.{written, Fits}
+use Rattle.join_window.specs.Window.{written}
 use Rattle.join_openings.specs.Openings.{variable_at, count_at}
 use Rattle.join_depths.specs.Depth.{PlacedIn, Based, Stands, Standing, takes_part, Opened, AgreedAt, IfFound, Begins, DepthBegun, Steps}
 use Rattle.descent.specs.Descent.{Descended}
@@ -157,19 +156,15 @@ module _ {pool : List ℕ} {ts : Tables} {q : Query} {plan : Plan} {ends : List 
 pub record Walk (pool : List ℕ) (plan : Plan) (ends : List ℕ) (n d : ℕ) (z₀ : State) (ring by_atom : List ℕ) (landed₀ : Landed) (found w₀ : List ℕ) (from : ℕ) (w : List ℕ) (z : State) (landed : Landed) (row : List ℕ) (rows : ℕ) : Type 0 where
   pub agreed : AgreedAt pool z ends by_atom (count_at plan d) landed
   pub same : IfFound landed (SameAtoms by_atom ring (count_at plan d))
-  pub window : length w ≡ length w₀
-  pub fits : Fits n (length w₀) rows
   pub others : (x : ℕ) → set row (variable_at plan d) x ≡ set found (variable_at plan d) x
   pub long : length row ≡ max_variables
   pub goes : (ts : Tables) (q : Query) (f : ℕ → Row) → Based pool ts q plan ends n d f → Begins pool ts q plan ends n d z₀ by_atom f landed₀ → Goes pool ts q plan ends n d f found (written w₀ from false) z by_atom landed (written w rows false)
 
 module _ {pool : List ℕ} {plan : Plan} {ends : List ℕ} {n d : ℕ} {above owned : List ℕ} {z₀ : State} {ring by_atom : List ℕ} {landed₀ : Landed} (b : DepthBegun pool plan ends n d above owned z₀ ring by_atom landed₀) {found w₀ : List ℕ} {from : ℕ} where
-  pub walk_start : length found ≡ max_variables → Fits n (length w₀) from → Walk pool plan ends n d z₀ ring by_atom landed₀ found w₀ from w₀ z₀ landed₀ found from
-  walk_start l h = record {
+  pub walk_start : length found ≡ max_variables → Walk pool plan ends n d z₀ ring by_atom landed₀ found w₀ from w₀ z₀ landed₀ found from
+  walk_start l = record {
     agreed = b.agreed;
     same = b.same;
-    window = refl;
-    fits = h;
     others = λ x. refl;
     long = l;
     goes = λ ts q f s g. goes_start s g;
@@ -212,9 +207,6 @@ module _ {pool : List ℕ} {plan : Plan} {ends : List ℕ} {n d : ℕ} {above ow
     pub walk_same : SameAtoms by_atom ring (count_at plan d)
     walk_same = i.same
 
-    pub walk_fits : Fits n (length w) rows
-    walk_fits = record { inside = omega (arith, i.fits, i.window); few = omega (arith, i.fits, i.window) }
-
     pub walk_long : length (set row (variable_at plan d) x) ≡ max_variables
     walk_long = length-set row (variable_at plan d) x ∙ i.long
 
@@ -227,20 +219,10 @@ module _ {pool : List ℕ} {plan : Plan} {ends : List ℕ} {n d : ℕ} {above ow
             (goes_full g i.agreed (below_is row g i.agreed i.others r) t);
       }
 
-      pub walk_kept : (length w' ≡ length w) × (rows' * n ≤ length w)
-      walk_kept =
-          let q = st.query in
-          let m : n ≤ length found = omega (arith, ap length (i.others 0), length-set row (variable_at plan d) 0, length-set found (variable_at plan d) 0, i.long, (sized st.stands.based.accepted).few, st.stands.based.size) in
-          descends_fits (below_is row going i.agreed i.others r) (omega (arith, m, length-set found (first q d) x)) (omega (arith, i.fits, i.window))
-
       pub walk_next : full ≡ false → {z' : State} {landed' : Landed} → Steps pool ends by_atom (count_at plan d) z z' (key_at pool z.at (get_or by_atom 0 0)) landed' → Walk pool plan ends n d z₀ ring by_atom landed₀ found w₀ from w' z' landed' (set row (variable_at plan d) x) rows'
       walk_next f {z'} {landed'} t = record {
         agreed = t.agreed;
         same = if_found landed' i.same;
-        window = walk_kept.0 ∙ i.window;
-        fits =
-            let c : rows' ≤ rows' * n = le-mul_of_pos_right rows' (let h : 1 ≤ n = omega arith in h) in
-            record { inside = omega (arith, walk_kept.1, i.window); few = omega (arith, c, walk_kept.1, i.window) };
         others = λ y. set-set row (variable_at plan d) x y ∙ i.others y;
         long = walk_long;
         goes = λ ts q f₀ s g₀.
@@ -250,11 +232,12 @@ module _ {pool : List ℕ} {plan : Plan} {ends : List ℕ} {n d : ℕ} {above ow
       }
 
   -- none is left
-  pub walk_none : {landed : Landed} {p : ℕ} → landed ≡ Nothing p → Walk pool plan ends n d z₀ ring by_atom landed₀ found w₀ from w z landed row rows → Descended pool plan ends n d above owned found w₀ from w rows false
-  walk_none {p = p} e now = record {
+  pub walk_none : {landed : Landed} {p : ℕ} → landed ≡ Nothing p → Walk pool plan ends n d z₀ ring by_atom landed₀ found w₀ from w z landed row rows → {full : Bool} → full ≡ false → Descended pool plan ends n d above owned found w₀ from w rows full
+  walk_none {p = p} e now u = record {
     descends = λ ts q f s.
-        subst (λ (l : List ℕ). Descends n l (standings f (atoms_of pool ts q)) found (written w₀ from false) (written w rows false)) (sym (order_next s.based below))
-        (goes_none (subst (λ (h : Landed). Goes pool ts q plan ends n d f found (written w₀ from false) z by_atom h (written w rows false)) e (now.goes ts q f s.based (b.begins ts q f s))));
+        subst (λ (b : Bool). Descends n (drop d (order_of q)) (standings f (atoms_of pool ts q)) found (written w₀ from false) (written w rows b)) (sym u)
+        (subst (λ (l : List ℕ). Descends n l (standings f (atoms_of pool ts q)) found (written w₀ from false) (written w rows false)) (sym (order_next s.based below))
+        (goes_none (subst (λ (h : Landed). Goes pool ts q plan ends n d f found (written w₀ from false) z by_atom h (written w rows false)) e (now.goes ts q f s.based (b.begins ts q f s)))));
   }
 
 -- ---- numbers that the code relies on

@@ -20,7 +20,8 @@ use Rattle.join_query.specs.declared.Query.{Query}
 use Rattle.join_query.specs.declared.Tables.{Tables}
 use Rattle.join_query.proofs.Accepted.{sized, passes}
 use Rattle.join_plan.specs.Plan.{Plan, Planned, FirstsEnded}
-use Rattle.join_window.specs.Window.{written, Fits}
+use Rattle.join_window.specs.Window.{written, Begun}
+use Rattle.join_window.specs.declared.Window.{Window}
 use Rattle.descent.specs.Descent.{Descended}
 use Rattle.descent.proofs.Root.{stands_root, joined}
 use Rattle.rows_after.specs.After.{rows_asked, listed_after, last_of, stood_at, padded, outcome_after, JoinsAfter}
@@ -32,9 +33,9 @@ use Rattle.last_row.specs.Last.{last_read}
 use Rattle.join_after.specs.From.{given_row, listed_from}
 use Rattle.descent_after.specs.Descent.{DescendedAfter}
 
--- nothing is written yet
-pub fits_none : (n : ℕ) (w : List ℕ) → Fits n (length w) 0
-fits_none n w = record { inside = omega (arith, zero-mul n); few = omega arith }
+-- a descent that began in a new window, as one of its words
+pub begun_after : {pool : List ℕ} {plan : Plan} {ends : List ℕ} {m n d : ℕ} {at own found given : List ℕ} {w₀ : Window} {w' : List ℕ} {rows : ℕ} {full : Bool} → Begun m w₀ → DescendedAfter pool plan ends n d at own found given w₀.words.now w₀.rows w' rows full → DescendedAfter pool plan ends n d at own found given w₀.words.now 0 w' rows full
+begun_after {pool} {plan} {ends} {n = n} {d} {at} {own} {found} {given} {w₀} {w'} {rows} {full} b d₀ = subst (λ (r : ℕ). DescendedAfter pool plan ends n d at own found given w₀.words.now r w' rows full) b.none d₀
 
 module _ {pool : List ℕ} {ts : Tables} {q : Query} (w : List ℕ) (a : Accepted pool ts q (length w)) (given : Row) where
   -- every row listed is n words

@@ -13,6 +13,7 @@ use join_checks::check;
 use join_openings::Join;
 use join_plan::{DepthPlan, make_ends, make_plan};
 use join_query::{Query, Tables};
+use join_window::Window;
 use refusal::Refusal;
 use seek::SeekStrategy;
 use stretches::{Leap, RUN_ENDS};
@@ -61,7 +62,8 @@ pub fn join(
     };
     let at = [0usize; Query::MAX_ATOMS];
     let row = [0u64; Query::MAX_VARIABLES];
-    let written = descend(&join, window, 0, at, at, row, 0, 0);
+    let mut written = Window::new(window, query.n);
+    let seeks = descend(&join, &mut written, 0, at, at, row, 0);
     Joined {
         number: if written.full {
             Refusal::Full.number()
@@ -69,6 +71,6 @@ pub fn join(
             0
         },
         rows: written.rows,
-        seeks: written.seeks,
+        seeks,
     }
 }

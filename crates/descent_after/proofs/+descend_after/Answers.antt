@@ -4,14 +4,13 @@ use Prim.Native.Nat.{ℕ, ◌<◌}
 use native.Mathlib.Omega.{arith}
 use mathlib.Core.Path.{◌≡◌}
 use mathlib.Core.List.{List}
-use lib.ListN.{length}
-use borrow.Author.Rules.{rules}
 use Rattle.join_query.specs.Query.{max_variables}
 use Rattle.join_plan.specs.Plan.{Plan}
+use Rattle.join_window.proofs.Windows.{still_open, kept_none, kept_on}
 use Rattle.join_openings.specs.Openings.{variable_at}
 use Rattle.join_depths.specs.Depth.{Standing}
 use Rattle.descent.proofs.Walking.{few_variables, deep_enough, variable_small}
-use Rattle.descent_after.proofs.Bounding.{after_leaf, after_underway, after_none, after_past, after_below, after_agreed, after_same, after_next, after_filled, after_fitting, after_rest}
+use Rattle.descent_after.proofs.Bounding.{after_leaf, after_underway, after_none, after_past, after_below, after_agreed, after_same, after_next, after_filled, after_rest}
 use Rattle.descent_after.proofs.+descend_after.Goals as goal
 
 -- a variable is left
@@ -24,7 +23,7 @@ small st h = variable_small st (deep st h)
 -- ---- no variable is left
 
 pub returns-then-depth-join : goal.returns-then-depth-join
-returns-then-depth-join t c = after_leaf c.if-depth-join.true
+returns-then-depth-join t c = record { kept = kept_none; descended = after_leaf c.if-depth-join.true c.requires.ready.going }
 
 -- ---- the depth is opened
 
@@ -50,7 +49,7 @@ bounds-bounds-v t c = small c.requires.standing c.if-depth-join.false
 pub returns-in_default : goal.returns-in_default
 returns-in_default t c =
     let st = c.requires.standing in
-    after_none c.args.bounds c.open_from-landed.ensures st (deep st c.if-depth-join.false) c.in_default.is
+    record { kept = kept_none; descended = after_none c.args.bounds c.open_from-landed.ensures st (deep st c.if-depth-join.false) c.in_default.is c.requires.ready.going }
 
 -- ---- a key is found, and is not the given row's word
 
@@ -62,7 +61,8 @@ walk_rest-requires-clause-underway t c =
 pub returns-then-key-bound : goal.returns-then-key-bound
 returns-then-key-bound t c =
     let st = c.requires.standing in
-    after_past c.args.bounds c.open_from-landed.ensures st (deep st c.if-depth-join.false) c.in-Key.is c.if-key-bound.true c.walk_rest.ensures
+    let w = c.walk_rest.ensures in
+    record { kept = w.kept; descended = after_past c.args.bounds c.open_from-landed.ensures st (deep st c.if-depth-join.false) c.in-Key.is c.if-key-bound.true w.walks }
 
 -- ---- it is: the descent below it
 
@@ -72,17 +72,18 @@ offset_bounds-row-v t c = omega (arith, small c.requires.standing c.if-depth-joi
 pub bounds-row-v : goal.bounds-row-v
 bounds-row-v t c = small c.requires.standing c.if-depth-join.false
 
-pub descend_after-below-requires : goal.descend_after-below-requires
-descend_after-below-requires t c =
+pub descend_after-requires : goal.descend_after-requires
+descend_after-requires t c =
     let st = c.requires.standing in
     let below = deep st c.if-depth-join.false in
-    (omega (arith, c.decreases, below), (after_below c.args.bounds c.open_from-landed.ensures st below c.in-Key.is, c.requires.fits))
+    (omega (arith, c.decreases, below), (after_below c.args.bounds c.open_from-landed.ensures st below c.in-Key.is, c.requires.ready))
 
 -- the window is full
-pub returns-then-below : goal.returns-then-below
-returns-then-below t c =
+pub returns-then-window : goal.returns-then-window
+returns-then-window t c =
     let st = c.requires.standing in
-    after_filled c.args.bounds c.open_from-landed.ensures st (deep st c.if-depth-join.false) c.in-Key.is c.if-key-bound.false c.args.found c.descend_after-below.ensures c.if-below.true
+    let r = c.descend_after.ensures in
+    record { kept = r.kept; descended = after_filled c.args.bounds c.open_from-landed.ensures st (deep st c.if-depth-join.false) c.in-Key.is c.if-key-bound.false c.args.found r.descended c.if-window.true }
 
 -- ---- or the rest is walked
 
@@ -101,13 +102,17 @@ walk_rest-requires-2-clause-underway t c =
     let st = c.requires.standing in
     after_next c.args.bounds c.open_from-landed.ensures st (deep st c.if-depth-join.false) c.in-Key.is c.onward-next.ensures.steps
 
-pub walk_rest-requires-2-clause-fits : goal.walk_rest-requires-2-clause-fits
-walk_rest-requires-2-clause-fits t c =
-    let st = c.requires.standing in
-    let long : length c.args.found ≡ max_variables = search rules in
-    after_fitting c.args.bounds c.open_from-landed.ensures st (deep st c.if-depth-join.false) c.in-Key.is c.if-key-bound.false c.args.found c.descend_after-below.ensures long c.requires.fits
+pub walk_rest-requires-2-clause-ready : goal.walk_rest-requires-2-clause-ready
+walk_rest-requires-2-clause-ready t c =
+    let below = deep c.requires.standing c.if-depth-join.false in
+    still_open c.requires.ready c.descend_after.ensures.kept (omega (arith, below)) c.if-window.false
 
 pub returns : goal.returns
 returns t c =
     let st = c.requires.standing in
-    after_rest c.args.bounds c.open_from-landed.ensures st (deep st c.if-depth-join.false) c.in-Key.is c.if-key-bound.false c.args.found c.descend_after-below.ensures c.onward-next.ensures.steps c.if-below.false c.walk_rest-2.ensures
+    let r = c.descend_after.ensures in
+    let w = c.walk_rest-2.ensures in
+    record {
+      kept = kept_on r.kept w.kept;
+      descended = after_rest c.args.bounds c.open_from-landed.ensures st (deep st c.if-depth-join.false) c.in-Key.is c.if-key-bound.false c.args.found r.descended c.onward-next.ensures.steps c.if-window.false w.walks;
+    }
