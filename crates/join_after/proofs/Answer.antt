@@ -1,7 +1,6 @@
 -- The call from its checks to its answer: the descents leave the rows that it lists in the window, and the row read back from there is the one to hand back.
-use Prim.Native.Nat.{ℕ, zero, suc, ◌*◌, ◌≤◌}
+use Prim.Native.Nat.{ℕ, zero, suc, ◌*◌}
 use native.Mathlib.Omega.{arith}
-use native.Mathlib.Nat.{zero-mul}
 use mathlib.Core.Path.{◌≡◌, refl, sym, subst, ap, ◌∙◌}
 use mathlib.Core.Bool.{Bool, true, false}
 use Rattle.std.specs.Prelude.{Some, None}
@@ -12,9 +11,8 @@ use Rattle.relation.specs.Rows.{Width}
 use Rattle.query.specs.Limits.{max_atoms}
 use Rattle.query.specs.Outcome.{Comes, told, refused}
 use Rattle.query.specs.Solve.{listing}
-use Rattle.query.specs.Window.{Progress, begin, emits, windowed}
+use Rattle.query.specs.Window.{Progress}
 use Rattle.query.proofs.Listed.{listing_listing}
-use Rattle.query.proofs.Window.{emits_length, emits_fits, emits_windowed}
 use Rattle.join_query.specs.Query.{max_variables, order_of, atoms_of, join_number, Accepted}
 use Rattle.join_query.specs.declared.Query.{Query}
 use Rattle.join_query.specs.declared.Tables.{Tables}
@@ -62,16 +60,6 @@ module _ {pool : List ℕ} {ts : Tables} {q : Query} (w : List ℕ) (a : Accepte
   module _ (goes_on : Bool) {w' : List ℕ} {rows : ℕ} {full : Bool} (f : written w' rows full ≡ listed_from pool ts q (given_row goes_on given) w) where
     l : written w' rows full ≡ listed_after pool ts q goes_on given w
     l = f ∙ from goes_on
-
-    by_emits : windowed w q.n (rows_asked pool ts q goes_on given) ≡ emits q.n (begin w) (rows_asked pool ts q goes_on given)
-    by_emits = sym (emits_windowed w q.n (rows_asked pool ts q goes_on given) (wide goes_on))
-
-    pub rows_inside : rows * q.n ≤ length w'
-    rows_inside =
-        let s = ap (λ (s : Progress). s.count) (l ∙ by_emits) in
-        let t = ap (λ (s : Progress). length s.words) (l ∙ by_emits) in
-        let f = emits_fits q.n (rows_asked pool ts q goes_on given) (begin w) (wide goes_on) (omega (arith, zero-mul q.n)) in
-        subst (λ (m : ℕ). m * q.n ≤ length w') (sym s) (omega (arith, f, t, emits_length q.n (rows_asked pool ts q goes_on given) (begin w) (wide goes_on)))
 
     -- the row read back is the last of those written, or the one that the call stood at
     read_back : last_of (stood_at q.n goes_on given) (take (listed_after pool ts q goes_on given w).count (rows_asked pool ts q goes_on given)) ≡ last_read w' q.n rows (given_row goes_on given)

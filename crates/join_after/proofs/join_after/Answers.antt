@@ -16,7 +16,7 @@ use Rattle.join_window.proofs.Windows.{lent_back}
 use Rattle.rows_after.specs.After.{padded, JoinsAfter}
 use Rattle.last_row.specs.Last.{last_read}
 use Rattle.join_after.specs.From.{given_row, listed_from}
-use Rattle.join_after.proofs.Answer.{rows_inside, answers, refuses}
+use Rattle.join_after.proofs.Answer.{answers, refuses}
 use borrow.Author.Rules.{rules}
 use Rattle.join_after.proofs.join_after.Goals as goal
 use Rattle.join_after.proofs.join_after.Goals.{In_default, After-list_after, Start, then-goes_on, else-goes_on, then-listed, else-listed}
@@ -58,19 +58,22 @@ list_after-requires c =
     record { accepted = subst (Accepted a.pool.now a.tables a.query) (ap length (sym b.same_words.1)) (accepted (goal.at.list_after-requires c).In_default); begun = b.begun }
 
 -- the rows that it listed lie in the words that were lent, and the call answers them
-module _ (c : After-list_after) (y : let a = c.args in Accepted a.pool.now a.tables a.query (length a.window.now)) {words : List ℕ} (e : words ≡ c.list_after.new.window.words.now) where
+module _ (c : After-list_after) {words : List ℕ} (e : words ≡ c.list_after.new.window.words.now) where
   inside : c.list_after.new.window.rows * c.args.query.n ≤ length words
-  inside = rows_inside c.args.window.now y c.args.after c.args.goes_on (listed c e)
+  inside =
+      let w = c.list_after.new.window in
+      let n : w.n ≡ c.args.query.n = c.list_after.ensures.kept.rows_of ∙ c.new-listed.ensures.begun.rows_of in
+      subst (λ (l : List ℕ). w.rows * c.args.query.n ≤ length l) (sym e) (subst (λ (m : ℕ). w.rows * m ≤ length w.words.now) n w.inside)
 
-  answered : {number : ℕ} → number ≡ pick c.list_after.new.window.full 12 0 → {last : List ℕ} → last ≡ padded (last_read words c.args.query.n c.list_after.new.window.rows c.if-goes_on.given) → let a = c.args in JoinsAfter a.pool.now a.tables a.query a.goes_on a.after a.window.now (record { number = number; rows = c.list_after.new.window.rows; last = last }) words
-  answered n l =
+  answered : (y : let a = c.args in Accepted a.pool.now a.tables a.query (length a.window.now)) {number : ℕ} → number ≡ pick c.list_after.new.window.full 12 0 → {last : List ℕ} → last ≡ padded (last_read words c.args.query.n c.list_after.new.window.rows c.if-goes_on.given) → let a = c.args in JoinsAfter a.pool.now a.tables a.query a.goes_on a.after a.window.now (record { number = number; rows = c.list_after.new.window.rows; last = last }) words
+  answered y n l =
       let a = c.args in
       answers a.window.now y a.after a.goes_on (listed c e) n (l ∙ ap (λ (o : Option (List ℕ)). padded (last_read words a.query.n c.list_after.new.window.rows o)) (given c))
 
 pub last_row-requires : goal.last_row-requires
 last_row-requires c =
     let y = accepted (goal.at.last_row-requires c).In_default in
-    ((sized y).few, inside (goal.at.last_row-requires c).After-list_after y (search (rules, c.new-listed.ensures.same_words.0, c.list_after.ensures.kept.same)))
+    ((sized y).few, inside (goal.at.last_row-requires c).After-list_after (search (rules, c.new-listed.ensures.same_words.0, c.list_after.ensures.kept.same)))
 
 pub returns : goal.returns
 returns c =
@@ -79,4 +82,4 @@ returns c =
       | then-listed w ↦ w.result-is ∙ w.number-then-listed.ensures ∙ ap (λ (f : Bool). pick f 12 0) (sym w.if-listed.true)
       | else-listed w ↦ w.result-is ∙ ap (λ (f : Bool). pick f 12 0) (sym w.if-listed.false)
     ] in
-    answered (goal.at.returns c).After-list_after (accepted (goal.at.returns c).In_default) (search (rules, c.new-listed.ensures.same_words.0, c.list_after.ensures.kept.same)) number c.last_row.ensures
+    answered (goal.at.returns c).After-list_after (search (rules, c.new-listed.ensures.same_words.0, c.list_after.ensures.kept.same)) (accepted (goal.at.returns c).In_default) number c.last_row.ensures
