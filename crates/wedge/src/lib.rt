@@ -7,14 +7,16 @@ ghost use Rattle.std.specs.Prelude.{◌≡◌, ◌∷◌, ◌++◌, map, suc, �
 ghost use Rattle.std.specs.List.{insert, remove};
 ghost use Rattle.wedge.specs.Shift.{SmallFrom, PositiveFrom, lessened, listed};
 
-// Puts `word` at place `at` of the list: the words from there on move one up, the last of them to the free word that is lent behind the list.
+// Puts `word` at place `at` of the list: the words from there on move one up, the last of them to the free word that is lent behind the list. They are cut
+// out first: told where to begin, `copy_within` became a loop of the compiler's, and a shift of 50,000 words took half as long again. So in `close`.
 pub fn wedge(words: &mut [u64], at: usize, word: u64)
     requires { at < length words.old }
     ensures { words.new ≡ insert (listed words.old) at word }
 {
-    let end = words.len() - 1;
-    words.copy_within(at..end, at + 1);
-    words[at] = word;
+    let rest = &mut words[at..];
+    let end = rest.len() - 1;
+    rest.copy_within(..end, 1);
+    rest[0] = word;
 }
 
 // Each word becomes one more.
@@ -41,7 +43,7 @@ pub fn close(words: &mut [u64], at: usize)
     requires { at < length words.old }
     ensures { words.new ≡ remove words.old at ++ drop (length words.old - 1) words.old }
 {
-    words.copy_within(at + 1.., at);
+    words[at..].copy_within(1.., 0);
 }
 
 // Each word becomes one less. `raise` and this are a line each: one function with the step as a closure would put the closure's pre and post in the
