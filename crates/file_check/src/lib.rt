@@ -87,7 +87,8 @@ impl<'a> Body<'a> {
             return None;
         }
         let n = len / size;
-        if n == per_field(self.arity) || ends(&field[3 + len..]) {
+        let full = n == per_field(self.arity);
+        if full || ends(&field[3 + len..]) {
             Some(n)
         } else {
             None

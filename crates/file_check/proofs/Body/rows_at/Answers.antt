@@ -14,7 +14,7 @@ use Rattle.file_check.specs.Checks.{field_rows}
 use Rattle.file_check.proofs.Same.{ends_at}
 use Rattle.file_check.proofs.Checks.{at_short, at_tag, at_empty, at_part, at_long, at_some, at_none}
 use Rattle.file_check.proofs.Body.rows_at.Goals as goal
-use Rattle.file_check.proofs.Body.rows_at.Goals.{then-field-lt3-via-then-field-lt3, then-field-lt3-via-else-field-lt3+then-field-byte, then-len-eq0-via-then-len-eq0, then-len-eq0-via-else-len-eq0+then-len-size-ne0, then-len-eq0-via-else-len-eq0+else-len-size-ne0+then-field-len, then-n-per_field, else-n-per_field}
+use Rattle.file_check.proofs.Body.rows_at.Goals.{then-field-lt3-via-then-field-lt3, then-field-lt3-via-else-field-lt3+then-field-byte, then-len-eq0-via-then-len-eq0, then-len-eq0-via-else-len-eq0+then-len-size-ne0, then-len-eq0-via-else-len-eq0+else-len-size-ne0+then-field-len, then-full, else-full}
 
 -- the field as the code has it: what is left from p on
 module _ (bytes : List ℕ) (p : ℕ) where
@@ -59,9 +59,9 @@ returns-then-ends c =
     let f = field s.bytes.now c.args.p in
     let n = c.read_len-len.result in
     sym (at_some s.arity s.some f (each s.bytes.now c.args.p s.each) n (said s.bytes.now c.args.p c.read_len-len.ensures) (omega (arith, c.byte.ensures, c.if-field-byte.false)) (omega arith) (omega arith) (omega arith) (omega arith)
-    (elim c.if-n-per_field.branch [
-      | then-n-per_field w ↦ inl (w.if-n-per_field.true ∙ c.per_field.ensures.0)
-      | else-n-per_field w ↦ inr (ends_at f (3 + n) w.ends.ensures ∙ sym w.value-is ∙ c.if-ends.true)
+    (elim c.if-full.branch [
+      | then-full w ↦ inl (w.if-full.true ∙ c.per_field.ensures.0)
+      | else-full w ↦ inr (ends_at f (3 + n) w.ends.ensures ∙ sym w.value-is ∙ c.if-ends.true)
     ])) ∙ here s.bytes.now c.args.p s.arity
 
 pub returns-else-ends : goal.returns-else-ends
@@ -69,9 +69,9 @@ returns-else-ends c =
     let s = c.args.self.now in
     let f = field s.bytes.now c.args.p in
     let n = c.read_len-len.result in
-    elim c.if-n-per_field.branch [
-      | then-n-per_field w ↦ not_both c.if-n-per_field.value (w.value-is ∙ eq-eqb _ _ w.if-n-per_field.true) c.if-ends.false
-      | else-n-per_field w ↦
-          sym (at_none s.arity s.some f (each s.bytes.now c.args.p s.each) n (said s.bytes.now c.args.p c.read_len-len.ensures) (λ e. w.if-n-per_field.false (e ∙ sym c.per_field.ensures.0)) (ends_at f (3 + n) w.ends.ensures ∙ sym w.value-is ∙ c.if-ends.false))
+    elim c.if-full.branch [
+      | then-full w ↦ not_both c.if-full.value (w.value-is ∙ eq-eqb _ _ w.if-full.true) c.if-ends.false
+      | else-full w ↦
+          sym (at_none s.arity s.some f (each s.bytes.now c.args.p s.each) n (said s.bytes.now c.args.p c.read_len-len.ensures) (λ e. w.if-full.false (e ∙ sym c.per_field.ensures.0)) (ends_at f (3 + n) w.ends.ensures ∙ sym w.value-is ∙ c.if-ends.false))
           ∙ here s.bytes.now c.args.p s.arity
     ]
