@@ -39,7 +39,8 @@ pub struct State {
     pub left: [usize; MAX_ATOMS],
 }
 
-// The length of `ends`: for each atom the end of the school's first keys and that of the maker's.
+// The length of `ends`: for each atom the end of the school's first keys and that of the maker's. It is flat and has no pairs: a pair that `own` picks from would be an
+// array in an array, which the portable C file can't have (rust/portable refuses it).
 pub const RUN_ENDS: usize = 2 * MAX_ATOMS;
 
 // What the leapfrogs of a join read: the pool, where each atom's first keys end, and how they seek.
