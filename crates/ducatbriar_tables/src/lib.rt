@@ -89,7 +89,7 @@ pub extern "C" fn ducatbriar_build(
     column_trie_build::build(rows, pool, start, arity, capacity, grade)
 }
 
-// The numbers of a table's columns in their new sequence.
+// The numbers of a table's columns in their new sequence: C passes no array by value.
 #[repr(C)]
 #[derive(Clone, Copy)]
 pub struct Columns {

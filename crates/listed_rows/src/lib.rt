@@ -14,9 +14,17 @@ ghost use Rattle.listing_verdict.specs.Checked.{eight, complete};
 ghost use Rattle.listing_verdict.specs.Verdict.{good, first_fail};
 
 use join_query::Query;
-use join_window::row_at;
 use plain_atoms::{Asked, all_hold};
 use plain_keys::Row;
+
+// Row i of a listing of rows of n words, with zeros behind it. Listing, n and rows are no struct: in one with the query that they are held against, a check of a listing needed
+// 40,355 bytes of stack on Arm, and 58,275 where the struct was lent; portable/test allows 20,480, and without it they were 14,031.
+pub fn row_at(listing: &[u64], n: usize, i: usize) -> Row
+    requires { (n ≤ max_variables) × (i * n + n ≤ length listing.now) }
+    ensures { result ≡ eight (take n (drop (i * n) listing.now)) }
+{
+    join_window::row_at(listing, i * n, n)
+}
 
 // Whether row a comes strictly before row b, as read in the query's order. By hand: the proof closes neither with an iterator's `lt` over the order's words, whose contract
 // speaks of the two runs place by place, nor with each row's words in that order by an array's `map`, of whose calls it is not known that what they captured stays.
@@ -45,52 +53,32 @@ fn answers(asked: Asked, row: Row) -> bool
     true
 }
 
-// What is asked, and what was recorded of its answers: so many rows, each the words of one answer by variable number.
-#[derive(Clone, Copy)]
-pub struct Listed<'a, 'w> {
-    pub asked: Asked<'a>,
-    pub words: &'w [u64],
-    pub rows: usize,
-    pub ghost inside: { rows * asked.query.n ≤ length words.now },
+// Whether row i of the listing is an answer that comes strictly after the row before it.
+fn good(asked: Asked, listing: &[u64], i: usize) -> bool
+    requires { i * asked.query.n + asked.query.n ≤ length listing.now }
+    ensures { let a = asked.entry in result ≡ good (order_of a.query) (complete a.pool.now a.tables a.query) (cut (i + 1) a.query.n listing.now) i }
+{
+    let row = row_at(listing, asked.query.n, i);
+    if !answers(asked, row) {
+        return false;
+    }
+    if i == 0 {
+        return true;
+    }
+    let last = row_at(listing, asked.query.n, i - 1);
+    comes_before(asked.query, last, row)
 }
 
-impl<'a, 'w> Listed<'a, 'w> {
-    // Row i, with zeros behind it.
-    pub fn row(&self, i: usize) -> Row
-        requires { let n = self.now.asked.query.n in i * n + n ≤ length self.now.words.now }
-        ensures { let n = self.now.asked.query.n in result ≡ eight (take n (drop (i * n) self.now.words.now)) }
-    {
-        let n = self.asked.query.n;
-        row_at(self.words, i * n, n)
-    }
-
-    // Whether row i is an answer that comes strictly after the row before it.
-    fn good(&self, i: usize) -> bool
-        requires { let n = self.now.asked.query.n in i * n + n ≤ length self.now.words.now }
-        ensures { let a = self.now.asked in result ≡ good (order_of a.query) (complete a.pool.now a.tables a.query) (cut (i + 1) a.query.n self.now.words.now) i }
-    {
-        let row = self.row(i);
-        if !answers(self.asked, row) {
-            return false;
+// The number of the first row that is not, if there is one, where those before `from` are.
+pub fn first_wrong(asked: Asked, listing: &[u64], rows: usize, from: usize) -> Option<usize>
+    requires { let q = asked.query in let all = complete asked.pool.now asked.tables q in (rows * q.n ≤ length listing.now) × (from ≤ rows) × ((k : ℕ) → k < from → good (order_of q) all (cut rows q.n listing.now) k ≡ true) }
+    ensures number { let a = asked.entry in unwrap_or result rows ≡ first_fail rows (good (order_of a.query) (complete a.pool.now a.tables a.query) (cut rows a.query.n listing.now)) }
+    ensures inside { IfSome result (λ i. i < rows) }
+{
+    for i in from..rows {
+        if !good(asked, listing, i) {
+            return Some(i);
         }
-        if i == 0 {
-            return true;
-        }
-        let last = self.row(i - 1);
-        comes_before(self.asked.query, last, row)
     }
-
-    // The number of the first row that is not, if there is one, where those before `from` are.
-    pub fn first_wrong(&self, from: usize) -> Option<usize>
-        requires { let l = self.now in let a = l.asked in let q = a.query in (from ≤ l.rows) × ((k : ℕ) → k < from → good (order_of q) (complete a.pool.now a.tables q) (cut l.rows q.n l.words.now) k ≡ true) }
-        ensures number { let l = self.now in let a = l.asked in unwrap_or result l.rows ≡ first_fail l.rows (good (order_of a.query) (complete a.pool.now a.tables a.query) (cut l.rows a.query.n l.words.now)) }
-        ensures inside { IfSome result (λ i. i < self.now.rows) }
-    {
-        for i in from..self.rows {
-            if !self.good(i) {
-                return Some(i);
-            }
-        }
-        None
-    }
+    None
 }

@@ -9,9 +9,9 @@
 // The public call is `check_listing`; its contract is `Checks` of crates/listing_verdict, and crates/verdict_laws says what follows of it. Nothing is written.
 #![tactic(auto)]
 
-ghost use Rattle.std.specs.Prelude.{◌≡◌, ◌-◌, ◌≤◌, take, drop};
+ghost use Rattle.std.specs.Prelude.{◌≡◌, ◌*◌, ◌-◌, ◌≤◌, length, take, drop};
 ghost use Rattle.relation.specs.Rows.{cut};
-ghost use Rattle.join_query.specs.Query.{order_of, atoms_of};
+ghost use Rattle.join_query.specs.Query.{max_variables, order_of, atoms_of};
 ghost use Rattle.plain.specs.Plain.{plainly};
 ghost use Rattle.listing_verdict.specs.Checked.{says, complete, Checks};
 ghost use Rattle.listing_verdict.specs.Verdict.{how_many, verdict};
@@ -19,7 +19,7 @@ ghost use Rattle.listing_check.specs.Walk.{meet, meets, Padded, Agrees};
 
 use join_checks::check;
 use join_query::{Query, Tables};
-use listed_rows::Listed;
+use listed_rows::{first_wrong, row_at};
 use listing_verdict::Checked;
 use plain_atoms::{Asked, all_hold, holder};
 use plain_keys::{Row, next_key};
@@ -32,17 +32,16 @@ pub struct Reached {
 }
 
 // Compares an answer with the row listed behind those that agree.
-fn meet(listed: &Listed, found: Row, met: Reached) -> Reached
-    requires { Padded listed.now.asked.query.n found × Agrees met }
-    ensures { let l = listed.now in let n = l.asked.query.n in result ≡ meet (cut l.rows n l.words.now) met (take n found) }
+fn meet(listing: &[u64], n: usize, rows: usize, found: Row, met: Reached) -> Reached
+    requires { (n ≤ max_variables) × (rows * n ≤ length listing.now) × Padded n found × Agrees met }
+    ensures { result ≡ meet (cut rows n listing.now) met (take n found) }
 {
-    let n = listed.asked.query.n;
     let at = met.at;
     let missing = Some(found);
-    if at >= listed.rows {
+    if at >= rows {
         return Reached { at, missing }; // no row is listed there
     }
-    let next = listed.row(at);
+    let next = row_at(listing, n, at);
     if next[..n] != found[..n] {
         return Reached { at, missing };
     }
@@ -54,14 +53,20 @@ fn meet(listed: &Listed, found: Row, met: Reached) -> Reached
 
 // Compares the rows that complete `found` by words for the last `left` variables of the order with those listed behind the ones that agree, until one is missing. plain_join's
 // search but for what is done with a row: with one for both, by a trait, the plain engine had at least 132 lines of code, where 120 are asked (docs/DECISIONS.md 67).
-fn search(listed: &Listed, left: usize, found: Row, from: Reached) -> Reached
-    requires { let n = listed.now.asked.query.n in (left ≤ n) × Padded n found × Agrees from }
-    ensures { let l = listed.now in let a = l.asked in let q = a.query in result ≡ meets (cut l.rows q.n l.words.now) from (plainly q.n (drop (q.n - left) (order_of q)) (atoms_of a.pool.now a.tables q) found) }
+fn search(
+    asked: Asked,
+    left: usize,
+    found: Row,
+    listing: &[u64],
+    rows: usize,
+    from: Reached,
+) -> Reached
+    requires { (left ≤ asked.query.n) × (rows * asked.query.n ≤ length listing.now) × Padded asked.query.n found × Agrees from }
+    ensures { let a = asked.entry in let q = a.query in result ≡ meets (cut rows q.n listing.now) from (plainly q.n (drop (q.n - left) (order_of q)) (atoms_of a.pool.now a.tables q) found) }
 {
     if left == 0 {
-        return meet(listed, found, from);
+        return meet(listing, asked.query.n, rows, found, from);
     }
-    let asked = listed.asked;
     let v = asked.query.order[asked.query.n - left];
     let (first, c) = holder(asked.query, v);
     let a = asked.query.atoms[first];
@@ -72,7 +77,7 @@ fn search(listed: &Listed, left: usize, found: Row, from: Reached) -> Reached
     while let Some(key) = next {
         row[v] = key;
         if all_hold(asked, row, v, first + 1) {
-            met = search(listed, left - 1, row, met);
+            met = search(asked, left - 1, row, listing, rows, met);
             if met.missing.is_some() {
                 return met;
             }
@@ -93,16 +98,17 @@ fn how_many(n: usize, len: usize, count: usize) -> usize
 }
 
 // The verdict on the listed rows, of a query that passed its checks.
-fn verdict(listed: &Listed) -> Checked
-    ensures { let l = listed.now in let a = l.asked in result ≡ says (verdict (order_of a.query) (complete a.pool.now a.tables a.query) (cut l.rows a.query.n l.words.now)) }
+fn verdict(asked: Asked, listing: &[u64], rows: usize) -> Checked
+    requires { rows * asked.query.n ≤ length listing.now }
+    ensures { let a = asked.entry in result ≡ says (verdict (order_of a.query) (complete a.pool.now a.tables a.query) (cut rows a.query.n listing.now)) }
 {
     let none = [0u64; Query::MAX_VARIABLES];
     let start = Reached {
         at: 0,
         missing: None,
     };
-    let end = search(listed, listed.asked.query.n, none, start);
-    if let Some(row) = listed.first_wrong(end.at) {
+    let end = search(asked, asked.query.n, none, listing, rows, start);
+    if let Some(row) = first_wrong(asked, listing, rows, end.at) {
         return Checked {
             number: 0,
             verdict: Checked::WRONG,
@@ -147,10 +153,5 @@ pub fn check_listing(
         tables,
         query,
     };
-    let listed = Listed {
-        asked,
-        words: listing,
-        rows,
-    };
-    verdict(&listed)
+    verdict(asked, listing, rows)
 }

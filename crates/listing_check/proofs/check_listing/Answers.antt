@@ -26,10 +26,10 @@ returns-in-Err c = let a = c.args in checks_refused a.pool.now a.tables a.query 
 pub invariant_of-asked : goal.invariant_of-asked
 invariant_of-asked c = record { passed = any_window (accepted (goal.at.invariant_of-asked c).Start (sym c.in_default.ensures)) }
 
-pub invariant_of-listed : goal.invariant_of-listed
-invariant_of-listed c =
+pub verdict-requires : goal.verdict-requires
+verdict-requires c =
     let a = c.args in
-    record { inside = rw c.how_many-rows.ensures (many_inside a.query.n (length a.listing.now) a.count) }
+    rw c.how_many-rows.ensures (many_inside a.query.n (length a.listing.now) a.count)
 
 pub returns : goal.returns
 returns c =
