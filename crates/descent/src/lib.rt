@@ -37,12 +37,7 @@ pub fn descend(
     }
     let v = join.plan[depth].variable;
     let k = join.plan[depth].count;
-    let mut state = State {
-        at: above,
-        end: [0; MAX_ATOMS],
-        own: owned,
-        left: [0; MAX_ATOMS],
-    };
+    let mut state = State::begin(above, owned);
     let mut ring = [0usize; MAX_ATOMS];
     let mut by_atom = [0usize; MAX_ATOMS];
     let first = open(join, depth, &mut state, &mut ring, &mut by_atom, before);

@@ -38,12 +38,7 @@ pub fn descend_after(
     let v = join.plan[depth].variable;
     let k = join.plan[depth].count;
     let bound = bounds[v];
-    let mut state = State {
-        at: above,
-        end: [0; MAX_ATOMS],
-        own: owned,
-        left: [0; MAX_ATOMS],
-    };
+    let mut state = State::begin(above, owned);
     let mut ring = [0usize; MAX_ATOMS];
     let mut by_atom = [0usize; MAX_ATOMS];
     let landed = open_from(join, depth, &mut state, &mut ring, &mut by_atom, bound);

@@ -15,9 +15,10 @@ use stretches::{State, whole_init, whole_next};
 fn since(before: u64, s: Searched) -> Searched
     ensures { result ≡ since_of before s }
 {
-    let landed = s.landed;
-    let seeks = before.saturating_add(s.seeks);
-    Searched { landed, seeks }
+    Searched {
+        seeks: before.saturating_add(s.seeks),
+        ..s
+    }
 }
 
 // Opens a depth and finds its first key: the atoms that take part are opened in atom order, and the leapfrog over their runs is begun. Where one has no keys,

@@ -7,7 +7,7 @@
 // one seek, however many pieces it looks through. Of a `State`, `own` goes down with `at` from depth to depth, and `left` is 0 at first.
 #![tactic(auto)]
 
-ghost use Rattle.std.specs.Prelude.{◌≡◌, true, List, ℕ, ◌≤◌, ◌<◌, length, get_or, take};
+ghost use Rattle.std.specs.Prelude.{◌≡◌, true, List, ℕ, ◌≤◌, ◌<◌, length, get_or, replicate, take};
 ghost use Rattle.relation.specs.Lists.{Ascends};
 ghost use Rattle.relation.specs.Runs.{from};
 ghost use Rattle.query.specs.Limits.{max_atoms};
@@ -37,6 +37,20 @@ pub struct State {
     pub own: [usize; MAX_ATOMS],
     // how many keys of the other table's run are not yet passed
     pub left: [usize; MAX_ATOMS],
+}
+
+impl State {
+    // What a depth begins with: the places and tables of the depth above, and no piece yet.
+    pub fn begin(at: [usize; MAX_ATOMS], own: [usize; MAX_ATOMS]) -> Self
+        ensures { (result.at ≡ at) × (result.own ≡ own) × (result.end ≡ replicate max_atoms 0) × (result.left ≡ replicate max_atoms 0) }
+    {
+        Self {
+            at,
+            end: [0; MAX_ATOMS],
+            own,
+            left: [0; MAX_ATOMS],
+        }
+    }
 }
 
 // The length of `ends`: for each atom the end of the school's first keys and that of the maker's. It is flat and has no pairs: a pair that `own` picks from would be an
@@ -169,6 +183,23 @@ fn go_on(
     }
 }
 
+// As `go_on`, with the test of a plain join ahead of its loop: one that has ended over the whole runs pays no more than that.
+fn resume(
+    leap: &Leap,
+    state: &mut State,
+    ring: &[usize; MAX_ATOMS],
+    k: usize,
+    s: Searched,
+) -> Searched
+    requires { Paused leap.now.pool.now state.old leap.now.ends.now ring.now k s }
+    ensures { WholeRan leap.now.pool.now leap.now.ends.now ring.now k state.old state.new (resumed_of leap.now.pool.now state.old leap.now.ends.now ring.now k s.landed s.seeks) result }
+{
+    if settled(&state.left, ring, s.landed) {
+        return s;
+    }
+    go_on(leap, state, ring, k, s)
+}
+
 // Algorithm 2 over whole runs, from place `start` of an ordered ring.
 pub fn whole_search(
     leap: &Leap,
@@ -205,13 +236,7 @@ pub fn whole_init(
     ensures { WholeBegun leap.now.pool.now leap.now.ends.now k ring.old ring.new state.old state.new result }
 {
     let s = leapfrog_init(leap.pool, &mut state.at, &state.end, ring, k, leap.strategy);
-    let landed = s.landed;
-    let seeks = s.seeks;
-    if settled(&state.left, ring, landed) {
-        return Searched { landed, seeks };
-    }
-    let paused = Searched { landed, seeks };
-    go_on(leap, state, ring, k, paused)
+    resume(leap, state, ring, k, s)
 }
 
 // Algorithm 3 over whole runs, where all agree.
@@ -234,11 +259,5 @@ pub fn whole_next(
         p,
         leap.strategy,
     );
-    let landed = s.landed;
-    let seeks = s.seeks;
-    if settled(&state.left, ring, landed) {
-        return Searched { landed, seeks };
-    }
-    let paused = Searched { landed, seeks };
-    go_on(leap, state, ring, k, paused)
+    resume(leap, state, ring, k, s)
 }
