@@ -113,8 +113,9 @@ fn plan_depth(depth: &mut DepthPlan, ts: Tables, q: Query, d: usize)
     let mut k = 0;
     for i in 0..q.atom_count {
         let a = q.atoms[i];
-        let layer = reached(q.order, d, a);
-        if heads(a, layer, v) {
+        let list = &a.variables[..a.len];
+        let layer = reached(&q.order[..d], list);
+        if heads(list, layer, v) {
             let school = ts.tables[a.table];
             let maker = ts.tables[second_of(a)];
             depth.openings[k] = plan_atom(i, a.laid_over, school, maker, layer);

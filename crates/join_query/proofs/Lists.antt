@@ -54,19 +54,15 @@ pub make : (a b : Bool) → (a ≡ true → b ≡ true) → (not a || b) ≡ tru
 make true b f = f refl
 make false b f = refl
 
--- ---- the first n numbers of a list, by place
+-- ---- a list by place
 
-module _ (l : List ℕ) (n : ℕ) (fits : n ≤ length l) where
-  long : length (take n l) ≡ n
-  long = length-take-le n l fits
+pub headed_at : (l : List ℕ) (v j : ℕ) → j < length l → headed v (drop j l) ≡ eqb (get_or l j 0) v
+unfolding headed
+headed_at l v j h = ap (headed v) (drop-cons l j 0 h)
 
-  pub headed_at : (v j : ℕ) → j < n → headed v (drop j (take n l)) ≡ eqb (get_or l j 0) v
-  unfolding headed
-  headed_at v j h = ap (headed v) (drop-cons (take n l) j 0 (omega (arith, long))) ∙ ap (λ (x : ℕ). eqb x v) (get_or-take n l j 0 h)
-
-  pub headed_past : (v j : ℕ) → n ≤ j → headed v (drop j (take n l)) ≡ false
-  unfolding headed
-  headed_past v j h = ap (headed v) (drop_of_length-le (take n l) (let g : length (take n l) ≤ j = omega (arith, long) in g))
+pub headed_past : (l : List ℕ) (v j : ℕ) → length l ≤ j → headed v (drop j l) ≡ false
+unfolding headed
+headed_past l v j h = ap (headed v) (drop_of_length-le l h)
 
 pub headed_inside : (v j : ℕ) (xs : List ℕ) → headed v (drop j xs) ≡ true → j < length xs
 unfolding headed
