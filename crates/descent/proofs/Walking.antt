@@ -270,3 +270,8 @@ descended_leaf {pool} {n = n} {d} {found = found} {w₀} {from} {w} {rows} {full
       subst (λ (l : List ℕ). Descends n l (standings f (atoms_of pool ts q)) found (written w₀ from false) (written w rows full)) none
       (subst (Descends n [] (standings f (atoms_of pool ts q)) found (written w₀ from false)) (sym r) (leaf n (standings f (atoms_of pool ts q)) found (written w₀ from false)));
 }
+
+-- ---- a depth begins where the one above stands
+
+pub from_above : (p : List ℕ → List ℕ → Type 0) {at own above owned : List ℕ} → at ≡ above → own ≡ owned → p at own → p above owned
+from_above p {own = own} {above} e h x = subst (p above) h (subst (λ (a : List ℕ). p a own) e x)

@@ -12,12 +12,12 @@ use Rattle.join_window.specs.Window.{Kept}
 use Rattle.join_window.specs.declared.Window.{Window}
 use Rattle.join_window.proofs.Windows.{open_own, emitted_on, still_open, kept_none, kept_on}
 use Rattle.join_openings.specs.Openings.{variable_at}
-use Rattle.join_depths.specs.Depth.{Standing}
+use Rattle.join_depths.specs.Depth.{Standing, Opening}
 use Rattle.descent.specs.Descent.{Completes}
-use Rattle.descent.proofs.Walking.{walk_start, walk_below, walk_agreed, walk_same, walk_full, walk_next, walk_none, steps_less, few_variables, deep_enough, variable_small}
+use Rattle.descent.proofs.Walking.{walk_start, walk_below, walk_agreed, walk_same, walk_full, walk_next, walk_none, steps_less, few_variables, deep_enough, variable_small, from_above}
 use Rattle.descent.proofs.Counting.{counting_start, completes_leaf, counting_none, counting_full, counting_next}
 use Rattle.descent.proofs.+descend.Goals as goal
-use Rattle.descent.proofs.+descend.Goals.{Joined-depth-join-2, then-depth-join-2, else-depth-join-2}
+use Rattle.descent.proofs.+descend.Goals.{After-open-first, Joined-depth-join-2, then-depth-join-2, else-depth-join-2}
 
 -- a variable is left
 deep : {pool : List ℕ} {plan : Plan} {ends : List ℕ} {n d : ℕ} {above owned : List ℕ} → Standing pool plan ends n d above owned → (d ≡ n → ⊥) → d < n
@@ -49,19 +49,32 @@ offset_bounds-join-depth-2 t c = omega (arith, few_variables c.requires.standing
 pub bounds-join-depth-2 : goal.bounds-join-depth-2
 bounds-join-depth-2 t c = omega (arith, few_variables c.requires.standing, deep c.requires.standing c.if-depth-join.false)
 
+pub open-first-requires-clause-standing : goal.open-first-requires-clause-standing
+open-first-requires-clause-standing t c =
+    let a = c.args in
+    let e = c.begin-state.ensures in
+    from_above (Standing a.join.now.leap.pool.now a.join.now.plan.now a.join.now.leap.ends.now a.join.now.n a.depth) (sym e.0) (sym e.1) c.requires.standing
+
+opened : (t : ℕ) (s : After-open-first t) → let a = s.args in let o = s.open-first in Opening a.join.now.leap.pool.now a.join.now.plan.now a.join.now.leap.ends.now a.join.now.n a.depth a.above a.owned o.new.state o.new.ring o.new.by_atom a.before o.result
+opened t s =
+    let a = s.args in
+    let o = s.open-first in
+    let e = s.begin-state.ensures in
+    from_above (λ (at own : List ℕ). Opening a.join.now.leap.pool.now a.join.now.plan.now a.join.now.leap.ends.now a.join.now.n a.depth at own o.new.state o.new.ring o.new.by_atom a.before o.result) e.0 e.1 o.ensures
+
 -- ---- the loop
 
 pub loop-landed-init : goal.loop-landed-init
 loop-landed-init t c =
     let long : length c.args.found ≡ max_variables = search rules in
-    (walk_start c.open-first.ensures.begun long, counting_start, kept_none, c.requires.ready)
+    (walk_start (opened t (goal.at.loop-landed-init t c).After-open-first).begun long, counting_start, kept_none, c.requires.ready)
 
 -- no key is left
 pub returns : goal.returns
 returns t c =
     let st = c.requires.standing in
     let below = deep st c.if-depth-join.false in
-    let o = c.open-first.ensures in
+    let o = opened t (goal.at.returns t c).After-open-first in
     let i = c.loop-landed.invariant in
     let going = i.3.going in
     record {
@@ -89,7 +102,7 @@ descend-below-requires t c =
     let st = c.requires.standing in
     let below = deep st c.if-depth-join.false in
     let i = c.loop-landed.invariant in
-    (omega (arith, c.decreases, below), (walk_below c.open-first.ensures.begun st below c.in-Key.is i.0, i.3))
+    (omega (arith, c.decreases, below), (walk_below (opened t (goal.at.descend-below-requires t c).After-open-first).begun st below c.in-Key.is i.0, i.3))
 
 -- either way the rows that complete it are written
 under : (t : ℕ) (u : Joined-depth-join-2 t) → let l = u.loop-landed in let a = u.args in let w = u.if-depth-join-2 in Kept l.window w.window × Completes a.join.now.leap.pool.now a.join.now.plan.now a.join.now.leap.ends.now a.join.now.n (a.depth + 1) l.state.at l.state.own (set l.row (variable_at a.join.now.plan.now a.depth) u.in-Key.key) l.window.words.now l.window.rows l.seeks w.window.words.now w.window.rows w.window.full w.below
@@ -107,7 +120,7 @@ pub returns-then-window : goal.returns-then-window
 returns-then-window t c =
     let st = c.requires.standing in
     let below = deep st c.if-depth-join.false in
-    let o = c.open-first.ensures in
+    let o = opened t (goal.at.returns-then-window t c).After-open-first in
     let i = c.loop-landed.invariant in
     let u = under t (goal.at.returns-then-window t c).Joined-depth-join-2 in
     record {
@@ -122,12 +135,12 @@ returns-then-window t c =
 pub onward-next-requires-clause-whole_agreed : goal.onward-next-requires-clause-whole_agreed
 onward-next-requires-clause-whole_agreed t c =
     let st = c.requires.standing in
-    walk_agreed c.open-first.ensures.begun st (deep st c.if-depth-join.false) c.in-Key.is c.loop-landed.invariant.0
+    walk_agreed (opened t (goal.at.onward-next-requires-clause-whole_agreed t c).After-open-first).begun st (deep st c.if-depth-join.false) c.in-Key.is c.loop-landed.invariant.0
 
 pub onward-next-requires-clause-same_atoms : goal.onward-next-requires-clause-same_atoms
 onward-next-requires-clause-same_atoms t c =
     let st = c.requires.standing in
-    walk_same c.open-first.ensures.begun st (deep st c.if-depth-join.false) c.in-Key.is c.loop-landed.invariant.0
+    walk_same (opened t (goal.at.onward-next-requires-clause-same_atoms t c).After-open-first).begun st (deep st c.if-depth-join.false) c.in-Key.is c.loop-landed.invariant.0
 
 pub loop-landed-smaller : goal.loop-landed-smaller
 loop-landed-smaller t c = steps_less c.in-Key.is c.onward-next.ensures.steps
@@ -136,7 +149,7 @@ pub loop-landed-preserved : goal.loop-landed-preserved
 loop-landed-preserved t c =
     let st = c.requires.standing in
     let below = deep st c.if-depth-join.false in
-    let o = c.open-first.ensures in
+    let o = opened t (goal.at.loop-landed-preserved t c).After-open-first in
     let i = c.loop-landed.invariant in
     let u = under t (goal.at.loop-landed-preserved t c).Joined-depth-join-2 in
     let going = c.if-window.false in (
