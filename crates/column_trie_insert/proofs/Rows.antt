@@ -1,7 +1,7 @@
 -- The loop that adds a row, layer by layer: each turn gives layer d its key, with an interval of its own where the parent is new (crate
 -- layer_by_layer says which layers stand in the pool on the way).
 use Prim.Native.Nat.{ℕ, suc, ◌+◌, ◌-◌, ◌≤◌, ◌<◌, ◌^◌}
-use mathlib.Core.Path.{◌≡◌, refl, sym, ap, ap₂, subst, ◌∙◌}
+use mathlib.Core.Path.{◌≡◌, refl, sym, ap, subst, ◌∙◌}
 use mathlib.Core.Bool.{Bool, true, false}
 use mathlib.Core.Logic.{◌⊎◌, inl, inr}
 use mathlib.Core.List.{List, []}
@@ -18,7 +18,7 @@ use Rattle.relation.proofs.Relations.{length_prefixes}
 use Rattle.relation.proofs.Children.{begin_is}
 use Rattle.relation.proofs.Insert.{rank_of, insert_count, put_width, below}
 use Rattle.column_trie.specs.Pool.{store, spot}
-use Rattle.column_trie.specs.Table.{relengthed, data_len_at, interval_len_at, refilled, layer_in, header_sound}
+use Rattle.column_trie.specs.Table.{relengthed, interval_len_at, refilled, layer_in, header_sound}
 use Rattle.column_trie.specs.declared.ColumnTrie.{ColumnTrie}
 use Rattle.column_trie.proofs.Header.{InPool}
 use Rattle.column_trie.proofs.Layers.{Whole}
@@ -65,9 +65,9 @@ module _ {pool₀ : List ℕ} {t : ColumnTrie} {rows : List Row} {r : Row} (y : 
       inside_out = subst (λ (n : ℕ). d < n) (sym (out_arity change g.layers)) h
 
       -- where a new parent's children start
-      begins_place : fresh ≡ true → get_or (layer_in pool out d).intervals i (data_len_at out d) ≡ rank_of rows r (suc d)
+      begins_place : fresh ≡ true → get_or (layer_in pool out d).intervals i (length (layer_in pool out d).keys) ≡ rank_of rows r (suc d)
       begins_place f =
-          ap₂ (λ (l : Layer) (n : ℕ). get_or l.intervals i n) (layer_old change g.layers h) (key_count change g.layers h)
+          ap (λ (l : Layer). get_or l.intervals i (length l.keys)) (layer_old change g.layers h)
           ∙ ap (λ (n : ℕ). get_or (intervals_at d rows) n (length (keys_at d rows))) g.leaves.place
           ∙ sym (below t.arity rows r y.held.width y.long d h (g.leaves.new f)).1
 
@@ -122,7 +122,7 @@ At pool₀ t rows r pool out d i known = Growing pool₀ t rows r pool out d i (
 
 pub placed :
     {pool₀ : List ℕ} {t : ColumnTrie} {rows : List Row} {r : Row} {pool : List ℕ} {out : ColumnTrie} {d i : ℕ} {known : Option ℕ} → Ready pool₀ t rows r → At pool₀ t rows r pool out d i known → d < t.arity → (at : ℕ) (fresh : Bool) →
-    ((known ≡ None) × (fresh ≡ true) × (at ≡ get_or (layer_in pool out d).intervals i (data_len_at out d))) ⊎ ((known ≡ Some at) × (fresh ≡ false)) → Growing pool₀ t rows r pool out d i at fresh × (at ≡ rank_of rows r (suc d))
+    ((known ≡ None) × (fresh ≡ true) × (at ≡ get_or (layer_in pool out d).intervals i (length (layer_in pool out d).keys))) ⊎ ((known ≡ Some at) × (fresh ≡ false)) → Growing pool₀ t rows r pool out d i at fresh × (at ≡ rank_of rows r (suc d))
 placed {pool₀} {t} {rows} {r} {pool} {out} {d} {i} y g h at fresh (inl w) =
     let k = subst (At pool₀ t rows r pool out d i) w.0 g in
     let e = w.2 ∙ begins_place y k h refl in

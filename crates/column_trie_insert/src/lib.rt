@@ -67,7 +67,7 @@ fn add_row(pool: &mut [u64], t: ColumnTrie, tuple: &[u64], path: Path) -> Column
     for d in path.depth..t.arity {
         let (at, fresh) = match known {
             Some(at) => (at, false),
-            None => (Sound { pool, table: out }.begins(d, i), true),
+            None => (Sound { pool, table: out }.layer(d).begins(i), true),
         };
         out = add_layer(pool, out, d, i, at, tuple[d], fresh);
         i = at;

@@ -161,7 +161,7 @@ pub fn open(pool: &[u64], table: ColumnTrie, iter: ColumnTrieIter) -> OpenAnswer
     }
     let index = p.index;
     let sound = Sound { pool, table };
-    if sound.group_of(iter.depth, index).is_none() {
+    if sound.layer(iter.depth).group_of(index).is_none() {
         return unopened(iter, Refusal::Damaged.number());
     }
     OpenAnswer {
@@ -193,7 +193,7 @@ pub fn up(pool: &[u64], table: ColumnTrie, iter: ColumnTrieIter) -> UpAnswer
         };
     }
     let sound = Sound { pool, table };
-    match column_trie_place::owner_of(&sound, iter.depth - 2, iter.interval_i) {
+    match column_trie_place::owner_of(&sound.layer(iter.depth - 2), iter.interval_i) {
         None => unrisen(iter, Refusal::Damaged.number()),
         Some(o) => UpAnswer {
             number: 0,

@@ -22,7 +22,8 @@ fn put_depth(writer: &mut Writer, table: &Sound, d: usize)
     requires { (d < table.now.table.arity) × (writer.old.end + 2 ^ 32 ≤ 2 ^ 63) }
     ensures { Wrote writer.old writer.new (layer_text d (layer_in table.now.pool.now table.now.table d)) × (writer.new.end ≤ writer.old.end + 2 ^ 32) }
 {
-    writer.layer(d, table.layer_keys(d), table.layer_intervals(d));
+    let lists = table.layer(d);
+    writer.layer(d, lists.keys, lists.intervals);
 }
 
 // The whole text, at the front of the buffer.

@@ -3,14 +3,15 @@
 
 ghost use Rattle.std.specs.Prelude.{◌≡◌, ◌<◌, length};
 ghost use Rattle.refusal.specs.Number.{given};
-ghost use Rattle.column_trie.specs.Table.{layer_in, rows_in};
+ghost use Rattle.column_trie.specs.Table.{rows_in};
+ghost use Rattle.sound_table.specs.Layers.{seen};
 ghost use Rattle.column_trie_path.specs.Check.{tuple_number};
 ghost use Rattle.column_trie_path.specs.Place.{Grouped, KeyPlaceOf, PathOf};
 
-use column_trie::{ColumnTrie, layer_at};
+use column_trie::ColumnTrie;
 use refusal::Refusal;
 use seek::{SeekStrategy, partition_point};
-use sound_table::{Intact, Sound, undamaged};
+use sound_table::{Intact, Layer, undamaged};
 
 // The first check of an insert or a removal that refuses.
 pub fn check(pool: &[u64], t: ColumnTrie, tuple: &[u64]) -> Result<(), Refusal>
@@ -64,18 +65,15 @@ pub fn top() -> Path
     }
 }
 
-// Where `key` stands in the group of interval i of layer d, or where it goes. A group can be as long as the table, so it is searched by halving: no
-// more keys are looked at than the group's length has binary digits.
-pub fn find_place(table: &Sound, d: usize, i: usize, key: u64) -> KeyPlace
-    requires { (d < table.now.table.arity) × Grouped (layer_in table.now.pool.now table.now.table d) i }
-    ensures { KeyPlaceOf (layer_in table.now.pool.now table.now.table d) i key result }
+// Where `key` stands in the group of interval i, or where it goes. A group can be as long as the table, so it is searched by halving: no more keys are
+// looked at than the group's length has binary digits.
+pub fn find_place(layer: &Layer, i: usize, key: u64) -> KeyPlace
+    requires { Grouped (seen layer.now) i }
+    ensures { KeyPlaceOf (seen layer.now) i key result }
 {
-    let from = table.begins(d, i);
-    let to = table.begins(d, i + 1);
-    let data_from = layer_at(table.table, d);
-    let run_from = data_from + from;
-    let run_to = data_from + to;
-    let run = &table.pool[run_from..run_to];
+    let from = layer.begins(i);
+    let to = layer.begins(i + 1);
+    let run = &layer.keys[from..to];
     let sought = partition_point(SeekStrategy::Binary, run, key);
     let at = from + sought.offset;
     let place = if sought.hit { Ok(at) } else { Err(at) };
@@ -95,7 +93,7 @@ pub fn find_path(rows: &Intact, tuple: &[u64]) -> Path
     let mut i = 0;
     let mut fork = None;
     for d in 0..arity {
-        let p = find_place(&rows.sound, d, i, tuple[d]);
+        let p = find_place(&rows.sound.layer(d), i, tuple[d]);
         let at = match p.place {
             Ok(at) => at,
             Err(at) => {

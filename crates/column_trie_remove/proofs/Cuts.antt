@@ -20,7 +20,7 @@ use Rattle.relation.proofs.Walks.{sound_ordered}
 use Rattle.relation.proofs.Relations.{between_prefixes}
 use Rattle.relation.proofs.Insert.{rank_of, insert_new, insert_count}
 use Rattle.column_trie.specs.Pool.{store, spot}
-use Rattle.column_trie.specs.Table.{relengthed, data_len_at, interval_len_at, refilled, layer_in, header_sound}
+use Rattle.column_trie.specs.Table.{relengthed, interval_len_at, refilled, layer_in, header_sound}
 use Rattle.column_trie.specs.declared.ColumnTrie.{ColumnTrie}
 use Rattle.column_trie.proofs.Header.{InPool}
 use Rattle.column_trie.proofs.Layers.{Whole}
@@ -81,11 +81,11 @@ module _ {pool₀ : List ℕ} {t : ColumnTrie} {rest : List Row} {r : Row} (y : 
       inside_out = subst (λ (n : ℕ). d < n) (sym (out_arity change g.layers)) h
 
       -- where the children of a parent start that has no other
-      begins_place : lone ≡ true → get_or (layer_in pool out d).intervals i (data_len_at out d) ≡ rank_of rest r (suc d)
+      begins_place : lone ≡ true → get_or (layer_in pool out d).intervals i (length (layer_in pool out d).keys) ≡ rank_of rest r (suc d)
       begins_place f =
-          ap (λ (l : Layer). get_or l.intervals i (data_len_at out d)) (layer_old change g.layers h)
-          ∙ ap₂ (λ (is : List ℕ) (n : ℕ). get_or is n (data_len_at out d)) (insert_new t.arity rest r rest_width y.long d h (g.leaves.new f)) g.leaves.place
-          ∙ get_or_behind (rank_of rest r d) (rank_of rest r (suc d)) (intervals_at d rest) _ (data_len_at out d) (omega (arith, rank_le (take d r) (prefixes d rest), length_intervals d rest))
+          ap (λ (l : Layer). get_or l.intervals i (length (layer_in pool out d).keys)) (layer_old change g.layers h)
+          ∙ ap₂ (λ (is : List ℕ) (n : ℕ). get_or is n (length (layer_in pool out d).keys)) (insert_new t.arity rest r rest_width y.long d h (g.leaves.new f)) g.leaves.place
+          ∙ get_or_behind (rank_of rest r d) (rank_of rest r (suc d)) (intervals_at d rest) _ (length (layer_in pool out d).keys) (omega (arith, rank_le (take d r) (prefixes d rest), length_intervals d rest))
 
       -- later intervals aren't 0
       positive_words : PositiveFrom (spot out.start out.capacity d + out.capacity + suc i) (spot out.start out.capacity d + out.capacity + interval_len_at out d) pool
@@ -130,7 +130,7 @@ At pool₀ t rest r pool out d i known = Shrinking pool₀ t rest r pool out d i
 
 pub placed :
     {pool₀ : List ℕ} {t : ColumnTrie} {rest : List Row} {r : Row} {pool : List ℕ} {out : ColumnTrie} {d i : ℕ} {known : Option ℕ} → Ready pool₀ t rest r → At pool₀ t rest r pool out d i known → d < t.arity → (at : ℕ) (lone : Bool) →
-    ((known ≡ None) × (lone ≡ true) × (at ≡ get_or (layer_in pool out d).intervals i (data_len_at out d))) ⊎ ((known ≡ Some at) × (lone ≡ false)) → Shrinking pool₀ t rest r pool out d i at lone × (at ≡ rank_of rest r (suc d))
+    ((known ≡ None) × (lone ≡ true) × (at ≡ get_or (layer_in pool out d).intervals i (length (layer_in pool out d).keys))) ⊎ ((known ≡ Some at) × (lone ≡ false)) → Shrinking pool₀ t rest r pool out d i at lone × (at ≡ rank_of rest r (suc d))
 placed {pool₀} {t} {rest} {r} {pool} {out} {d} {i} y g h at lone (inl w) =
     let k = subst (At pool₀ t rest r pool out d i) w.0 g in
     let e = w.2 ∙ begins_place y k h refl in

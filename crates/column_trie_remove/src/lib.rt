@@ -60,7 +60,7 @@ fn cut_row(pool: &mut [u64], t: ColumnTrie, fork: Option<Fork>) -> ColumnTrie
     for d in depth..t.arity {
         let (at, lone) = match known {
             Some(at) => (at, false),
-            None => (Sound { pool, table: out }.begins(d, i), true),
+            None => (Sound { pool, table: out }.layer(d).begins(i), true),
         };
         out = cut_layer(pool, out, d, i, at, lone);
         i = at;

@@ -63,11 +63,11 @@ fn found_in(sound: &Sound, key: u64) -> Option<Run>
     requires { 1 < sound.now.table.arity }
     ensures { result ≡ found_in sound.now.pool.now sound.now.table key }
 {
-    let s = seek::partition_point(SeekStrategy::Binary, sound.layer_keys(0), key);
+    let s = seek::partition_point(SeekStrategy::Binary, sound.layer(0).keys, key);
     if !s.hit {
         return None;
     }
-    let g = sound.group_of(1, s.offset)?;
+    let g = sound.layer(1).group_of(s.offset)?;
     Some(Run {
         from: column_trie::layer_at(sound.table, 1) + g.from,
         len: g.to - g.from,

@@ -17,7 +17,7 @@ fn parent_of(rows: &Intact, d: usize, place: usize) -> usize
     requires { (d < rows.now.sound.table.arity) × (place < data_len_at rows.now.sound.table d) }
     ensures { result ≡ owner (layer_in rows.now.sound.pool.now rows.now.sound.table d).intervals place }
 {
-    let intervals = rows.sound.layer_intervals(d);
+    let intervals = rows.sound.layer(d).intervals;
     halve(intervals, place as u64 + 1, 0, intervals.len(), 0).offset - 1
 }
 

@@ -20,7 +20,7 @@ pub fn next_path(rows: &Intact, path: &mut [usize; ColumnTrie::MAX_ARITY], i: us
     path[arity - 1] = i;
     for d in (1..arity).rev() {
         let next = path[d - 1] + 1;
-        let from = rows.sound.begins(d, next);
+        let from = rows.sound.layer(d).begins(next);
         if from <= path[d] {
             path[d - 1] = next;
         }

@@ -1,22 +1,22 @@
 -- The group of an interval, as the code finds it: its two ends are two intervals' words, and each way out of the code is one of the definition's tests.
 use Prim.Native.Nat.{ℕ, ◌+◌, ◌≤◌, ◌<◌}
-use mathlib.Core.Path.{◌≡◌, subst}
+use mathlib.Core.Path.{◌≡◌, ap, ◌∙◌}
 use Rattle.std.proofs.Common.{Some, None}
-use mathlib.Core.List.{List}
 use native.Mathlib.Omega.{arith}
-use lib.ListN.{length, get_or, take, drop}
+use native.Mathlib.Numerals.{add-one}
+use lib.ListN.{length, get_or}
 use borrow.Author.Tests.{lt-ltb, le-ltb, le-leb, lt-leb}
 use Rattle.relation.specs.Layers.{Layer}
+use Rattle.relation.proofs.Lists.{get_or_any}
 use Rattle.column_trie.specs.Groups.{group_from, group_to, lies, group_of}
-use Rattle.column_trie.specs.Pool.{spot}
-use Rattle.column_trie.specs.Table.{layer_in, data_len_at, interval_len_at}
-use Rattle.column_trie.specs.declared.ColumnTrie.{ColumnTrie}
-use Rattle.column_trie.proofs.Header.{LayerFits}
 
-module _ (pool : List ℕ) {t : ColumnTrie} {d : ℕ} (f : LayerFits (length pool) t d) where
-  -- where the intervals lie, by the place that the code computes
-  pub begins_here : {at r : ℕ} (i : ℕ) → at ≡ spot t.start t.capacity d → r ≡ get_or (take (interval_len_at t d) (drop (at + t.capacity) pool)) i (data_len_at t d) → r ≡ get_or (layer_in pool t d).intervals i (data_len_at t d)
-  begins_here {r = r} i e h = subst (λ (z : ℕ). r ≡ get_or (take (interval_len_at t d) (drop (z + t.capacity) pool)) i (data_len_at t d)) e h
+-- a group runs from where its interval's children start to where the next one's do
+module _ (l : Layer) {r : ℕ} (i : ℕ) where
+  pub starts_group : i < length l.intervals → r ≡ get_or l.intervals i (length l.keys) → r ≡ group_from l i
+  starts_group h e = e ∙ get_or_any l.intervals i (length l.keys) 0 h
+
+  pub ends_group : r ≡ get_or l.intervals (i + 1) (length l.keys) → r ≡ group_to l i
+  ends_group e = e ∙ ap (λ (n : ℕ). get_or l.intervals n (length l.keys)) (add-one i)
 
 -- ---- the ways out
 

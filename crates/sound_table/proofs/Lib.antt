@@ -1,4 +1,4 @@
-mod Groups
+pub mod Groups
 mod Linking
 pub mod Told
 mod Ways

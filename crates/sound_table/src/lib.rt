@@ -10,9 +10,10 @@ ghost use Rattle.relation.specs.Tests.{every};
 ghost use Rattle.relation.specs.Undamaged.{chain, linked};
 ghost use Rattle.column_trie.specs.Groups.{group_of};
 ghost use Rattle.column_trie.specs.Limits.{max_arity};
-ghost use Rattle.column_trie.specs.Table.{Whole, data_len_at, header_sound, past_at, layers_in, layer_in, undamaged};
+ghost use Rattle.column_trie.specs.Table.{Whole, header_sound, past_at, layers_in, layer_in, undamaged};
+ghost use Rattle.sound_table.specs.Layers.{seen};
 
-use column_trie::{ColumnTrie, Group, header_sound, interval_or, layer_at};
+use column_trie::{ColumnTrie, Group, header_sound, layer_at};
 use layer_sound::layer_sound;
 
 // The n words from `from` on.
@@ -21,6 +22,47 @@ fn part<'a>(pool: &'a [u64], from: usize, n: usize) -> &'a [u64]
     ensures { result.now ≡ take n (drop from pool.now) }
 {
     &pool[from..from + n]
+}
+
+// A layer's two lists, where they lie in the pool.
+#[derive(Clone, Copy)]
+pub struct Layer<'a> {
+    pub keys: &'a [u64],
+    pub intervals: &'a [u64],
+}
+
+impl<'a> Layer<'a> {
+    // Whether it has `above` intervals, one for each key above it, and is sound.
+    fn linked(&self, above: usize) -> bool
+        ensures { result ≡ linked above (seen self.now) }
+    {
+        self.intervals.len() == above && layer_sound(self.intervals, self.keys)
+    }
+
+    // Where the children of interval i start: past the last interval, behind all keys.
+    pub fn begins(&self, i: usize) -> usize
+        ensures { result ≡ get_or self.now.intervals.now i (length self.now.keys.now) }
+    {
+        match self.intervals.get(i) {
+            Some(&word) => word as usize,
+            None => self.keys.len(),
+        }
+    }
+
+    // The group of interval i; none where interval or group is outside its list.
+    pub fn group_of(&self, i: usize) -> Option<Group>
+        ensures { result ≡ group_of (seen self.now) i }
+    {
+        if self.intervals.len() <= i {
+            return None;
+        }
+        let from = self.begins(i);
+        let to = self.begins(i + 1);
+        if to < from || self.keys.len() < to {
+            return None;
+        }
+        Some(Group { from, to })
+    }
 }
 
 // A table whose header is sound for the pool that it lies in: all that it takes to read the table's words, whatever they are.
@@ -35,30 +77,17 @@ pub struct Sound<'a> {
 }
 
 impl<'a> Sound<'a> {
-    // The keys of layer d.
-    pub fn layer_keys(&self, d: usize) -> &'a [u64]
+    // Layer d, its lists as long as the header says.
+    pub fn layer(&self, d: usize) -> Layer<'a>
         requires { d < self.now.table.arity }
-        ensures { result.now ≡ (layer_in self.now.pool.now self.now.table d).keys }
+        ensures { seen result ≡ layer_in self.now.pool.now self.now.table d }
     {
-        part(self.pool, layer_at(self.table, d), self.table.data_len[d])
-    }
-
-    // The intervals of layer d.
-    pub fn layer_intervals(&self, d: usize) -> &'a [u64]
-        requires { d < self.now.table.arity }
-        ensures { result.now ≡ (layer_in self.now.pool.now self.now.table d).intervals }
-    {
-        let at = layer_at(self.table, d) + self.table.capacity;
-        part(self.pool, at, self.table.interval_len[d])
-    }
-
-    // Whether layer d has `above` intervals, one for each key above it, and is sound.
-    fn layer_linked(&self, d: usize, above: usize) -> bool
-        requires { d < self.now.table.arity }
-        ensures { result ≡ linked above (layer_in self.now.pool.now self.now.table d) }
-    {
-        self.table.interval_len[d] == above
-            && layer_sound(self.layer_intervals(d), self.layer_keys(d))
+        let at = layer_at(self.table, d);
+        let intervals_at = at + self.table.capacity;
+        Layer {
+            keys: part(self.pool, at, self.table.data_len[d]),
+            intervals: part(self.pool, intervals_at, self.table.interval_len[d]),
+        }
     }
 
     // Layer 0 has one interval, or none in a table without keys; each lower layer has one for each key above.
@@ -67,43 +96,12 @@ impl<'a> Sound<'a> {
     {
         let mut above = if self.table.data_len[0] == 0 { 0 } else { 1 };
         for d in 0..self.table.arity {
-            if !self.layer_linked(d, above) {
+            if !self.layer(d).linked(above) {
                 return false;
             }
             above = self.table.data_len[d];
         }
         true
-    }
-
-    // Where the children of interval i of layer d start: past the last interval, behind all keys.
-    pub fn begins(&self, d: usize, i: usize) -> usize
-        requires { d < self.now.table.arity }
-        ensures { result ≡ get_or (layer_in self.now.pool.now self.now.table d).intervals i (data_len_at self.now.table d) }
-    {
-        let at = layer_at(self.table, d) + self.table.capacity;
-        interval_or(
-            self.pool,
-            at,
-            self.table.interval_len[d],
-            i,
-            self.table.data_len[d],
-        )
-    }
-
-    // The group of interval i in layer d; none where interval or group is outside its list.
-    pub fn group_of(&self, d: usize, i: usize) -> Option<Group>
-        requires { d < self.now.table.arity }
-        ensures { result ≡ group_of (layer_in self.now.pool.now self.now.table d) i }
-    {
-        if self.table.interval_len[d] <= i {
-            return None;
-        }
-        let from = self.begins(d, i);
-        let to = self.begins(d, i + 1);
-        if to < from || self.table.data_len[d] < to {
-            return None;
-        }
-        Some(Group { from, to })
     }
 }
 

@@ -5,7 +5,9 @@ use mathlib.Core.Path.{◌≡◌, sym, ap, ◌∙◌}
 use Rattle.std.specs.Prelude.{Some}
 use mathlib.Core.Logic.{inl, inr}
 use native.Mathlib.Omega.{arith}
+use lib.ListN.{length, get_or}
 use Rattle.relation.proofs.Insert.{rank_of}
+use Rattle.relation.specs.Layers.{Layer}
 use Rattle.column_trie.specs.Table.{rows_in}
 use Rattle.column_trie.proofs.Layers.{Whole}
 use Rattle.column_trie_insert.proofs.Enters.{ready, growing_top, growing_path}
@@ -28,20 +30,20 @@ settled :
     (c.match-known.at.0 ≡ rank_of (rows_in c.args.pool.now c.args.t) c.args.tuple.now (suc c.loop-d.d))
 settled c r =
     placed r c.loop-d.invariant c.loop-d-test.true c.match-known.at.0 c.match-known.at.1
-    (elim c.match-known.branch [ in-Some w ↦ inr (w.in-Some.is ∙ ap Some (sym (ap (λ (z : ℕ × Bool). z.0) w.at-is)), ap (λ (z : ℕ × Bool). z.1) w.at-is) | in-None w ↦ inl (w.in-None.is, ap (λ (z : ℕ × Bool). z.1) w.at-is, ap (λ (z : ℕ × Bool). z.0) w.at-is ∙ w.begins.ensures) ])
+    (elim c.match-known.branch [ in-Some w ↦ inr (w.in-Some.is ∙ ap Some (sym (ap (λ (z : ℕ × Bool). z.0) w.at-is)), ap (λ (z : ℕ × Bool). z.1) w.at-is) | in-None w ↦ inl (w.in-None.is, ap (λ (z : ℕ × Bool). z.1) w.at-is, ap (λ (z : ℕ × Bool). z.0) w.at-is ∙ w.begins.ensures ∙ ap (λ (l : Layer). get_or l.intervals c.loop-d.i (length l.keys)) w.layer.ensures) ])
 
 pub loop-d-init : goal.loop-d-init
 loop-d-init c =
     let o = whole (goal.at.loop-d-init c).Start in
     elim c.if-t-eq0.branch [ then-t-eq0 w ↦ rw w.known-is (growing_top o c.requires w.if-t-eq0.true) | else-t-eq0 w ↦ rw w.known-is (growing_path o c.requires w.if-t-eq0.false) ]
 
-pub invariant_of-begins : goal.invariant_of-begins
-invariant_of-begins c =
-    let y = can (goal.at.invariant_of-begins c).Start in
+pub invariant_of-layer : goal.invariant_of-layer
+invariant_of-layer c =
+    let y = can (goal.at.invariant_of-layer c).Start in
     record { sound = grown_sound y c.loop-d.invariant; whole = grown_whole y c.loop-d.invariant }
 
-pub begins-requires : goal.begins-requires
-begins-requires c = inside_out (can (goal.at.begins-requires c).Start) c.loop-d.invariant c.loop-d-test.true
+pub layer-requires : goal.layer-requires
+layer-requires c = inside_out (can (goal.at.layer-requires c).Start) c.loop-d.invariant c.loop-d-test.true
 
 pub bounds-tuple-d : goal.bounds-tuple-d
 bounds-tuple-d c = omega (arith, c.requires.long)

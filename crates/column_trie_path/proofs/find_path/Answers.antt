@@ -1,6 +1,6 @@
 -- The goals of `find_path` that the check leaves.
 use Prim.Native.Nat.{◌<◌}
-use mathlib.Core.Path.{◌≡◌, refl, sym, subst}
+use mathlib.Core.Path.{◌≡◌, refl, sym, subst, ◌∙◌}
 use mathlib.Core.Logic.{inl, inr}
 use native.Mathlib.Omega.{arith}
 use lib.ListN.{get_or}
@@ -34,7 +34,7 @@ layer_words s d h = layer_is (whole s) (in_pool (sound s)) (held s) d h
 -- what the search in a group found
 place : (c : After-find_place-p) → layer_in c.args.rows.now.sound.pool.now c.args.rows.now.sound.table c.loop-d.d ≡ ranked_at c.loop-d.d (rows_in c.args.rows.now.sound.pool.now c.args.rows.now.sound.table)
     → KeyPlaceOf (ranked_at c.loop-d.d (rows_in c.args.rows.now.sound.pool.now c.args.rows.now.sound.table)) c.loop-d.i (get_or c.args.tuple.now c.loop-d.d 0) c.find_place-p.result
-place c e = subst (λ (l : Layer). KeyPlaceOf l c.loop-d.i (get_or c.args.tuple.now c.loop-d.d 0) c.find_place-p.result) e c.find_place-p.ensures
+place c e = subst (λ (l : Layer). KeyPlaceOf l c.loop-d.i (get_or c.args.tuple.now c.loop-d.d 0) c.find_place-p.result) (c.layer.ensures ∙ e) c.find_place-p.ensures
 
 pub loop-d-init : goal.loop-d-init
 loop-d-init c = descending_start c.args.rows.now.sound.table.arity (rows_in c.args.rows.now.sound.pool.now c.args.rows.now.sound.table) c.args.tuple.now (omega (arith, (held (goal.at.loop-d-init c).Start).counted, c.requires.1))
@@ -45,10 +45,8 @@ bounds-tuple-d c = omega (arith, c.requires.0)
 pub find_place-p-requires : goal.find_place-p-requires
 find_place-p-requires c =
     let d = c.loop-d.d in
-    let h = c.loop-d-test.true in (
-      h,
-      subst (λ (l : Layer). Grouped l c.loop-d.i) (sym (layer_words (goal.at.find_place-p-requires c).Start d h)) (walking_grouped (held (goal.at.find_place-p-requires c).Start).width c.requires.0 c.loop-d.invariant.walk h),
-    )
+    let h = c.loop-d-test.true in
+    subst (λ (l : Layer). Grouped l c.loop-d.i) (sym (c.layer.ensures ∙ layer_words (goal.at.find_place-p-requires c).Start d h)) (walking_grouped (held (goal.at.find_place-p-requires c).Start).width c.requires.0 c.loop-d.invariant.walk h)
 
 pub returns-in-Err : goal.returns-in-Err
 returns-in-Err c =

@@ -5,8 +5,10 @@ use mathlib.Core.Path.{◌≡◌, sym, ap, ◌∙◌}
 use Rattle.std.specs.Prelude.{Some}
 use mathlib.Core.Logic.{inl, inr}
 use native.Mathlib.Omega.{arith}
+use lib.ListN.{length, get_or}
 use Rattle.relation.specs.Order.{Row}
 use Rattle.relation.proofs.Insert.{rank_of}
+use Rattle.relation.specs.Layers.{Layer}
 use Rattle.column_trie.specs.Table.{rows_in}
 use Rattle.column_trie.proofs.Layers.{Whole}
 use Rattle.column_trie_remove.specs.Remove.{without}
@@ -29,7 +31,7 @@ settled c o tuple f =
     placed (ready o f) (c.loop-d.invariant tuple f) c.loop-d-test.true c.match-known.at.0 c.match-known.at.1
     (elim c.match-known.branch [
       | in-Some-known w ↦ inr (w.in-Some-known.is ∙ ap Some (sym (ap (λ (z : ℕ × Bool). z.0) w.at-is)), ap (λ (z : ℕ × Bool). z.1) w.at-is)
-      | in-None-known w ↦ inl (w.in-None-known.is, ap (λ (z : ℕ × Bool). z.1) w.at-is, ap (λ (z : ℕ × Bool). z.0) w.at-is ∙ w.begins.ensures)
+      | in-None-known w ↦ inl (w.in-None-known.is, ap (λ (z : ℕ × Bool). z.1) w.at-is, ap (λ (z : ℕ × Bool). z.0) w.at-is ∙ w.begins.ensures ∙ ap (λ (l : Layer). get_or l.intervals c.loop-d.i (length l.keys)) w.layer.ensures)
     ])
 
 pub loop-d-init : goal.loop-d-init
@@ -38,15 +40,15 @@ loop-d-init c =
     let o = whole (goal.at.loop-d-init c).Start in
     elim c.match-fork.branch [ in-Some w ↦ rw w.depth-is (shrinking_some o f w.in-Some.is) | in-None w ↦ rw w.depth-is (shrinking_none o f w.in-None.is) ]
 
-pub invariant_of-begins : goal.invariant_of-begins
-invariant_of-begins c =
-    let y = ready (whole (goal.at.invariant_of-begins c).Start) c.requires.1 in
+pub invariant_of-layer : goal.invariant_of-layer
+invariant_of-layer c =
+    let y = ready (whole (goal.at.invariant_of-layer c).Start) c.requires.1 in
     let g = c.loop-d.invariant c.requires.0 c.requires.1 in
     record { sound = cut_sound y g; whole = cut_whole y g }
 
-pub begins-requires : goal.begins-requires
-begins-requires c =
-    let y = ready (whole (goal.at.begins-requires c).Start) c.requires.1 in
+pub layer-requires : goal.layer-requires
+layer-requires c =
+    let y = ready (whole (goal.at.layer-requires c).Start) c.requires.1 in
     inside_out y (c.loop-d.invariant c.requires.0 c.requires.1) c.loop-d-test.true
 
 pub cut_layer-out-requires : goal.cut_layer-out-requires
