@@ -1,7 +1,7 @@
 -- The recursive descent: its end, its root, and the loop over the keys of one variable.
 -- Idea: the loop's invariant says that to emit the rows of the keys left, from where the window stands, ends where the whole depth ends; a key's call
 -- takes the first of them away.
-use Prim.Native.Nat.{ℕ, ◌*◌, ◌≤◌}
+use Prim.Native.Nat.{ℕ, ◌≤◌}
 use mathlib.Core.Path.{◌≡◌, refl, sym, subst, ap, ◌∙◌}
 use mathlib.Core.Bool.{true}
 use mathlib.Core.List.{List, [], ◌∷◌, map, flat_map}

@@ -1,16 +1,15 @@
 -- The recursive descent with a bound: its end, its root, and the loop over the keys of one variable, also by the words given to each atom, as an engine's cursors have
 -- them. crates/query has the same of the descent without one (proofs/Descend.antt, proofs/Engine.antt).
 -- Idea: as there the loop's invariant says that to emit the rows of the keys left, from where the window stands, ends where the whole depth ends.
-use Prim.Native.Nat.{ℕ, ◌*◌, ◌≤◌, ◌<◌}
+use Prim.Native.Nat.{ℕ, ◌≤◌, ◌<◌}
 use mathlib.Core.Path.{◌≡◌, refl, sym, subst, ap, ◌∙◌}
-use mathlib.Core.Bool.{Bool, true, false}
+use mathlib.Core.Bool.{Bool, true}
 use mathlib.Core.List.{List, [], ◌∷◌, map, flat_map}
-use lib.ListN.{length, get_or, set, length-set}
+use lib.ListN.{length, get_or, set}
 use lib.Dec.{eqb}
 use borrow.Author.Tests.{eq-eqb, ne_eqb}
 use Rattle.relation.specs.Order.{Row, pick}
-use Rattle.relation.specs.Lists.{◌∈◌, hd, tl, not_in_nil}
-use Rattle.relation.specs.Rows.{Width}
+use Rattle.relation.specs.Lists.{◌∈◌, hd, tl}
 use Rattle.relation.specs.Layers.{keys_under}
 use Rattle.relation.specs.Runs.{from}
 use Rattle.relation.proofs.Runs.{in_from}
@@ -20,8 +19,7 @@ use Rattle.query.specs.Solve.{bind, runs, extend, listing}
 use Rattle.query.specs.Window.{Progress, begin, emits, windowed}
 use Rattle.query.specs.Descend.{standings, nobody, holders, Joinable, Descends}
 use Rattle.query.proofs.Solved.{joinable_bind}
-use Rattle.query.proofs.Beyond.{in_flat_map}
-use Rattle.query.proofs.Listed.{listing_listing, extend_wide}
+use Rattle.query.proofs.Listed.{listing_listing}
 use Rattle.query.proofs.Window.{emits_append, emits_full, emits_windowed}
 use Rattle.query.proofs.Under.{Gains, standings_none, standings_bind, standings_runs}
 use Rattle.rows_after.specs.After.{after_row}
