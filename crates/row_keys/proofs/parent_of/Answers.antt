@@ -32,9 +32,6 @@ parent q =
     let p = parent_is k q.args.place (omega (arith, q.requires.1, keys_count o u q.args.d q.requires.0)) (halving l.intervals (q.args.place + 1) 0 (length l.intervals) 0).offset (binary_leading l.intervals (q.args.place + 1) (rises k)) in
     rw e p
 
-pub layer-requires : goal.layer-requires
-layer-requires c = c.requires.0
-
 pub overflow_add-place : goal.overflow_add-place
 overflow_add-place c =
     let u = sound (goal.at.overflow_add-place c).Start in
