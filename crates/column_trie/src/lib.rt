@@ -12,7 +12,8 @@ ghost use Rattle.column_trie.specs.Limits.{max_arity, max_capacity};
 ghost use Rattle.column_trie.specs.Pool.{spot};
 ghost use Rattle.column_trie.specs.Table.{empty_table, arity_ok, capacity_ok, lies_in, within_at, header_sound};
 
-// A table's header. It is C's struct, so what belongs to one depth stands in three arrays side by side.
+// A table's header. It is C's struct, so what belongs to one depth stands in three arrays side by side, and a column's kind is a yes or no, as document 02 has it:
+// yes for a grade.
 #[repr(C)]
 #[derive(Clone, Copy)]
 pub struct ColumnTrie {
@@ -96,7 +97,8 @@ pub fn layer_at(t: ColumnTrie, d: usize) -> usize
     t.start + 2 * t.capacity * d
 }
 
-// Interval i of the list of n words at `at`, or what stands for one past its end.
+// Interval i of the list of n words at `at`, or what stands for one past its end. A place and a length and no slice: a join has them as numbers of its plan, made once for
+// all its openings, and would cut the slice anew for each.
 pub fn interval_or(pool: &[u64], at: usize, n: usize, i: usize, past: usize) -> usize
     requires { at + n ≤ length pool.now }
     ensures { result ≡ get_or (take n (drop at pool.now)) i past }
