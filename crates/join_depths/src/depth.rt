@@ -22,8 +22,8 @@ fn since(before: u64, s: Searched) -> Searched
 }
 
 // Opens a depth and finds its first key: the atoms that take part are opened in atom order, and the leapfrog over their runs is begun. Where one has no keys,
-// nothing is searched, and the place that comes with no key says nothing. `Standing` is a clause in four and no type's: here and in `open_from` the places that it is of
-// lie in the state that is written, in `descend` and `descend_after` they are arrays of the call's own.
+// nothing is searched, and the place that comes with no key says nothing. `Standing` is a clause in four and no type's: here and in `open_from` it is of places in
+// the state that is written, of which it no longer holds then, in `descend` and `descend_after` of arrays of the call's own.
 pub fn open(
     join: &Join,
     depth: usize,

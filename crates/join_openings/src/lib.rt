@@ -70,7 +70,7 @@ fn open_one(join: &Join, opening: &AtomPlan, state: &mut State) -> bool
 }
 
 // Opens the atoms that take part at a depth, with both rings in atom order; false where one has no keys. State and rings are no struct: a leapfrog's call takes the one
-// ring or the other, and `onward` and `walk_rest` write the state and only read the rings, which a struct lent to be written would need a clause to say.
+// ring or the other, and `onward` writes the state and only reads the rings, which a struct lent to be written would need a clause to say.
 pub fn open_all(
     join: &Join,
     depth: usize,

@@ -1,7 +1,7 @@
 // The leapfrog triejoin of tables in the pool: the port of kermit-algos/src/sorted/leapfrog_triejoin.rs of the Rust, Algorithms 5 and 6 of Veldhuizen 2014.
 //
 // The public call is `join`. Its answer and every word of the window are those that specs/Outcome.antt gives, for any pool, tables, query and window,
-// under each strategy: nothing is asked of them. The rows are exactly those that the query means (crates/demand_3, `demand-3`). The query's types and
+// under each strategy: nothing is asked of them. The rows are exactly those that the query means (crates/demand_3). The query's types and
 // its outcome are crates/join_query's, its checks crates/join_checks's, its descent crates/descent's. The Rust's emit closure is the window, its trie
 // iterators are places kept by columns, and what would panic there is refused.
 #![tactic(auto)]

@@ -9,7 +9,7 @@ use seek::SeekStrategy;
 
 const POOL: usize = 512;
 
-// Which move it is, by its number.
+// Which move it is.
 #[derive(Clone, Copy)]
 enum Move {
     Next,

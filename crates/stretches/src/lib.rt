@@ -26,8 +26,8 @@ use query::MAX_ATOMS;
 use seek::SeekStrategy;
 use two_runs::{Runs, first_stretch, led, seek_both};
 
-// Where the atoms of a join stand, by atom (specs/Stand.antt). Four arrays and none of structs: crates/leapfrog_search writes `at`, only reads `end`, and says
-// `one_search_makes_no_more_seeks_than_keys_not_yet_passed` (docs/CALLS.md) of them as arrays.
+// Where the atoms of a join stand, by atom (specs/Stand.antt). Four arrays and none of structs: crates/leapfrog_search writes `at` and only reads `end`, and
+// crates/leapfrog_join's theorem `one_search_makes_no_more_seeks_than_keys_not_yet_passed` (docs/CALLS.md) is of them as arrays. `own` and `left` go with them.
 #[derive(Drop)]
 pub struct State {
     // where the atom stands in its piece of the pool, and the piece's end
