@@ -19,6 +19,7 @@ use Rattle.stretches.specs.Whole.{WholeAgreed, WholeRan}
 use Rattle.stretches.proofs.Laws.{whole_agreeing}
 use Rattle.join_query.specs.Query.{max_variables}
 use Rattle.join_query.proofs.Accepted.{sized}
+use Rattle.join_plan.specs.Plan.{Plan}
 use Rattle.join_openings.specs.Openings.{count_at}
 use Rattle.join_depths.specs.Depth.{Standing, IfFound, DepthBegun}
 use Rattle.join_depths.proofs.Wholes.{WholeLeft, whole_ready, whole_left}
@@ -26,7 +27,7 @@ use Rattle.join_depths.proofs.Stepping.{begins_anew}
 use Rattle.join_depths.proofs.Beginnings.{opened_moved}
 use Rattle.bounded_depth.specs.From.{DepthFrom}
 
-pub few_variables : {pool plan ends : List ℕ} {n d : ℕ} {at own : List ℕ} → Standing pool plan ends n d at own → n ≤ max_variables
+pub few_variables : {pool : List ℕ} {plan : Plan} {ends : List ℕ} {n d : ℕ} {at own : List ℕ} → Standing pool plan ends n d at own → n ≤ max_variables
 few_variables st = omega (arith, (sized st.stands.based.accepted).few, st.stands.based.size)
 
 -- what a seek leaves of the common keys
@@ -43,7 +44,7 @@ if_found : (landed : Landed) {A : Type 0} → A → IfFound landed A
 if_found (Key x p) a = a
 if_found (Nothing p) a = tt
 
-module _ {pool plan ends : List ℕ} {n d : ℕ} {at₀ own₀ : List ℕ} {z : State} {ring by_atom : List ℕ} {landed : Landed} (t : ℕ) (b : DepthBegun pool plan ends n d at₀ own₀ z ring by_atom landed) where
+module _ {pool : List ℕ} {plan : Plan} {ends : List ℕ} {n d : ℕ} {at₀ own₀ : List ℕ} {z : State} {ring by_atom : List ℕ} {landed : Landed} (t : ℕ) (b : DepthBegun pool plan ends n d at₀ own₀ z ring by_atom landed) where
   -- there was no key
   pub from_none : {p : ℕ} → landed ≡ Nothing p → DepthFrom pool plan ends n d at₀ own₀ z ring by_atom t landed
   from_none {p} e = subst (λ (h : Landed). DepthBegun pool plan ends n d at₀ own₀ z ring by_atom h → DepthFrom pool plan ends n d at₀ own₀ z ring by_atom t h) (sym e) none b

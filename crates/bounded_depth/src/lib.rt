@@ -8,7 +8,6 @@ ghost use Rattle.bounded_depth.specs.From.{DepthFrom};
 
 use join_depths::depth::open;
 use join_openings::Join;
-use join_plan::{COUNT, DEPTH_WORDS};
 use leapfrog_search::Landed;
 use query::MAX_ATOMS;
 use stretches::State;
@@ -23,25 +22,16 @@ pub fn open_from(
     by_atom: &mut [usize; MAX_ATOMS],
     target: u64,
 ) -> Landed
-    requires standing { Standing join.now.pool.now join.now.plan.now join.now.ends.now join.now.n depth state.old.at state.old.own }
-    requires depth_lt_n { (depth < join.now.n) × Fresh state.old join.now.ends.now ring.old by_atom.old }
-    ensures { DepthFrom join.now.pool.now join.now.plan.now join.now.ends.now join.now.n depth state.old.at state.old.own state.new ring.new by_atom.new target result }
+    requires standing { Standing join.now.leap.pool.now join.now.plan.now join.now.leap.ends.now join.now.n depth state.old.at state.old.own }
+    requires depth_lt_n { (depth < join.now.n) × Fresh state.old join.now.leap.ends.now ring.old by_atom.old }
+    ensures { DepthFrom join.now.leap.pool.now join.now.plan.now join.now.leap.ends.now join.now.n depth state.old.at state.old.own state.new ring.new by_atom.new target result }
 {
     let first = open(join, depth, state, ring, by_atom, 0);
     let landed = first.landed;
     let Landed::Key { key: _, p: _ } = landed else {
         return landed;
     };
-    let k = join.plan[DEPTH_WORDS * depth + COUNT];
-    let s = whole_seek(
-        join.pool,
-        state,
-        join.ends,
-        by_atom,
-        k,
-        0,
-        target,
-        join.strategy,
-    );
+    let k = join.plan[depth].count;
+    let s = whole_seek(&join.leap, state, by_atom, k, 0, target);
     s.landed
 }

@@ -4,7 +4,7 @@ ghost use Rattle.cases.specs.Counts.{IsPrefixLen};
 
 use std::io::Read;
 use std::rt::Files;
-use std::{fs, io, str};
+use std::{fs, io};
 
 const TEXT: usize = 262144;
 
@@ -15,7 +15,7 @@ pub fn room() -> [u8; TEXT]
     [0; TEXT]
 }
 
-// Reads until the text is full or the file ends: how many bytes it put at the start of the text.
+// Reads until the text is full or the file ends: how many bytes it put at the start of the text. A `while`, since it counts no index: each turn goes on by what was read.
 fn read_full(file: &mut impl Read, text: &mut [u8]) -> io::Result<usize>
     ensures { IfOk result (λ n. IsPrefixLen n text.new) }
 {
@@ -33,13 +33,9 @@ fn read_full(file: &mut impl Read, text: &mut [u8]) -> io::Result<usize>
 // The file of this name, as far as there is room in the text. What there is no room for is missed, and so is wrong. One that can't be opened is named, with the reason.
 pub fn load<'a, R: Files + Eprint>(
     rt: &R,
-    name: &[u8],
+    name: &str,
     text: &'a mut [u8],
 ) -> io::Result<Option<&'a [u8]>> {
-    let Ok(name) = str::from_utf8(name) else {
-        // A path of today's library is text.
-        return Err(io::ErrorKind::InvalidInput.into());
-    };
     match fs::open(rt, name) {
         Ok(mut file) => {
             let len = read_full(&mut file, text)?;

@@ -1,6 +1,5 @@
 // A text of cases on the way through it: its decimal numbers one by one, whatever stands between them, and how often the library's answer was another one than the text
 // says. A title, from # to the line's end, has no number.
-use show::{number, text};
 use std::io;
 
 #[derive(Clone, Copy)]
@@ -140,19 +139,17 @@ impl<'a> Script<'a> {
 
     // All cases are read: a text that isn't as it must be, or that holds more than its cases, is wrong.
     // `NAME: 12 cases, 36 compared, 0 wrong`
-    pub fn print(mut self, rt: &impl Print, name: &[u8], cases: u64) -> io::Result<()> {
+    pub fn print(mut self, rt: &impl Print, name: &str, cases: u64) -> io::Result<()> {
         let has_ended = self.at.is_some_and(|at| self.digit_behind(at).is_none());
         if !has_ended {
             self.compare(false);
         }
-        text(rt, name)?;
-        text(rt, b": ")?;
-        number(rt, cases)?;
-        text(rt, b" cases, ")?;
-        number(rt, self.compared)?;
-        text(rt, b" compared, ")?;
-        number(rt, self.wrong)?;
-        text(rt, b" wrong\n")
+        let Self {
+            compared,
+            wrong,
+            ..
+        } = self;
+        println!(rt; "{name}: {cases} cases, {compared} compared, {wrong} wrong")
     }
 }
 
@@ -167,12 +164,4 @@ pub fn stands(excerpt: Option<&[u8]>, bytes: &[u8], n: usize) -> bool {
         (Some(excerpt), Some(bytes)) => excerpt == bytes,
         _ => n == 0,
     }
-}
-
-// `NAME: case 3 is wrong`
-pub fn print_wrong(rt: &impl Print, name: &[u8], case: u64) -> io::Result<()> {
-    text(rt, name)?;
-    text(rt, b": case ")?;
-    number(rt, case)?;
-    text(rt, b" is wrong\n")
 }

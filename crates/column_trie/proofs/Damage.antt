@@ -1,20 +1,19 @@
--- The damage test decides the facts: with a sound header the layers have room, so that the count and the chain of layers are left to ask. And the
--- ways out of the check, each the test's value.
-use Prim.Native.Nat.{ℕ, ◌+◌, ◌-◌, ◌≤◌, ◌<◌}
-use mathlib.Core.Path.{◌≡◌, refl, sym, ap, ◌∙◌}
+-- The damage test decides the facts; and with a sound header every layer has room.
+use Prim.Native.Nat.{ℕ, ◌+◌, ◌≤◌, ◌<◌}
+use mathlib.Core.Path.{◌≡◌, refl, ap, ◌∙◌}
 use mathlib.Core.Bool.{Bool, true, false, not, ◌&&◌, ◌||◌}
 use mathlib.Core.List.{List}
 use mathlib.Core.Logic.{◌⊎◌, inl, inr}
 use native.Mathlib.Omega.{arith}
 use lib.ListN.{length}
 use lib.Dec.{ltb, eqb}
-use borrow.Author.Tests.{ltb-true, ltb-false, eqb-true, eq-eqb, not-true}
+use borrow.Author.Tests.{ltb-true, ltb-false, eqb-true, not-true}
 use Rattle.relation.specs.Tests.{every}
 use Rattle.relation.specs.Layers.{Layer, layer}
 use Rattle.relation.specs.Undamaged.{chain, rooms}
 use Rattle.relation.specs.Undamaged as layers
 use Rattle.relation.proofs.Undamaged as layer_laws
-use Rattle.relation.proofs.Tests.{T_true, true_T, and_left, and_right, and_true, every_at, every_all, gate_shut, gate_open}
+use Rattle.relation.proofs.Tests.{T_true, true_T, and_left, and_right, and_true, every_at, every_all}
 use Rattle.column_trie.specs.Limits.{max_arity}
 use Rattle.column_trie.specs.Pool.{spot}
 use Rattle.column_trie.specs.Table.{data_len_at, interval_len_at, grade_at, layers_in, past_at, header_sound, Undamaged, undamaged}
@@ -37,15 +36,6 @@ module _ (pool : List ℕ) {t : ColumnTrie} (o : Whole t) (p : InPool (length po
   roomy d h =
       let b : d < t.arity = omega (arith, layers_length pool t o p.few) in
       (omega (arith, keys_length d b, layer_fits p b), omega (arith, intervals_length d b, layer_fits p b))
-
-  -- so of the layers' test the count and the chain are left
-  layers_test : (eqb t.tuple_count (data_len_at t (t.arity - 1)) && (chain 0 (layers_in pool t) || chain 1 (layers_in pool t))) ≡ layers.undamaged t.arity t.capacity (layers_in pool t) t.tuple_count
-  unfolding layers.undamaged
-  layers_test =
-      let a : eqb (length (layers_in pool t)) t.arity ≡ true = eq-eqb (length (layers_in pool t)) t.arity (layers_length pool t o p.few) in
-      let r : rooms t.capacity (layers_in pool t) ≡ true = T_true (rooms t.capacity (layers_in pool t)) (layer_laws.→rooms t.capacity (layers_in pool t) roomy) in
-      let n : data_len_at t (t.arity - 1) ≡ length (layer (layers_in pool t) (t.arity - 1)).keys = sym (keys_length (t.arity - 1) (omega (arith, p.positive))) in
-      cc
 
 -- what the test tells, and back
 pub undamaged_told : (pool : List ℕ) (t : ColumnTrie) → undamaged pool t ≡ true → Undamaged pool t
@@ -95,23 +85,3 @@ pub undamaged_header : (pool : List ℕ) (t : ColumnTrie) → undamaged pool t �
 unfolding undamaged
 undamaged_header pool t e =
     and_left (header_sound (length pool) t) (every max_arity (past_at t) && layers.undamaged t.arity t.capacity (layers_in pool t) t.tuple_count) e
-
--- the check's ways out
-module _ (pool : List ℕ) (t : ColumnTrie) where
-  abbrev inner : Bool
-  inner = layers.undamaged t.arity t.capacity (layers_in pool t) t.tuple_count
-
-  pub bad_header : header_sound (length pool) t ≡ false → false ≡ undamaged pool t
-  unfolding undamaged
-  bad_header e = gate_shut (header_sound (length pool) t) (every max_arity (past_at t) && inner) e
-
-  module _ (h : header_sound (length pool) t ≡ true) where
-    pub bad_past : every max_arity (past_at t) ≡ false → false ≡ undamaged pool t
-    unfolding undamaged
-    bad_past e = gate_open (header_sound (length pool) t) (every max_arity (past_at t) && inner) false h (gate_shut (every max_arity (past_at t)) inner e)
-
-    pub by_layers : Whole t → every max_arity (past_at t) ≡ true → (r : Bool) → r ≡ (eqb t.tuple_count (data_len_at t (t.arity - 1)) && (chain 0 (layers_in pool t) || chain 1 (layers_in pool t))) → r ≡ undamaged pool t
-    unfolding undamaged
-    by_layers o e r q =
-        gate_open (header_sound (length pool) t) (every max_arity (past_at t) && inner) r h
-        (gate_open (every max_arity (past_at t)) inner r e (q ∙ layers_test pool o (header_told (length pool) t h)))

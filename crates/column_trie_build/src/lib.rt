@@ -67,10 +67,7 @@ pub fn build(
     ensures { Builds rows.old pool.old start arity capacity grade rows.new pool.new result }
 {
     if let Err(refused) = check(rows.len(), pool.len(), start, arity, capacity) {
-        return Built {
-            number: refused.number(),
-            table: ColumnTrie::empty(0, 0, 0),
-        };
+        return Built::refused(refused);
     }
     sort_rows(rows, arity);
     let mut empty = ColumnTrie::empty(start, arity, capacity);

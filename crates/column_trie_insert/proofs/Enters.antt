@@ -1,14 +1,12 @@
 -- Into the loop that adds a row: what is required says that the table has room and lacks the row, and that the loop starts where the row leaves the
 -- stored ones, or at the top of a table without rows.
 use Prim.Native.Nat.{ℕ, ◌<◌}
-use mathlib.Core.Path.{◌≡◌, refl, sym, ap, subst, ◌∙◌}
-use mathlib.Core.Bool.{Bool, true, false}
+use mathlib.Core.Path.{◌≡◌, refl, sym, ap, subst}
+use mathlib.Core.Bool.{true, false}
 use mathlib.Core.List.{List, [], ◌∷◌}
 use native.Mathlib.Omega.{arith}
 use native.Mathlib.Decide.{ℕ_discrete}
 use lib.ListN.{length, take}
-use lib.Dec.{eqb}
-use borrow.Author.Tests.{eqb-true, eqb-false}
 use Rattle.relation.specs.Order.{Row}
 use Rattle.relation.specs.Lists.{◌∈◌, not_in_nil}
 use Rattle.relation.specs.Layers.{prefixes}
@@ -38,8 +36,8 @@ module _ {pool₀ : List ℕ} {t : ColumnTrie} {rows : List Row} {r : Row} (y : 
         leaves = record { place = q.interval; old = λ f. (h, q.stored, q.leaves h, q.place h); new = λ f. not_both false f refl };
       }
 
-  growing_empty : (at : ℕ) → rows ≡ [] → Growing pool₀ t rows r pool₀ t 0 0 at true
-  growing_empty at e =
+  growing_empty : rows ≡ [] → Growing pool₀ t rows r pool₀ t 0 0 0 true
+  growing_empty e =
       record {
         layers = changing_start (change y) 0 (omega arith) (λ k b. absurd (omega arith));
         leaves = record {
@@ -78,16 +76,11 @@ module _ {pool : List ℕ} {t : ColumnTrie} {r : Row} {p : Path} (o : Whole t) (
         absent = absent_row held c.long c.path;
       }
 
-  pub growing_first : (fresh : Bool) → fresh ≡ eqb t.tuple_count 0 → Growing pool t (rows_in pool t) r pool t p.depth p.interval p.at fresh
-  growing_first fresh e = go (eqb t.tuple_count 0) refl
-    where
-      go : (b : Bool) → eqb t.tuple_count 0 ≡ b → Growing pool t (rows_in pool t) r pool t p.depth p.interval p.at fresh
-      go true f =
-          let n = eqb-true t.tuple_count 0 f in
-          let z = c.empty n in
-          subst (λ (b : Bool). Growing pool t (rows_in pool t) r pool t p.depth p.interval p.at b) (sym (e ∙ f))
-          (subst (λ (x : ℕ). Growing pool t (rows_in pool t) r pool t x p.interval p.at true) (sym z.0)
-          (subst (λ (x : ℕ). Growing pool t (rows_in pool t) r pool t 0 x p.at true) (sym z.1) (growing_empty ready p.at (no_rows (rows_in pool t) (omega (arith, held.counted))))))
-      go false f =
-          let q = c.path (eqb-false t.tuple_count 0 f) in
-          subst (λ (b : Bool). Growing pool t (rows_in pool t) r pool t p.depth p.interval p.at b) (sym (e ∙ f)) (growing_start ready q.0 q.1)
+  pub growing_top : t.tuple_count ≡ 0 → Growing pool t (rows_in pool t) r pool t p.depth p.interval 0 true
+  growing_top n =
+      let z = c.empty n in
+      subst (λ (x : ℕ). Growing pool t (rows_in pool t) r pool t x p.interval 0 true) (sym z.0)
+      (subst (λ (x : ℕ). Growing pool t (rows_in pool t) r pool t 0 x 0 true) (sym z.1) (growing_empty ready (no_rows (rows_in pool t) (omega (arith, held.counted)))))
+
+  pub growing_path : (t.tuple_count ≡ 0 → ⊥) → Growing pool t (rows_in pool t) r pool t p.depth p.interval p.at false
+  growing_path n = let q = c.path n in growing_start ready q.0 q.1

@@ -12,8 +12,7 @@ use Rattle.column_trie.specs.Pool.{lay, spot}
 use Rattle.column_trie.specs.Table.{relengthed, data_len_at, interval_len_at, layer_in}
 use Rattle.column_trie.specs.declared.ColumnTrie.{ColumnTrie}
 use Rattle.wedge.specs.Shift.{SmallFrom}
-use Rattle.wedge.proofs.Shifts.{length_wedged}
-use Rattle.wedge.proofs.Raises.{lifted, length_lifted, gap, length_gap}
+use Rattle.wedge.proofs.Lists.{length_wedged, lifted, length_lifted, gap, length_gap}
 use Rattle.layer_by_layer.specs.Grow.{branched, sprouted, grown}
 use Rattle.layer_by_layer.specs.Relay.{Relaid}
 use Rattle.layer_by_layer.proofs.Relays.{Keyed, keyed_behind, keys_length, intervals_length, laid_anew}

@@ -22,6 +22,7 @@ use Rattle.column_trie.proofs.Damage.{undamaged_told}
 use Rattle.column_trie.proofs.Tables.{Holds, holds}
 use Rattle.column_trie_insert.specs.declared.Inserted.{Inserted}
 use Rattle.column_trie_path.specs.declared.Path.{Path}
+use Rattle.column_trie_path.specs.Check.{tuple_number}
 use Rattle.column_trie_path.specs.Place.{PathOf}
 use Rattle.column_trie_path.proofs.Paths.{path_there}
 use Rattle.column_trie_path.proofs.Known.{in_known, not_known}
@@ -57,15 +58,22 @@ module _ (pool : List ℕ) (t : ColumnTrie) (tuple : Row) where
   unfolding insert_number
   number_6 e = simp e
 
-  pub damaged : undamaged pool t ≡ false → (r : Inserted) → (r.number ≡ 6) × (r.is_new ≡ false) × (r.table ≡ t) → Inserts pool pool t tuple r
-  damaged e = let n = number_6 e in kept 6 n (shut 6 n (λ z. omega arith))
-
   pub number_4 : undamaged pool t ≡ true → (length tuple ≡ t.arity → ⊥) → insert_number pool t tuple ≡ 4
   unfolding insert_number
   number_4 sound n = simp (sound, ne_eqb (length tuple) t.arity n)
 
-  pub another_length : undamaged pool t ≡ true → (length tuple ≡ t.arity → ⊥) → (r : Inserted) → (r.number ≡ 4) × (r.is_new ≡ false) × (r.table ≡ t) → Inserts pool pool t tuple r
-  another_length sound n = let e = number_4 sound n in kept 4 e (shut 4 e (λ z. omega arith))
+  -- what one of the first checks refuses
+  number_first : (n : ℕ) → n ≡ tuple_number pool t tuple → (n ≡ 0 → ⊥) → insert_number pool t tuple ≡ n
+  unfolding insert_number tuple_number
+  number_first n e h = go (undamaged pool t) (eqb (length tuple) t.arity) _ e
+    where
+      go : (b c : Bool) (x : ℕ) → n ≡ pick b (pick c 0 4) 6 → pick b (pick c x 4) 6 ≡ n
+      go true true x q = absurd (h q)
+      go true false x q = sym q
+      go false c x q = sym q
+
+  pub refused : (n : ℕ) → n ≡ tuple_number pool t tuple → (n ≡ 0 → ⊥) → (r : Inserted) → (r.number ≡ n) × (r.is_new ≡ false) × (r.table ≡ t) → Inserts pool pool t tuple r
+  refused n e h = let f = number_first n e h in kept n f (shut n f h)
 
 module _ {pool : List ℕ} {t : ColumnTrie} {tuple : Row} {p : Path} (l : Located pool t tuple p) where
   held : Holds pool t (rows_in pool t)

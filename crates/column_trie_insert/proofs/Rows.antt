@@ -1,11 +1,12 @@
 -- The loop that adds a row, layer by layer: each turn gives layer d its key, with an interval of its own where the parent is new (crate
 -- layer_by_layer says which layers stand in the pool on the way).
 use Prim.Native.Nat.{ℕ, suc, ◌+◌, ◌-◌, ◌≤◌, ◌<◌, ◌^◌}
-use mathlib.Core.Path.{◌≡◌, sym, ap, ap₂, subst, ◌∙◌}
+use mathlib.Core.Path.{◌≡◌, refl, sym, ap, subst, ◌∙◌}
 use mathlib.Core.Bool.{Bool, true, false}
 use mathlib.Core.Logic.{◌⊎◌, inl, inr}
 use mathlib.Core.List.{List, []}
 use native.Mathlib.Omega.{arith}
+use Rattle.std.specs.Prelude.{Option, Some, None, is_none, unwrap_or}
 use lib.ListN.{length, take, get_or}
 use Rattle.relation.specs.Order.{Row}
 use Rattle.relation.specs.Lists.{◌∈◌}
@@ -17,7 +18,7 @@ use Rattle.relation.proofs.Relations.{length_prefixes}
 use Rattle.relation.proofs.Children.{begin_is}
 use Rattle.relation.proofs.Insert.{rank_of, insert_count, put_width, below}
 use Rattle.column_trie.specs.Pool.{store, spot}
-use Rattle.column_trie.specs.Table.{relengthed, data_len_at, interval_len_at, refilled, layer_in, header_sound}
+use Rattle.column_trie.specs.Table.{relengthed, interval_len_at, refilled, layer_in, header_sound}
 use Rattle.column_trie.specs.declared.ColumnTrie.{ColumnTrie}
 use Rattle.column_trie.proofs.Header.{InPool}
 use Rattle.column_trie.proofs.Layers.{Whole}
@@ -64,9 +65,9 @@ module _ {pool₀ : List ℕ} {t : ColumnTrie} {rows : List Row} {r : Row} (y : 
       inside_out = subst (λ (n : ℕ). d < n) (sym (out_arity change g.layers)) h
 
       -- where a new parent's children start
-      begins_place : fresh ≡ true → get_or (layer_in pool out d).intervals i (data_len_at out d) ≡ rank_of rows r (suc d)
+      begins_place : fresh ≡ true → get_or (layer_in pool out d).intervals i (length (layer_in pool out d).keys) ≡ rank_of rows r (suc d)
       begins_place f =
-          ap₂ (λ (l : Layer) (n : ℕ). get_or l.intervals i n) (layer_old change g.layers h) (key_count change g.layers h)
+          ap (λ (l : Layer). get_or l.intervals i (length l.keys)) (layer_old change g.layers h)
           ∙ ap (λ (n : ℕ). get_or (intervals_at d rows) n (length (keys_at d rows))) g.leaves.place
           ∙ sym (below t.arity rows r y.held.width y.long d h (g.leaves.new f)).1
 
@@ -99,7 +100,7 @@ module _ {pool₀ : List ℕ} {t : ColumnTrie} {rows : List Row} {r : Row} (y : 
       -- and is then the layer with the row
       pub growing_step :
           {pool' : List ℕ} {out' : ColumnTrie} → at ≡ rank_of rows r (suc d) → Relaid pool pool' out d (grown fresh i at (get_or r d 0) (layer_in pool out d)) out' →
-          Growing pool₀ t rows r pool' out' (d + 1) at at true
+          Growing pool₀ t rows r pool' out' (d + 1) at 0 true
       growing_step e s =
           record {
             layers = changing_step change g.layers h (ap (grown fresh i at (get_or r d 0)) (layer_old change g.layers h) ∙ grown_is y.held.width y.long g.leaves h e) s;
@@ -115,9 +116,17 @@ module _ {pool₀ : List ℕ} {t : ColumnTrie} {rows : List Row} {r : Row} (y : 
         ◌≡◌ {A = ColumnTrie} (relengthed out out.data_len out.interval_len (t.tuple_count + 1)) (refilled t (put r rows))
     grown_header h = changed_header change g.layers h (omega (arith, y.held.counted, counted))
 
--- a place for the key, read or known
+-- where the key goes, known or read, and whether its parent is new
+abbrev pub At : (pool₀ : List ℕ) (t : ColumnTrie) (rows : List Row) (r : Row) (pool : List ℕ) (out : ColumnTrie) (d i : ℕ) → Option ℕ → Type 0
+At pool₀ t rows r pool out d i known = Growing pool₀ t rows r pool out d i (unwrap_or known 0) (is_none known)
+
 pub placed :
-    {pool₀ : List ℕ} {t : ColumnTrie} {rows : List Row} {r : Row} {pool : List ℕ} {out : ColumnTrie} {d i at : ℕ} {fresh : Bool} → Ready pool₀ t rows r → Growing pool₀ t rows r pool out d i at fresh → d < t.arity → (at' : ℕ) →
-    ((fresh ≡ true) × (at' ≡ get_or (layer_in pool out d).intervals i (data_len_at out d))) ⊎ ((fresh ≡ false) × (at' ≡ at)) → Growing pool₀ t rows r pool out d i at' fresh × (at' ≡ rank_of rows r (suc d))
-placed y g h at' (inl w) = let e = w.1 ∙ begins_place y g h w.0 in (record { layers = g.layers; leaves = leaves_at g.leaves at' e }, e)
-placed y g h at' (inr w) = let e = w.1 ∙ (g.leaves.old w.0).3 in (record { layers = g.layers; leaves = leaves_at g.leaves at' e }, e)
+    {pool₀ : List ℕ} {t : ColumnTrie} {rows : List Row} {r : Row} {pool : List ℕ} {out : ColumnTrie} {d i : ℕ} {known : Option ℕ} → Ready pool₀ t rows r → At pool₀ t rows r pool out d i known → d < t.arity → (at : ℕ) (fresh : Bool) →
+    ((known ≡ None) × (fresh ≡ true) × (at ≡ get_or (layer_in pool out d).intervals i (length (layer_in pool out d).keys))) ⊎ ((known ≡ Some at) × (fresh ≡ false)) → Growing pool₀ t rows r pool out d i at fresh × (at ≡ rank_of rows r (suc d))
+placed {pool₀} {t} {rows} {r} {pool} {out} {d} {i} y g h at fresh (inl w) =
+    let k = subst (At pool₀ t rows r pool out d i) w.0 g in
+    let e = w.2 ∙ begins_place y k h refl in
+    (subst (Growing pool₀ t rows r pool out d i at) (sym w.1) (record { layers = k.layers; leaves = leaves_at k.leaves at e }), e)
+placed {pool₀} {t} {rows} {r} {pool} {out} {d} {i} y g h at fresh (inr w) =
+    let k = subst (At pool₀ t rows r pool out d i) w.0 g in
+    (subst (Growing pool₀ t rows r pool out d i at) (sym w.1) k, (k.leaves.old refl).3)

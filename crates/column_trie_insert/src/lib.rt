@@ -12,9 +12,10 @@ ghost use Rattle.layer_by_layer.specs.Relay.{Relaid};
 ghost use Rattle.column_trie_insert.specs.Grow.{Roomy, Addable, RowAdded};
 ghost use Rattle.column_trie_insert.specs.Insert.{Inserts};
 
-use column_trie::{ColumnTrie, Sound, layer_at, undamaged};
-use column_trie_path::{Path, find_path, top};
+use column_trie::{ColumnTrie, layer_at};
+use column_trie_path::{Path, check, find_path, top};
 use refusal::Refusal;
+use sound_table::{Intact, Sound};
 use wedge::{raise, wedge, wedge_raised};
 
 // Puts `key` at place `at` of layer d, under parent i, which has its interval already unless it is `fresh`. The header comes back with the lengths. It is no
@@ -37,32 +38,40 @@ fn add_layer(
     let intervals = t.interval_len[d];
     let mut out = t;
     out.data_len[d] = keys + 1;
-    wedge(pool, data_from, at, keys, key);
+    let data_to = data_from + keys;
+    wedge(&mut pool[data_from..data_to + 1], at, key);
+    let interval_to = interval_from + intervals;
     if fresh {
-        wedge_raised(pool, interval_from, i, intervals, at as u64);
+        wedge_raised(&mut pool[interval_from..interval_to + 1], i, at as u64);
         out.interval_len[d] = intervals + 1;
     } else {
-        raise(pool, interval_from, i + 1, intervals);
+        raise(&mut pool[interval_from + i + 1..interval_to]);
     }
     out
 }
 
-// Adds the tuple's keys, layer by layer from the first that isn't stored; below it each has a new parent, and so its own interval.
+// Adds the tuple's keys, layer by layer from the first that isn't stored, whose place the path has; below it each has a new parent, and so its own interval.
+// It shares the walk alone with a removal's `cut_row`: one function for both would take the step on a layer as a closure, with the closure's pre and post in
+// the place of what either promises.
 fn add_row(pool: &mut [u64], t: ColumnTrie, tuple: &[u64], path: Path) -> ColumnTrie
     requires { Addable pool.old t tuple.now path }
     ensures { RowAdded pool.old pool.new t tuple.now result }
 {
     let mut out = t;
     let mut i = path.interval;
-    let mut at = path.at;
-    let mut fresh = t.tuple_count == 0;
+    let mut known = if t.tuple_count == 0 {
+        None
+    } else {
+        Some(path.at)
+    };
     for d in path.depth..t.arity {
-        if fresh {
-            at = Sound { pool, table: out }.begins(d, i);
-        }
+        let (at, fresh) = match known {
+            Some(at) => (at, false),
+            None => (Sound { pool, table: out }.layer(d).begins(i), true),
+        };
         out = add_layer(pool, out, d, i, at, tuple[d], fresh);
         i = at;
-        fresh = true;
+        known = None;
     }
     out.tuple_count = t.tuple_count + 1;
     out
@@ -92,16 +101,16 @@ fn unchanged(number: u64, table: ColumnTrie) -> Inserted
 pub fn insert(pool: &mut [u64], table: ColumnTrie, tuple: &[u64]) -> Inserted
     ensures { Inserts pool.old pool.new table tuple.now result }
 {
-    if !undamaged(pool, table) {
-        return unchanged(Refusal::Damaged.number(), table);
-    }
-    if tuple.len() != table.arity {
-        return unchanged(Refusal::BadLength.number(), table);
+    if let Err(refused) = check(pool, table, tuple) {
+        return unchanged(refused.number(), table);
     }
     let path = if table.tuple_count == 0 {
         top()
     } else {
-        find_path(pool, table, tuple)
+        let rows = Intact {
+            sound: Sound { pool, table },
+        };
+        find_path(&rows, tuple)
     };
     if path.depth == table.arity {
         return unchanged(0, table);

@@ -13,6 +13,7 @@ use Rattle.refusal.specs.declared.Refusal.{Refusal}
 use Rattle.relation.specs.Order.{pick}
 use Rattle.relation.specs.Layers.{Layer}
 use Rattle.column_trie.specs.Groups.{group_to, lies}
+use Rattle.column_trie.specs.Limits.{max_capacity}
 use Rattle.column_trie.specs.Table.{layer_in}
 use Rattle.column_trie.specs.declared.ColumnTrie.{ColumnTrie}
 use Rattle.column_trie.proofs.Header.{layer_fits, header_told}
@@ -80,10 +81,10 @@ module _ (pool : List ℕ) (t : ColumnTrie) (it : ColumnTrieIter) where
       pub up_below : rises_in (layer_in pool t (it.depth - 2)) it ≡ up_of pool t it
       up_below = sym (simp (ne_eqb it.depth 0 (λ e. omega arith), ne_eqb it.depth 1 (λ e. omega arith))) ∙ up_is
 
-      -- what owner_of asks
-      pub owner_needs : (it.depth - 2 < t.arity) × (it.interval_i < t.capacity)
+      -- what the layer above and owner_of ask
+      pub owner_needs : (it.depth - 2 < t.arity) × (it.interval_i < max_capacity)
       owner_needs =
           let h = (unrefused pool t it z).0 in
           let s = standing pool t it z (omega arith) in
           let f = layer_fits {d = it.depth - 1} (header_told (length pool) t h) (omega (arith, s.deep)) in
-          (omega (arith, s.deep), omega (arith, s.listed, intervals_long pool f, f.intervals))
+          (omega (arith, s.deep), omega (arith, s.listed, intervals_long pool f, f.intervals, f.small))

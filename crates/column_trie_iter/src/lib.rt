@@ -10,10 +10,11 @@
 ghost use Rattle.std.specs.Prelude.{◌≡◌};
 ghost use Rattle.column_trie_iter.specs.Cursor.{no_key, key_of, unmoved, next_of, unsought, sought_of, end_of, unopened, open_of, unrisen, up_of};
 
-use column_trie::{ColumnTrie, Sound};
+use column_trie::ColumnTrie;
 use column_trie_place::ColumnTrieIter;
 use refusal::Refusal;
 use seek::SeekStrategy;
+use sound_table::Sound;
 
 // The answers are C's structs, so they have a number and a flag where Rust has Result and Option. Of each `number` is the refusal's, 0 for none.
 // Where `found` is false the key is 0.
@@ -160,7 +161,7 @@ pub fn open(pool: &[u64], table: ColumnTrie, iter: ColumnTrieIter) -> OpenAnswer
     }
     let index = p.index;
     let sound = Sound { pool, table };
-    if sound.group_of(iter.depth, index).is_none() {
+    if sound.layer(iter.depth).group_of(index).is_none() {
         return unopened(iter, Refusal::Damaged.number());
     }
     OpenAnswer {
@@ -192,7 +193,7 @@ pub fn up(pool: &[u64], table: ColumnTrie, iter: ColumnTrieIter) -> UpAnswer
         };
     }
     let sound = Sound { pool, table };
-    match column_trie_place::owner_of(&sound, iter.depth - 2, iter.interval_i) {
+    match column_trie_place::owner_of(&sound.layer(iter.depth - 2), iter.interval_i) {
         None => unrisen(iter, Refusal::Damaged.number()),
         Some(o) => UpAnswer {
             number: 0,

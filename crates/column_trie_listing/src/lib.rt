@@ -5,37 +5,37 @@
 // over no room at all before the first byte is written, and a refusal leaves the buffer as it was.
 #![tactic(auto)]
 
-ghost use Rattle.std.specs.Prelude.{◌≡◌, true, ◌+◌, ◌≤◌, ◌<◌, ◌^◌, length};
-ghost use Rattle.column_trie.specs.Table.{layer_in, layers_in, header_sound, undamaged};
+ghost use Rattle.std.specs.Prelude.{◌+◌, ◌≤◌, ◌<◌, ◌^◌};
+ghost use Rattle.column_trie.specs.Table.{layer_in, layers_in};
 ghost use Rattle.layer_text.specs.Text.{layer_text, text};
 ghost use Rattle.layer_text.specs.Piece.{PieceWritten};
 ghost use Rattle.layer_text.specs.Wrote.{Wrote};
 ghost use Rattle.column_trie_listing.specs.List.{Lists};
 
-use column_trie::{ColumnTrie, Sound, undamaged};
+use column_trie::ColumnTrie;
 use layer_text::Writer;
 use refusal::Refusal;
+use sound_table::{Intact, Sound, undamaged};
 
 // Layer d of the table, read from the pool.
 fn put_depth(writer: &mut Writer, table: &Sound, d: usize)
     requires { (d < table.now.table.arity) × (writer.old.end + 2 ^ 32 ≤ 2 ^ 63) }
     ensures { Wrote writer.old writer.new (layer_text d (layer_in table.now.pool.now table.now.table d)) × (writer.new.end ≤ writer.old.end + 2 ^ 32) }
 {
-    writer.layer(d, table.layer_keys(d), table.layer_intervals(d));
+    let lists = table.layer(d);
+    writer.layer(d, lists.keys, lists.intervals);
 }
 
 // The whole text, at the front of the buffer.
-fn put_text(bytes: &mut [u8], pool: &[u64], t: ColumnTrie) -> usize
-    requires { undamaged pool.now t ≡ true }
-    ensures { PieceWritten bytes.old bytes.new 0 (text (layers_in pool.now t)) result }
+fn put_text(bytes: &mut [u8], table: &Intact) -> usize
+    ensures { PieceWritten bytes.old bytes.new 0 (text (layers_in table.now.sound.pool.now table.now.sound.table)) result }
 {
-    let table = Sound { pool, table: t };
     let mut writer = Writer {
         text: bytes,
         end: 0,
     };
-    for d in 0..t.arity {
-        put_depth(&mut writer, &table, d);
+    for d in 0..table.sound.table.arity {
+        put_depth(&mut writer, &table.sound, d);
     }
     writer.end
 }
@@ -58,11 +58,14 @@ pub fn list(pool: &[u64], table: ColumnTrie, buffer: &mut [u8]) -> Listed
             len: 0,
         };
     }
-    let len = put_text(&mut buffer[..0], pool, table);
+    let intact = Intact {
+        sound: Sound { pool, table },
+    };
+    let len = put_text(&mut buffer[..0], &intact);
     if buffer.len() < len {
         let number = Refusal::LongText.number();
         return Listed { number, len: 0 };
     }
-    put_text(buffer, pool, table);
+    put_text(buffer, &intact);
     Listed { number: 0, len }
 }

@@ -1,3 +1,4 @@
+pub mod Checks
 pub mod Known
 pub mod Paths
 pub mod Places

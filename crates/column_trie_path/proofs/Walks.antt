@@ -26,8 +26,8 @@ use Rattle.relation.proofs.Insert.{PrefixStored, rank_of, descend, branch, root}
 use Rattle.column_trie.specs.Groups.{group_from, group_to}
 use Rattle.column_trie_path.specs.declared.Fork.{Fork}
 use Rattle.column_trie_path.specs.declared.KeyPlace.{KeyPlace}
-use Rattle.column_trie_path.specs.Place.{Grouped, KeyPlaceOf, PathOf, Another, ForkOf, LastFork}
-use Rattle.std.specs.Prelude.{Option, Some, None}
+use Rattle.column_trie_path.specs.Place.{Grouped, KeyPlaceOf, either, PathOf, Another, ForkOf, LastFork}
+use Rattle.std.specs.Prelude.{Option, Some, None, Ok, Err}
 
 -- the groups of a relation's layer
 grouped : (a : ℕ) (rows : List Row) (d i : ℕ) → Width a rows → d < a → i < length (prefixes d rows) → Grouped (ranked_at d rows) i
@@ -80,15 +80,18 @@ module _ {a : ℕ} {rows : List Row} {r : Row} {d i : ℕ} (w : Width a rows) (l
   walking_grouped = grouped a rows d i w h index_inside
 
   module _ {p : KeyPlace} {key : ℕ} (e : key ≡ get_or r d 0) (q : KeyPlaceOf (ranked_at d rows) i key p) where
-    from : get_or (intervals_at d rows) (rank_of rows r d) 0 ≤ p.at
-    from = subst (λ (n : ℕ). get_or (intervals_at d rows) n 0 ≤ p.at) v.place q.from
+    from : {at : ℕ} → either p.place ≡ at → get_or (intervals_at d rows) (rank_of rows r d) 0 ≤ at
+    from {at} s = subst (λ (n : ℕ). get_or (intervals_at d rows) n 0 ≤ at) v.place (subst (λ (n : ℕ). group_from (ranked_at d rows) i ≤ n) s q.from)
 
     -- the place found is that of r's beginning of d + 1 words
-    module _ (f : p.there ≡ true) where
-      found : PrefixStored rows r (suc d) × (rank_of rows r (suc d) ≡ p.at)
+    module _ {at : ℕ} (f : p.place ≡ Ok at) where
+      first : group_from (ranked_at d rows) i ≤ at
+      first = subst (λ (n : ℕ). group_from (ranked_at d rows) i ≤ n) (ap either f) q.from
+
+      found : PrefixStored rows r (suc d) × (rank_of rows r (suc d) ≡ at)
       found =
-          descend a rows r w lr d p.at h v.stored from
-          (subst (λ (n : ℕ). p.at < get_or (intervals_at d rows) (suc n) (length (keys_at d rows))) v.place (q.found f).0) ((q.found f).1 ∙ e)
+          descend a rows r w lr d at h v.stored (from (ap either f))
+          (subst (λ (n : ℕ). at < get_or (intervals_at d rows) (suc n) (length (keys_at d rows))) v.place (q.found at f).0) ((q.found at f).1 ∙ e)
 
       -- a stored beginning of d + 1 words whose first d are r's stands in the group, and what stands there is one
       parent : get_or (prefixes d rows) i [] ≡ take d r
@@ -107,11 +110,11 @@ module _ {a : ℕ} {rows : List Row} {r : Row} {d i : ℕ} (w : Width a rows) (l
       alone_deeper o x m s =
           let n = ltb-false (suc (group_from (ranked_at d rows) i)) (group_to (ranked_at d rows) i) (sym q.several ∙ o) in
           let u = in_group (prefix_in (suc d) m) (take-take d (suc d) x (omega arith) ∙ s) in
-          let same : rank (take (suc d) x) (prefixes (suc d) rows) ≡ rank (take (suc d) r) (prefixes (suc d) rows) = omega (arith, u.0, u.1, q.from, (q.found f).0, found.1) in
+          let same : rank (take (suc d) x) (prefixes (suc d) rows) ≡ rank (take (suc d) r) (prefixes (suc d) rows) = omega (arith, u.0, u.1, first, (q.found at f).0, found.1) in
           sym (rank_at (prefixes_asc (suc d) rows) (prefix_in (suc d) m)).1 ∙ ap (λ (j : ℕ). get_or (prefixes (suc d) rows) j []) same ∙ (rank_at (prefixes_asc (suc d) rows) found.0).1
 
       -- it has more: another row shares them, and no more
-      other : (j : ℕ) → group_from (ranked_at d rows) i ≤ j → j < group_to (ranked_at d rows) i → (j ≡ p.at → ⊥) → Another rows r d
+      other : (j : ℕ) → group_from (ranked_at d rows) i ≤ j → j < group_to (ranked_at d rows) i → (j ≡ at → ⊥) → Another rows r d
       other j lo hi n =
           let k : j < length (prefixes (suc d) rows) = omega (arith, hi, end_le a d rows w h i index_inside, length_keys d rows) in
           let x = prefix_of (suc d) rows (get_or_in (prefixes (suc d) rows) j [] k) in
@@ -126,17 +129,17 @@ module _ {a : ℕ} {rows : List Row} {r : Row} {d i : ℕ} (w : Width a rows) (l
           }
 
       another_here : p.several ≡ true → Another rows r d
-      another_here o = go (dec_lt (group_from (ranked_at d rows) i) p.at)
+      another_here o = go (dec_lt (group_from (ranked_at d rows) i) at)
         where
           n : suc (group_from (ranked_at d rows) i) < group_to (ranked_at d rows) i
           n = ltb-true (suc (group_from (ranked_at d rows) i)) (group_to (ranked_at d rows) i) (sym q.several ∙ o)
 
-          go : Dec (group_from (ranked_at d rows) i < p.at) → Another rows r d
+          go : Dec (group_from (ranked_at d rows) i < at) → Another rows r d
           go (yes l) = other (group_from (ranked_at d rows) i) (omega arith) (omega (arith, n)) (λ z. omega arith)
-          go (no l) = other (suc (group_from (ranked_at d rows) i)) (omega arith) n (λ z. omega (arith, q.from))
+          go (no l) = other (suc (group_from (ranked_at d rows) i)) (omega arith) n (λ z. omega (arith, first))
 
       -- so the last fork is this group, or that from above
-      fork_here : p.several ≡ true → ForkOf rows r (d + 1) (record { depth = d; interval = i; at = p.at })
+      fork_here : p.several ≡ true → ForkOf rows r (d + 1) (record { depth = d; interval = i; at = at })
       fork_here o = record { above = omega arith; interval = v.place; place = sym found.1; another = another_here o; alone = λ x m s. subst (λ (n : ℕ). take n x ≡ take n r) (sym (add-one d)) s }
 
       fork_above : p.several ≡ false → (k : Option Fork) → LastFork rows r d k → LastFork rows r (d + 1) k
@@ -146,8 +149,8 @@ module _ {a : ℕ} {rows : List Row} {r : Row} {d i : ℕ} (w : Width a rows) (l
           deeper x m s = subst (λ (n : ℕ). take n x ≡ take n r) (sym (add-one d)) (alone_deeper o x m s)
       fork_above o (Some f) y = record { above = omega (arith, y.above); interval = y.interval; place = y.place; another = y.another; alone = λ x m s. subst (λ (n : ℕ). take n x ≡ take n r) (sym (add-one d)) (alone_deeper o x m (y.alone x m s)) }
 
-    walking_found : p.there ≡ true → Walking a rows r (d + 1) p.at
-    walking_found f =
+    walking_found : {at : ℕ} → p.place ≡ Ok at → Walking a rows r (d + 1) at
+    walking_found {at} f =
         let s = found f in
         let z : suc d ≡ d + 1 = omega arith in
         record {
@@ -157,16 +160,16 @@ module _ {a : ℕ} {rows : List Row} {r : Row} {d i : ℕ} (w : Width a rows) (l
         }
 
     -- one layer further, the fork kept or replaced
-    pub descending_next : p.there ≡ true → {k k' : Option Fork} → LastFork rows r d k → ((p.several ≡ true) × (k' ≡ Some (record { depth = d; interval = i; at = p.at }))) ⊎ ((p.several ≡ false) × (k' ≡ k)) → Descending a rows r (d + 1) p.at k'
+    pub descending_next : {at : ℕ} → p.place ≡ Ok at → {k k' : Option Fork} → LastFork rows r d k → ((p.several ≡ true) × (k' ≡ Some (record { depth = d; interval = i; at = at }))) ⊎ ((p.several ≡ false) × (k' ≡ k)) → Descending a rows r (d + 1) at k'
     descending_next f y (inl z) = record { walk = walking_found f; fork = subst (LastFork rows r (d + 1)) (sym z.1) (fork_here f z.0) }
     descending_next f {k} y (inr z) = record { walk = walking_found f; fork = subst (LastFork rows r (d + 1)) (sym z.1) (fork_above f z.0 k y) }
 
-    pub walking_left : p.there ≡ false → {k : Option Fork} → LastFork rows r d k → PathOf a rows r (record { depth = d; interval = i; at = p.at; fork = k })
-    walking_left f z =
-        let s = branch a rows r w lr d p.at h v.stored from
-        (subst (λ (n : ℕ). p.at ≤ get_or (intervals_at d rows) (suc n) (length (keys_at d rows))) v.place q.to)
-        (λ j x y. subst (λ (z : ℕ). get_or (keys_at d rows) j 0 < z) e (q.below j (subst (λ (n : ℕ). get_or (intervals_at d rows) n 0 ≤ j) (sym v.place) x) y))
-        (λ x. subst (λ (z : ℕ). z < get_or (keys_at d rows) p.at 0) e (q.absent f (subst (λ (n : ℕ). p.at < get_or (intervals_at d rows) (suc n) (length (keys_at d rows))) (sym v.place) x))) in
+    pub walking_left : {at : ℕ} → p.place ≡ Err at → {k : Option Fork} → LastFork rows r d k → PathOf a rows r (record { depth = d; interval = i; at = at; fork = k })
+    walking_left {at} f z =
+        let s = branch a rows r w lr d at h v.stored (from (ap either f))
+        (subst (λ (n : ℕ). at ≤ get_or (intervals_at d rows) (suc n) (length (keys_at d rows))) v.place (subst (λ (n : ℕ). n ≤ group_to (ranked_at d rows) i) (ap either f) q.to))
+        (λ j x y. subst (λ (z : ℕ). get_or (keys_at d rows) j 0 < z) e (q.below j (subst (λ (n : ℕ). get_or (intervals_at d rows) n 0 ≤ j) (sym v.place) x) (subst (λ (n : ℕ). j < n) (sym (ap either f)) y)))
+        (λ x. subst (λ (z : ℕ). z < get_or (keys_at d rows) at 0) e (q.absent at f (subst (λ (n : ℕ). at < get_or (intervals_at d rows) (suc n) (length (keys_at d rows))) (sym v.place) x))) in
         record { depth = omega arith; stored = v.stored; interval = v.place; leaves = λ k. s.0; place = λ k. sym s.1; fork = z }
 
 pub walking_end : {a : ℕ} {rows : List Row} {r : Row} {d i : ℕ} {k : Option Fork} → Walking a rows r d i → LastFork rows r d k → a ≤ d → PathOf a rows r (record { depth = a; interval = i; at = i; fork = k })

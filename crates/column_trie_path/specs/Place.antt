@@ -1,5 +1,5 @@
 -- Internal: where a key stands in its group, or where it goes, and how far a tuple's keys are stored.
-use Rattle.std.specs.Prelude.{ℕ, suc, ◌-◌, ◌≤◌, ◌<◌, ◌≡◌, true, false, Option, Some, None, List, length, take, get_or, ltb}
+use Rattle.std.specs.Prelude.{ℕ, suc, ◌-◌, ◌≤◌, ◌<◌, ◌≡◌, Option, Some, None, Result, Ok, Err, List, length, take, get_or, ltb}
 use Rattle.relation.specs.Order.{Row}
 use Rattle.relation.specs.Lists.{◌∈◌}
 use Rattle.relation.specs.Layers.{Layer}
@@ -17,13 +17,18 @@ pub record Grouped (l : Layer) (i : ℕ) : Type 0 where
   pub to : group_to l i ≤ length l.keys
   pub rises : (j k : ℕ) → group_from l i ≤ j → j ≤ k → k < group_to l i → get_or l.keys j 0 ≤ get_or l.keys k 0
 
+-- the place itself, of a key that stands there or goes there
+abbrev pub either : Result ℕ ℕ → ℕ
+either (Ok at) = at
+either (Err at) = at
+
 -- where a key stands in its group, or where it goes, whether the group has several, and that few keys were looked at
 pub record KeyPlaceOf (l : Layer) (i key : ℕ) (p : KeyPlace) : Type 0 where
-  pub from : group_from l i ≤ p.at
-  pub to : p.at ≤ group_to l i
-  pub below : (j : ℕ) → group_from l i ≤ j → j < p.at → get_or l.keys j 0 < key
-  pub found : p.there ≡ true → (p.at < group_to l i) × (get_or l.keys p.at 0 ≡ key)
-  pub absent : p.there ≡ false → p.at < group_to l i → key < get_or l.keys p.at 0
+  pub from : group_from l i ≤ either p.place
+  pub to : either p.place ≤ group_to l i
+  pub below : (j : ℕ) → group_from l i ≤ j → j < either p.place → get_or l.keys j 0 < key
+  pub found : (at : ℕ) → p.place ≡ Ok at → (at < group_to l i) × (get_or l.keys at 0 ≡ key)
+  pub absent : (at : ℕ) → p.place ≡ Err at → at < group_to l i → key < get_or l.keys at 0
   pub several : p.several ≡ ltb (suc (group_from l i)) (group_to l i)
   pub few : p.probes ≤ digits (group_to l i - group_from l i)
 

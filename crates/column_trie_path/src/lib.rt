@@ -1,19 +1,36 @@
-// Where a tuple's keys stand in a table: what an insert and a removal share. The search in a group is by halving.
+// What an insert and a removal share: their first checks, and where a tuple's keys stand in a table. The search in a group is by halving.
 #![tactic(auto)]
 
-ghost use Rattle.std.specs.Prelude.{◌≡◌, true, ◌<◌, length};
-ghost use Rattle.column_trie.specs.Table.{layer_in, rows_in, header_sound, undamaged};
+ghost use Rattle.std.specs.Prelude.{◌≡◌, ◌<◌, length};
+ghost use Rattle.refusal.specs.Number.{given};
+ghost use Rattle.column_trie.specs.Table.{rows_in};
+ghost use Rattle.sound_table.specs.Layers.{seen};
+ghost use Rattle.column_trie_path.specs.Check.{tuple_number};
 ghost use Rattle.column_trie_path.specs.Place.{Grouped, KeyPlaceOf, PathOf};
 
-use column_trie::{ColumnTrie, Sound, layer_at};
+use column_trie::ColumnTrie;
+use refusal::Refusal;
 use seek::{SeekStrategy, partition_point};
+use sound_table::{Intact, Layer, undamaged};
 
-// Where a key stands in its group, or where it goes; whether the group has more than one key; and how many keys the search looked at. Nobody asks for
-// that number: it is there so that the contract can bound it. `there` is no Option's flag: `at` counts in both cases.
+// The first check of an insert or a removal that refuses.
+pub fn check(pool: &[u64], t: ColumnTrie, tuple: &[u64]) -> Result<(), Refusal>
+    ensures { given result ≡ tuple_number pool.now t tuple.now }
+{
+    if !undamaged(pool, t) {
+        return Err(Refusal::Damaged);
+    }
+    if tuple.len() != t.arity {
+        return Err(Refusal::BadLength);
+    }
+    Ok(())
+}
+
+// Where a key stands in its group, or, as an `Err`, where it goes; whether the group has more than one key; and how many keys the search looked at. Nobody
+// asks for that number: it is there so that the contract can bound it.
 #[derive(Clone, Copy)]
 pub struct KeyPlace {
-    pub at: usize,
-    pub there: bool,
+    pub place: Result<usize, usize>,
     pub several: bool,
     pub probes: usize,
 }
@@ -48,57 +65,58 @@ pub fn top() -> Path
     }
 }
 
-// Where `key` stands in the group of interval i of layer d, or where it goes. A group can be as long as the table, so it is searched by halving: no
-// more keys are looked at than the group's length has binary digits.
-pub fn find_place(table: &Sound, d: usize, i: usize, key: u64) -> KeyPlace
-    requires { (d < table.now.table.arity) × Grouped (layer_in table.now.pool.now table.now.table d) i }
-    ensures { KeyPlaceOf (layer_in table.now.pool.now table.now.table d) i key result }
+// Where `key` stands in the group of interval i, or where it goes. A group can be as long as the table, so it is searched by halving: no more keys are
+// looked at than the group's length has binary digits.
+pub fn find_place(layer: &Layer, i: usize, key: u64) -> KeyPlace
+    requires { Grouped (seen layer.now) i }
+    ensures { KeyPlaceOf (seen layer.now) i key result }
 {
-    let from = table.begins(d, i);
-    let to = table.begins(d, i + 1);
-    let data_from = layer_at(table.table, d);
-    let run_from = data_from + from;
-    let run_to = data_from + to;
-    let run = &table.pool[run_from..run_to];
+    let from = layer.begins(i);
+    let to = layer.begins(i + 1);
+    let run = &layer.keys[from..to];
     let sought = partition_point(SeekStrategy::Binary, run, key);
+    let at = from + sought.offset;
+    let place = if sought.hit { Ok(at) } else { Err(at) };
     KeyPlace {
-        at: from + sought.offset,
-        there: sought.hit,
+        place,
         several: from + 1 < to,
         probes: sought.probes,
     }
 }
 
 // Down the layers while the tuple's keys are stored, past the forks. The table has rows.
-pub fn find_path(pool: &[u64], t: ColumnTrie, tuple: &[u64]) -> Path
-    requires { (undamaged pool.now t ≡ true) × (length tuple.now ≡ t.arity) × (0 < t.tuple_count) }
-    ensures { PathOf t.arity (rows_in pool.now t) tuple.now result }
+pub fn find_path(rows: &Intact, tuple: &[u64]) -> Path
+    requires { (length tuple.now ≡ rows.now.sound.table.arity) × (0 < rows.now.sound.table.tuple_count) }
+    ensures { PathOf rows.now.sound.table.arity (rows_in rows.now.sound.pool.now rows.now.sound.table) tuple.now result }
 {
-    let table = Sound { pool, table: t };
+    let arity = rows.sound.table.arity;
     let mut i = 0;
     let mut fork = None;
-    for d in 0..t.arity {
-        let p = find_place(&table, d, i, tuple[d]);
-        if !p.there {
-            return Path {
-                depth: d,
-                interval: i,
-                at: p.at,
-                fork,
-            };
-        }
+    for d in 0..arity {
+        let p = find_place(&rows.sound.layer(d), i, tuple[d]);
+        let at = match p.place {
+            Ok(at) => at,
+            Err(at) => {
+                return Path {
+                    depth: d,
+                    interval: i,
+                    at,
+                    fork,
+                };
+            }
+        };
         if p.several {
             let last = Fork {
                 depth: d,
                 interval: i,
-                at: p.at,
+                at,
             };
             fork = Some(last);
         }
-        i = p.at;
+        i = at;
     }
     Path {
-        depth: t.arity,
+        depth: arity,
         interval: i,
         at: i,
         fork,

@@ -4,37 +4,19 @@
 // The first pool is only read. No other buffer is needed, and no word is used on the way that the new table doesn't use (crate permuted_fill).
 #![tactic(auto)]
 
-ghost use Rattle.std.specs.Prelude.{◌≡◌, true, ℕ, ◌≤◌, ◌<◌, length, take, get_or};
-ghost use Rattle.query.specs.Checks.{permutes};
+ghost use Rattle.std.specs.Prelude.{◌≡◌, ℕ, ◌≤◌, ◌<◌, get_or};
 ghost use Rattle.column_trie.specs.Limits.{max_arity};
 ghost use Rattle.from_sorted.specs.Answer.{kept_kinds};
 ghost use Rattle.refusal.specs.Number.{given};
 ghost use Rattle.column_trie_permute.specs.Permute.{kinds_permuted, permute_number, Permutes};
 
-use column_trie::{ColumnTrie, capacity_ok, layer_at, lies_in, undamaged};
+use column_trie::{ColumnTrie, capacity_ok, layer_at, lies_in};
 use from_sorted::Built;
 use permuted_fill::{lay_rows, rank_into};
 use permuted_rows::Permuted;
+use query::permutes;
 use refusal::Refusal;
-
-// Whether the first numbers, as many as there are columns, are a permutation of the columns: each a column, and none marked before.
-fn columns_ok(columns: [usize; ColumnTrie::MAX_ARITY], arity: usize) -> bool
-    requires { arity ≤ max_arity }
-    ensures { result ≡ permutes arity (take arity columns) }
-{
-    let mut marks: [bool; ColumnTrie::MAX_ARITY] = [false; ColumnTrie::MAX_ARITY];
-    for i in 0..arity {
-        let d = columns[i];
-        if arity <= d {
-            return false;
-        }
-        if marks[d] {
-            return false;
-        }
-        marks[d] = true;
-    }
-    true
-}
+use sound_table::undamaged;
 
 // The first check that refuses.
 fn check(
@@ -50,7 +32,7 @@ fn check(
     if !undamaged(pool, table) {
         return Err(Refusal::Damaged);
     }
-    if !columns_ok(columns, table.arity) {
+    if !permutes(&columns[..table.arity]) {
         return Err(Refusal::BadOrder);
     }
     if !capacity_ok(capacity) {
@@ -95,10 +77,7 @@ pub fn permute(
     ensures { Permutes pool.now table columns into.old start capacity into.new result }
 {
     if let Err(refused) = check(pool, table, columns, into.len(), start, capacity) {
-        return Built {
-            number: refused.number(),
-            table: ColumnTrie::empty(0, 0, 0),
-        };
+        return Built::refused(refused);
     }
     let arity = table.arity;
     let mut empty = ColumnTrie::empty(start, arity, capacity);

@@ -8,15 +8,17 @@
 #![tactic(auto)]
 
 ghost use Rattle.std.specs.Prelude.{◌≡◌, ◌+◌, ◌<◌, ◌^◌};
-ghost use Rattle.column_trie.specs.Table.{layer_in};
+ghost use Rattle.column_trie.specs.Limits.{max_capacity};
+ghost use Rattle.sound_table.specs.Layers.{seen};
 ghost use Rattle.column_trie_place.specs.Checks.{at_root, past};
 ghost use Rattle.column_trie_place.specs.Inside.{place_below, Placed, has_children, owner_of};
 
-use column_trie::{ColumnTrie, Sound};
+use column_trie::ColumnTrie;
 use refusal::Refusal;
+use sound_table::{Layer, Sound};
 
 // depth: 0 at the root, else one more than the number of the layer. interval_i: whose children are looked at. slice_offset: how many of them
-// are passed.
+// are passed. It is C's struct `ducatbriar_cursor`, so the root is three zeros and no case of its own.
 #[repr(C)]
 #[derive(Clone, Copy)]
 pub struct ColumnTrieIter {
@@ -73,7 +75,7 @@ fn place_below(sound: &Sound, iter: ColumnTrieIter) -> Result<Place, Refusal>
         return Err(Refusal::BadCursor);
     }
     let d = iter.depth - 1;
-    let Some(g) = sound.group_of(d, iter.interval_i) else {
+    let Some(g) = sound.layer(d).group_of(iter.interval_i) else {
         return Err(Refusal::BadCursor);
     };
     if g.to - g.from < iter.slice_offset {
@@ -118,19 +120,19 @@ pub fn has_children(table: ColumnTrie, depth: usize, at: usize, end: usize) -> b
     depth < table.arity && at < end
 }
 
-// The owner of place i in layer d, if the words give one: the last interval that the halving rule counts as not above i. What it counts last is not
+// The owner of place i in a layer, if the words give one: the last interval that the halving rule counts as not above i. What it counts last is not
 // above i, on any list, so the offset can't fall below 0.
-pub fn owner_of(sound: &Sound, d: usize, i: usize) -> Option<Owner>
-    requires { (d < sound.now.table.arity) × (i < sound.now.table.capacity) }
-    ensures { result ≡ owner_of (layer_in sound.now.pool.now sound.now.table d) i }
+pub fn owner_of(layer: &Layer, i: usize) -> Option<Owner>
+    requires { i < max_capacity }
+    ensures { result ≡ owner_of (seen layer.now) i }
 {
-    let intervals = sound.layer_intervals(d);
-    let counted = seek::halve(intervals, i as u64 + 1, 0, intervals.len(), 0).offset;
+    let count = layer.intervals.len();
+    let counted = seek::halve(layer.intervals, i as u64 + 1, 0, count, 0).offset;
     if counted == 0 {
         return None;
     }
     let owner = counted - 1;
-    let g = sound.group_of(d, owner)?;
+    let g = layer.group_of(owner)?;
     if g.to <= i {
         return None;
     }

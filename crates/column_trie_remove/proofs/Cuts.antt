@@ -6,6 +6,7 @@ use mathlib.Core.Bool.{Bool, true, false}
 use mathlib.Core.Logic.{◌⊎◌, inl, inr}
 use mathlib.Core.List.{List, [], ◌∷◌, ◌++◌}
 use native.Mathlib.Omega.{arith}
+use Rattle.std.specs.Prelude.{Option, Some, None, is_none, unwrap_or}
 use lib.ListN.{length, take, get_or}
 use Rattle.relation.specs.Order.{Row}
 use Rattle.relation.specs.Lists.{◌∈◌}
@@ -19,7 +20,7 @@ use Rattle.relation.proofs.Walks.{sound_ordered}
 use Rattle.relation.proofs.Relations.{between_prefixes}
 use Rattle.relation.proofs.Insert.{rank_of, insert_new, insert_count}
 use Rattle.column_trie.specs.Pool.{store, spot}
-use Rattle.column_trie.specs.Table.{relengthed, data_len_at, interval_len_at, refilled, layer_in, header_sound}
+use Rattle.column_trie.specs.Table.{relengthed, interval_len_at, refilled, layer_in, header_sound}
 use Rattle.column_trie.specs.declared.ColumnTrie.{ColumnTrie}
 use Rattle.column_trie.proofs.Header.{InPool}
 use Rattle.column_trie.proofs.Layers.{Whole}
@@ -80,11 +81,11 @@ module _ {pool₀ : List ℕ} {t : ColumnTrie} {rest : List Row} {r : Row} (y : 
       inside_out = subst (λ (n : ℕ). d < n) (sym (out_arity change g.layers)) h
 
       -- where the children of a parent start that has no other
-      begins_place : lone ≡ true → get_or (layer_in pool out d).intervals i (data_len_at out d) ≡ rank_of rest r (suc d)
+      begins_place : lone ≡ true → get_or (layer_in pool out d).intervals i (length (layer_in pool out d).keys) ≡ rank_of rest r (suc d)
       begins_place f =
-          ap (λ (l : Layer). get_or l.intervals i (data_len_at out d)) (layer_old change g.layers h)
-          ∙ ap₂ (λ (is : List ℕ) (n : ℕ). get_or is n (data_len_at out d)) (insert_new t.arity rest r rest_width y.long d h (g.leaves.new f)) g.leaves.place
-          ∙ get_or_behind (rank_of rest r d) (rank_of rest r (suc d)) (intervals_at d rest) _ (data_len_at out d) (omega (arith, rank_le (take d r) (prefixes d rest), length_intervals d rest))
+          ap (λ (l : Layer). get_or l.intervals i (length (layer_in pool out d).keys)) (layer_old change g.layers h)
+          ∙ ap₂ (λ (is : List ℕ) (n : ℕ). get_or is n (length (layer_in pool out d).keys)) (insert_new t.arity rest r rest_width y.long d h (g.leaves.new f)) g.leaves.place
+          ∙ get_or_behind (rank_of rest r d) (rank_of rest r (suc d)) (intervals_at d rest) _ (length (layer_in pool out d).keys) (omega (arith, rank_le (take d r) (prefixes d rest), length_intervals d rest))
 
       -- later intervals aren't 0
       positive_words : PositiveFrom (spot out.start out.capacity d + out.capacity + suc i) (spot out.start out.capacity d + out.capacity + interval_len_at out d) pool
@@ -113,7 +114,7 @@ module _ {pool₀ : List ℕ} {t : ColumnTrie} {rest : List Row} {r : Row} (y : 
           (omega (arith, length_keys d rest, rank_le (take (suc d) r) (prefixes (suc d) rest)))
           (omega (arith, length_intervals d rest, rank_le (take d r) (prefixes d rest), g.leaves.place))
 
-      pub shrinking_step : {pool' : List ℕ} {out' : ColumnTrie} → at ≡ rank_of rest r (suc d) → Relaid pool pool' out d (shrunk lone i at (layer_in pool out d)) out' → Shrinking pool₀ t rest r pool' out' (d + 1) at at true
+      pub shrinking_step : {pool' : List ℕ} {out' : ColumnTrie} → at ≡ rank_of rest r (suc d) → Relaid pool pool' out d (shrunk lone i at (layer_in pool out d)) out' → Shrinking pool₀ t rest r pool' out' (d + 1) at 0 true
       shrinking_step e s = record { layers = changing_step change g.layers h (shrunk_is e) s; leaves = leaves_deeper rest_width y.long g.leaves h e }
 
     -- all layers have lost it
@@ -123,9 +124,17 @@ module _ {pool₀ : List ℕ} {t : ColumnTrie} {rest : List Row} {r : Row} (y : 
     pub cut_header : t.arity ≤ d → ◌≡◌ {A = ColumnTrie} (relengthed out out.data_len out.interval_len (t.tuple_count - 1)) (refilled t rest)
     cut_header h = changed_header change g.layers h (omega (arith, y.held.counted, counted))
 
--- a place for the key, read or known
+-- where the key stands, known or read, and whether it is its parent's only one
+abbrev pub At : (pool₀ : List ℕ) (t : ColumnTrie) (rest : List Row) (r : Row) (pool : List ℕ) (out : ColumnTrie) (d i : ℕ) → Option ℕ → Type 0
+At pool₀ t rest r pool out d i known = Shrinking pool₀ t rest r pool out d i (unwrap_or known 0) (is_none known)
+
 pub placed :
-    {pool₀ : List ℕ} {t : ColumnTrie} {rest : List Row} {r : Row} {pool : List ℕ} {out : ColumnTrie} {d i at : ℕ} {lone : Bool} → Ready pool₀ t rest r → Shrinking pool₀ t rest r pool out d i at lone → d < t.arity → (at' : ℕ) →
-    ((lone ≡ true) × (at' ≡ get_or (layer_in pool out d).intervals i (data_len_at out d))) ⊎ ((lone ≡ false) × (at' ≡ at)) → Shrinking pool₀ t rest r pool out d i at' lone × (at' ≡ rank_of rest r (suc d))
-placed y g h at' (inl w) = let e = w.1 ∙ begins_place y g h w.0 in (record { layers = g.layers; leaves = leaves_at g.leaves at' e }, e)
-placed y g h at' (inr w) = let e = w.1 ∙ (g.leaves.old w.0).3 in (record { layers = g.layers; leaves = leaves_at g.leaves at' e }, e)
+    {pool₀ : List ℕ} {t : ColumnTrie} {rest : List Row} {r : Row} {pool : List ℕ} {out : ColumnTrie} {d i : ℕ} {known : Option ℕ} → Ready pool₀ t rest r → At pool₀ t rest r pool out d i known → d < t.arity → (at : ℕ) (lone : Bool) →
+    ((known ≡ None) × (lone ≡ true) × (at ≡ get_or (layer_in pool out d).intervals i (length (layer_in pool out d).keys))) ⊎ ((known ≡ Some at) × (lone ≡ false)) → Shrinking pool₀ t rest r pool out d i at lone × (at ≡ rank_of rest r (suc d))
+placed {pool₀} {t} {rest} {r} {pool} {out} {d} {i} y g h at lone (inl w) =
+    let k = subst (At pool₀ t rest r pool out d i) w.0 g in
+    let e = w.2 ∙ begins_place y k h refl in
+    (subst (Shrinking pool₀ t rest r pool out d i at) (sym w.1) (record { layers = k.layers; leaves = leaves_at k.leaves at e }), e)
+placed {pool₀} {t} {rest} {r} {pool} {out} {d} {i} y g h at lone (inr w) =
+    let k = subst (At pool₀ t rest r pool out d i) w.0 g in
+    (subst (Shrinking pool₀ t rest r pool out d i at) (sym w.1) k, (k.leaves.old refl).3)

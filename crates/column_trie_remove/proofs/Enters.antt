@@ -94,8 +94,8 @@ module _ {pool : List ℕ} {t : ColumnTrie} {r : Row} {f : Option Fork} (o : Who
     none_left : rest ≡ []
     none_left = nobody rest (λ q m. let w = in_without r rows m in w.1 (shares_all w.0 (k q w.0 refl)))
 
-    shrinking_top : (at : ℕ) → Shrinking pool t rest r pool t 0 0 at true
-    shrinking_top at =
+    shrinking_top : Shrinking pool t rest r pool t 0 0 0 true
+    shrinking_top =
         record {
           layers = changing_start (change ready) 0 (omega arith) (λ j b. absurd (omega arith));
           leaves = record {
@@ -109,4 +109,4 @@ module _ {pool : List ℕ} {t : ColumnTrie} {r : Row} {f : Option Fork} (o : Who
   shrinking_some e = shrinking_fork (subst (LastFork rows r t.arity) e c.fork)
 
   pub shrinking_none : f ≡ None → Shrinking pool t rest r pool t 0 0 0 true
-  shrinking_none e = shrinking_top (subst (LastFork rows r t.arity) e c.fork) 0
+  shrinking_none e = shrinking_top (subst (LastFork rows r t.arity) e c.fork)

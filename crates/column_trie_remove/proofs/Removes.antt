@@ -19,6 +19,7 @@ use Rattle.column_trie.proofs.Layers.{Whole}
 use Rattle.column_trie.proofs.Damage.{undamaged_told}
 use Rattle.column_trie.proofs.Tables.{Holds, holds}
 use Rattle.column_trie_path.specs.declared.Path.{Path}
+use Rattle.column_trie_path.specs.Check.{tuple_number}
 use Rattle.column_trie_path.specs.Known.{known}
 use Rattle.column_trie_path.specs.Place.{PathOf, LastFork}
 use Rattle.column_trie_path.proofs.Known.{in_known, not_known}
@@ -47,15 +48,17 @@ module _ (pool : List ℕ) (t : ColumnTrie) (tuple : Row) where
   unfolding remove_number
   number_6 e = simp e
 
-  pub damaged : undamaged pool t ≡ false → (r : Removed) → (r.number ≡ 6) × (r.was_there ≡ false) × (r.table ≡ t) → Removes pool pool t tuple r
-  damaged e = let n = number_6 e in kept 6 n (shut 6 n (λ z. omega arith))
-
   pub number_4 : undamaged pool t ≡ true → (length tuple ≡ t.arity → ⊥) → remove_number pool t tuple ≡ 4
   unfolding remove_number
   number_4 sound n = simp (sound, ne_eqb (length tuple) t.arity n)
 
-  pub another_length : undamaged pool t ≡ true → (length tuple ≡ t.arity → ⊥) → (r : Removed) → (r.number ≡ 4) × (r.was_there ≡ false) × (r.table ≡ t) → Removes pool pool t tuple r
-  another_length sound n = let e = number_4 sound n in kept 4 e (shut 4 e (λ z. omega arith))
+  -- what one of the first checks refuses
+  number_first : (n : ℕ) → n ≡ tuple_number pool t tuple → remove_number pool t tuple ≡ n
+  unfolding remove_number tuple_number
+  number_first n e = sym e
+
+  pub refused : (n : ℕ) → n ≡ tuple_number pool t tuple → (n ≡ 0 → ⊥) → (r : Removed) → (r.number ≡ n) × (r.was_there ≡ false) × (r.table ≡ t) → Removes pool pool t tuple r
+  refused n e h = let f = number_first n e in kept n f (shut n f h)
 
   pub number_0 : undamaged pool t ≡ true → length tuple ≡ t.arity → remove_number pool t tuple ≡ 0
   unfolding remove_number

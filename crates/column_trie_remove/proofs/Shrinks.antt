@@ -13,8 +13,7 @@ use Rattle.column_trie.specs.Pool.{lay, spot}
 use Rattle.column_trie.specs.Table.{relengthed, data_len_at, interval_len_at, layer_in}
 use Rattle.column_trie.specs.declared.ColumnTrie.{ColumnTrie}
 use Rattle.wedge.specs.Shift.{PositiveFrom, lessened}
-use Rattle.wedge.proofs.Shifts.{length_closed}
-use Rattle.wedge.proofs.Raises.{lifted, length_lifted, gap, lapse, length_lapse}
+use Rattle.wedge.proofs.Lists.{length_closed, lifted, length_lifted, gap, lapse, length_lapse}
 use Rattle.layer_by_layer.specs.Grow.{grown}
 use Rattle.layer_by_layer.specs.Relay.{Relaid}
 use Rattle.layer_by_layer.proofs.Relays.{Keyed, keyed_behind, keys_length, intervals_length, laid_anew}

@@ -11,9 +11,9 @@ ghost use Rattle.layer_by_layer.specs.Relay.{Relaid};
 ghost use Rattle.column_trie_remove.specs.Shrink.{shrunk, Shrinkable, ForkedSome, ForkCut};
 ghost use Rattle.column_trie_remove.specs.Remove.{Removes};
 
-use column_trie::{ColumnTrie, Sound, layer_at, undamaged};
-use column_trie_path::{Fork, find_path};
-use refusal::Refusal;
+use column_trie::{ColumnTrie, layer_at};
+use column_trie_path::{Fork, check, find_path};
+use sound_table::{Intact, Sound};
 use wedge::{close, close_lowered, lower};
 
 // Takes the key at place `at` out of layer d. Its parent i loses its interval if that was its only key. The header comes back with the lengths.
@@ -34,12 +34,14 @@ fn cut_layer(
     let intervals = t.interval_len[d];
     let mut out = t;
     out.data_len[d] = keys - 1;
-    close(pool, data_from, at, keys);
+    let data_to = data_from + keys;
+    close(&mut pool[data_from..data_to], at);
+    let interval_to = interval_from + intervals;
     if lone {
-        close_lowered(pool, interval_from, i, intervals);
+        close_lowered(&mut pool[interval_from..interval_to], i);
         out.interval_len[d] = intervals - 1;
     } else {
-        lower(pool, interval_from, i + 1, intervals);
+        lower(&mut pool[interval_from + i + 1..interval_to]);
     }
     out
 }
@@ -51,17 +53,18 @@ fn cut_row(pool: &mut [u64], t: ColumnTrie, fork: Option<Fork>) -> ColumnTrie
     ensures { ForkCut pool.old pool.new t fork result }
 {
     let mut out = t;
-    let (depth, mut i, mut at, mut lone) = match fork {
-        Some(f) => (f.depth, f.interval, f.at, false),
-        None => (0, 0, 0, true),
+    let (depth, mut i, mut known) = match fork {
+        Some(f) => (f.depth, f.interval, Some(f.at)),
+        None => (0, 0, None),
     };
     for d in depth..t.arity {
-        if lone {
-            at = Sound { pool, table: out }.begins(d, i);
-        }
+        let (at, lone) = match known {
+            Some(at) => (at, false),
+            None => (Sound { pool, table: out }.layer(d).begins(i), true),
+        };
         out = cut_layer(pool, out, d, i, at, lone);
         i = at;
-        lone = true;
+        known = None;
     }
     out.tuple_count = t.tuple_count - 1;
     out
@@ -91,16 +94,16 @@ fn unchanged(number: u64, table: ColumnTrie) -> Removed
 pub fn remove(pool: &mut [u64], table: ColumnTrie, tuple: &[u64]) -> Removed
     ensures { Removes pool.old pool.new table tuple.now result }
 {
-    if !undamaged(pool, table) {
-        return unchanged(Refusal::Damaged.number(), table);
-    }
-    if tuple.len() != table.arity {
-        return unchanged(Refusal::BadLength.number(), table);
+    if let Err(refused) = check(pool, table, tuple) {
+        return unchanged(refused.number(), table);
     }
     if table.tuple_count == 0 {
         return unchanged(0, table);
     }
-    let path = find_path(pool, table, tuple);
+    let rows = Intact {
+        sound: Sound { pool, table },
+    };
+    let path = find_path(&rows, tuple);
     if path.depth != table.arity {
         return unchanged(0, table);
     }

@@ -38,17 +38,17 @@ use Rattle.join_window.specs.Window.{written}
 use Rattle.join_openings.specs.Openings.{count_at, variable_at}
 use Rattle.join_depths.specs.Depth.{Based, Stands, AgreedAt, AtKey, Answers, Leapt, groups_at, Starts, Begins, Steps, Opening, Onward}
 use Rattle.descent.specs.Descent.{Counted, Completes}
-use Rattle.descent.specs.declared.Walked.{Walked}
 use Rattle.join_query.specs.declared.Query.{Query}
 use Rattle.join_query.specs.declared.Tables.{Tables}
 use Rattle.join_query.proofs.Accepted.{sized, tables}
+use Rattle.join_plan.specs.Plan.{Plan}
 use Rattle.join_depths.proofs.Wholes.{whole_first, whole_ready, ready_wholes}
 use Rattle.join_depths.proofs.Standing.{order_next, variable_is}
 use Rattle.descent.proofs.Walking.{Goes, Walk, first, rest, gained, gains, goes_below, descended_leaf}
 
 -- ---- the last depth
 
-pub last_is : {pool : List ℕ} {ts : Tables} {q : Query} {plan ends : List ℕ} {n d : ℕ} {f : ℕ → Row} → Based pool ts q plan ends n d f → d < n → none (rest q d) ≡ eqb (d + 1) n
+pub last_is : {pool : List ℕ} {ts : Tables} {q : Query} {plan : Plan} {ends : List ℕ} {n d : ℕ} {f : ℕ → Row} → Based pool ts q plan ends n d f → d < n → none (rest q d) ≡ eqb (d + 1) n
 last_is {q = q} {n = n} {d} b h = go (ℕ_discrete (d + 1) n)
   where
     long : length (order_of q) ≡ n
@@ -75,7 +75,7 @@ answers_stood w runs runs' last (Nothing p) m e a = a.0
 abbrev tally : Progress → ℕ → Tally
 tally s m = record { progress = s; seeks = m }
 
-pub record Counts (pool : List ℕ) (ts : Tables) (q : Query) (plan ends : List ℕ) (n d : ℕ) (f : ℕ → Row) (found : Row) (t₀ : Tally) (z : State) (ring by_atom : List ℕ) (landed : Landed) (s : Progress) (seeks : ℕ) : Type 0 where
+pub record Counts (pool : List ℕ) (ts : Tables) (q : Query) (plan : Plan) (ends : List ℕ) (n d : ℕ) (f : ℕ → Row) (found : Row) (t₀ : Tally) (z : State) (ring by_atom : List ℕ) (landed : Landed) (s : Progress) (seeks : ℕ) : Type 0 where
   pub fuel : ℕ
   pub went : Went
   pub made : ℕ
@@ -97,7 +97,7 @@ map_from : (x y : ℕ) → x ≤ y → (rs : List (List ℕ)) → map (from y) (
 map_from x y h [] = refl
 map_from x y h (r ∷ rs) = ap₂ (λ (y : List ℕ) (ys : List (List ℕ)). y ∷ ys) (from_from x y h r) (map_from x y h rs)
 
-module _ {pool : List ℕ} {ts : Tables} {q : Query} {plan ends : List ℕ} {n d : ℕ} {f : ℕ → Row} {found : Row} where
+module _ {pool : List ℕ} {ts : Tables} {q : Query} {plan : Plan} {ends : List ℕ} {n d : ℕ} {f : ℕ → Row} {found : Row} where
   pub counts_start : Based pool ts q plan ends n d f → {z : State} {ring by_atom : List ℕ} {landed : Landed} {s₀ : Progress} {before seeks : ℕ} → Begins pool ts q plan ends n d z by_atom f landed → Starts pool ts q plan ends d z ring by_atom f before landed seeks → (m : ℕ) → before ≡ capped m → Counts pool ts q plan ends n d f found (tally s₀ m) z ring by_atom landed s₀ seeks
   counts_start b {z} {ring} {landed = landed} {s₀} {before} g st m e = record {
     fuel = total (groups_at pool ts q d f);
@@ -157,36 +157,31 @@ module _ {pool : List ℕ} {ts : Tables} {q : Query} {plan ends : List ℕ} {n d
 
 -- ---- the loop's invariant, and the ends of the loop: for every query
 
-pub record Counting (pool plan ends : List ℕ) (n d : ℕ) (z₀ : State) (ring by_atom : List ℕ) (landed₀ : Landed) (found w₀ : List ℕ) (from before seeks₀ : ℕ) (w : List ℕ) (z : State) (landed : Landed) (rows seeks : ℕ) : Type 0 where
+pub record Counting (pool : List ℕ) (plan : Plan) (ends : List ℕ) (n d : ℕ) (z₀ : State) (ring by_atom : List ℕ) (landed₀ : Landed) (found w₀ : List ℕ) (from before seeks₀ : ℕ) (w : List ℕ) (z : State) (landed : Landed) (rows seeks : ℕ) : Type 0 where
   pub counts : (ts : Tables) (q : Query) (f : ℕ → Row) → Based pool ts q plan ends n d f → Begins pool ts q plan ends n d z₀ by_atom f landed₀ → Starts pool ts q plan ends d z₀ ring by_atom f before landed₀ seeks₀ → (m : ℕ) → before ≡ capped m → Counts pool ts q plan ends n d f found (tally (written w₀ from false) m) z ring by_atom landed (written w rows false) seeks
 
-pub counting_start : {pool plan ends : List ℕ} {n d : ℕ} {z₀ : State} {ring by_atom : List ℕ} {landed₀ : Landed} {found w₀ : List ℕ} {from before seeks₀ : ℕ} → Counting pool plan ends n d z₀ ring by_atom landed₀ found w₀ from before seeks₀ w₀ z₀ landed₀ from seeks₀
+pub counting_start : {pool : List ℕ} {plan : Plan} {ends : List ℕ} {n d : ℕ} {z₀ : State} {ring by_atom : List ℕ} {landed₀ : Landed} {found w₀ : List ℕ} {from before seeks₀ : ℕ} → Counting pool plan ends n d z₀ ring by_atom landed₀ found w₀ from before seeks₀ w₀ z₀ landed₀ from seeks₀
 counting_start = record { counts = λ ts q f b g st m e. counts_start b g st m e }
 
 -- no variable is left: the row is written, and nothing is sought
-pub completes_leaf : {pool plan ends : List ℕ} {n d : ℕ} {at own : List ℕ} {found w₀ : List ℕ} {from before : ℕ} {w : List ℕ} {r : Walked} → d ≡ n → (written w r.rows r.full ≡ emit n (written w₀ from false) (take n found)) × (r.seeks ≡ before) → Completes pool plan ends n d at own found w₀ from before w r.rows r.full r.seeks
+pub completes_leaf : {pool : List ℕ} {plan : Plan} {ends : List ℕ} {n d : ℕ} {at own : List ℕ} {found w₀ : List ℕ} {from before : ℕ} {w : List ℕ} {rows : ℕ} {full : Bool} → d ≡ n → written w rows full ≡ emit n (written w₀ from false) (take n found) → Completes pool plan ends n d at own found w₀ from before w rows full before
 completes_leaf {pool} {n = n} {d} {found = found} {w₀} {from} e r = record {
-  descended = descended_leaf e r.0;
+  descended = descended_leaf e r;
   counts = λ ts q f s m h.
       let none : drop d (order_of q) ≡ [] = drop_of_length-le (order_of q) (let l : length (order_of q) ≤ d = omega (arith, (sized s.based.accepted).permutation.size, s.based.size) in l) in
       let t = ap (λ (l : List ℕ). walk_of n l (standings f (atoms_of pool ts q)) found (tally (written w₀ from false) m)) none ∙ walk_leaf n (standings f (atoms_of pool ts q)) found (tally (written w₀ from false) m) in
-      record { window = ap (λ (t : Tally). t.progress) t ∙ sym r.0; count = r.1 ∙ (h ∙ ap (λ (t : Tally). capped t.seeks) (sym t)) };
+      record { window = ap (λ (t : Tally). t.progress) t ∙ sym r; count = h ∙ ap (λ (t : Tally). capped t.seeks) (sym t) };
 }
 
--- where two ways to complete a row meet, its window and its answer are those of the way that was gone
-pub completes_came : {pool plan ends : List ℕ} {n d : ℕ} {at own : List ℕ} {found w₀ : List ℕ} {from before : ℕ} {w w' : List ℕ} {r r' : Walked} → w ≡ w' → r ≡ r' → Completes pool plan ends n d at own found w₀ from before w' r'.rows r'.full r'.seeks → Completes pool plan ends n d at own found w₀ from before w r.rows r.full r.seeks
-completes_came {pool} {plan} {ends} {n} {d} {at} {own} {found} {w₀} {from} {before} {w} {r' = r'} e h c =
-    subst (λ (y : Walked). Completes pool plan ends n d at own found w₀ from before w y.rows y.full y.seeks) (sym h)
-    (subst (λ (y : List ℕ). Completes pool plan ends n d at own found w₀ from before y r'.rows r'.full r'.seeks) (sym e) c)
-
-module _ {pool plan ends : List ℕ} {n d : ℕ} {above owned : List ℕ} {z₀ : State} {ring by_atom : List ℕ} {before : ℕ} {r₀ : Searched} (b : Opening pool plan ends n d above owned z₀ ring by_atom before r₀) (below : d < n) {found w₀ : List ℕ} {from : ℕ} {w : List ℕ} {z : State} {rows seeks : ℕ} {landed : Landed} (j : Counting pool plan ends n d z₀ ring by_atom r₀.landed found w₀ from before r₀.seeks w z landed rows seeks) where
+module _ {pool : List ℕ} {plan : Plan} {ends : List ℕ} {n d : ℕ} {above owned : List ℕ} {z₀ : State} {ring by_atom : List ℕ} {before : ℕ} {r₀ : Searched} (b : Opening pool plan ends n d above owned z₀ ring by_atom before r₀) (below : d < n) {found w₀ : List ℕ} {from : ℕ} {w : List ℕ} {z : State} {rows seeks : ℕ} {landed : Landed} (j : Counting pool plan ends n d z₀ ring by_atom r₀.landed found w₀ from before r₀.seeks w z landed rows seeks) where
   now : {landed' : Landed} → landed ≡ landed' → (ts : Tables) (q : Query) (f : ℕ → Row) → Stands pool ts q plan ends n d above owned f → (m : ℕ) → before ≡ capped m → Counts pool ts q plan ends n d f found (tally (written w₀ from false) m) z ring by_atom landed' (written w rows false) seeks
   now e ts q f s m h = subst (λ (y : Landed). Counts pool ts q plan ends n d f found (tally (written w₀ from false) m) z ring by_atom y (written w rows false) seeks) e (j.counts ts q f s.based (b.begun.begins ts q f s) (b.starts ts q f s) m h)
 
-  pub counting_none : {p : ℕ} → landed ≡ Nothing p → (ts : Tables) (q : Query) (f : ℕ → Row) → Stands pool ts q plan ends n d above owned f → (m : ℕ) → before ≡ capped m → Counted (walk_of n (drop d (order_of q)) (standings f (atoms_of pool ts q)) found (tally (written w₀ from false) m)) (written w rows false) seeks
-  counting_none e ts q f s m h =
-      subst (λ (l : List ℕ). Counted (walk_of n l (standings f (atoms_of pool ts q)) found (tally (written w₀ from false) m)) (written w rows false) seeks) (sym (order_next s.based below))
-      (counts_none (now e ts q f s m h))
+  pub counting_none : {p : ℕ} → landed ≡ Nothing p → {full : Bool} → full ≡ false → (ts : Tables) (q : Query) (f : ℕ → Row) → Stands pool ts q plan ends n d above owned f → (m : ℕ) → before ≡ capped m → Counted (walk_of n (drop d (order_of q)) (standings f (atoms_of pool ts q)) found (tally (written w₀ from false) m)) (written w rows full) seeks
+  counting_none e u ts q f s m h =
+      subst (λ (b : Bool). Counted (walk_of n (drop d (order_of q)) (standings f (atoms_of pool ts q)) found (tally (written w₀ from false) m)) (written w rows b) seeks) (sym u)
+      (subst (λ (l : List ℕ). Counted (walk_of n l (standings f (atoms_of pool ts q)) found (tally (written w₀ from false) m)) (written w rows false) seeks) (sym (order_next s.based below))
+      (counts_none (now e ts q f s m h)))
 
   -- a key is found
   module _ {row : List ℕ} {x p : ℕ} (e : landed ≡ Key x p) (i : Walk pool plan ends n d z₀ ring by_atom r₀.landed found w₀ from w z landed row rows) {w' : List ℕ} {rows' : ℕ} {full : Bool} {seeks' : ℕ} (r : Completes pool plan ends n (d + 1) z.at z.own (set row (variable_at plan d) x) w rows seeks w' rows' full seeks') where

@@ -17,10 +17,12 @@ use Rattle.column_trie.proofs.Stored.{in_pool}
 use Rattle.query.specs.Limits.{max_atoms}
 use Rattle.join_query.specs.Query.{max_tables, max_variables, atom_at, table_at, atom_table, Accepted}
 use Rattle.join_query.specs.Checking.{reached}
-use Rattle.join_plan.specs.Plan.{second_of, Low, Planned, FirstsEnded, Plannable}
-use Rattle.join_window.specs.Window.{written}
+use Rattle.join_plan.specs.Plan.{Plan, second_of, Low, Planned, FirstsEnded, Plannable}
+use Rattle.join_window.specs.Window.{written, Begun}
+use Rattle.join_window.specs.declared.Window.{Window}
+use Rattle.join_window.proofs.Windows.{begun_in}
 use Rattle.join_depths.specs.Depth.{Placed, PlacedIn, Stands, Standing}
-use Rattle.descent.specs.Descent.{Descended}
+use Rattle.descent.specs.Descent.{Descended, Completes}
 use Rattle.join_query.specs.Outcome.{listed}
 use Rattle.join_query.specs.declared.Atom as rust
 use Rattle.join_query.specs.declared.Query.{Query}
@@ -82,7 +84,7 @@ module _ {pool : List ℕ} {ts : Tables} {q : Query} {len : ℕ} (a : Accepted p
     low₂ = λ i h. second (λ x. Low (table_at ts x)) (atom_at q i) (low l (sound a i h)) (λ e. low l (sound_maker a i h e));
   }
 
-  module _ {plan ends : List ℕ} (p : Planned plan ts q) (e : FirstsEnded ends ts q q.atom_count) where
+  module _ {plan : Plan} {ends : List ℕ} (p : Planned plan ts q) (e : FirstsEnded ends ts q q.atom_count) where
     pub stands_root : Stands pool ts q plan ends q.n 0 (replicate max_atoms 0) (replicate max_atoms 0) none
     unfolding reached
     stands_root = record {
@@ -105,3 +107,7 @@ module _ {pool : List ℕ} {ts : Tables} {q : Query} {len : ℕ} (a : Accepted p
     -- the descent from the root leaves the listing
     pub joined : {w w' : List ℕ} {rows : ℕ} {full : Bool} → Descended pool plan ends q.n 0 (replicate max_atoms 0) (replicate max_atoms 0) (replicate max_variables 0) w 0 w' rows full → written w' rows full ≡ listed pool ts q w
     joined {w} d = engine_root (passes a) none (λ i h. refl) (replicate max_variables 0) w (omega (arith, (sized a).few)) (d.descends ts q none stands_root)
+
+-- a descent that began in a new window, as one of the words that were lent
+pub begun_completes : {pool : List ℕ} {plan : Plan} {ends : List ℕ} {m n d : ℕ} {at own found : List ℕ} {w₀ : Window} {before : ℕ} {w w' : List ℕ} {rows : ℕ} {full : Bool} {seeks : ℕ} → Begun m w₀ → w₀.words.now ≡ w → Completes pool plan ends n d at own found w₀.words.now w₀.rows before w' rows full seeks → Completes pool plan ends n d at own found w 0 before w' rows full seeks
+begun_completes {pool} {plan} {ends} {n = n} {d} {at} {own} {found} {before = before} {w' = w'} {rows} {full} {seeks} b e = begun_in (λ (l : List ℕ) (r : ℕ). Completes pool plan ends n d at own found l r before w' rows full seeks) b e

@@ -1,9 +1,8 @@
 -- The descent: its end, and the loop over the keys of one depth.
 -- Idea: for every query whose atoms stand so, the keys left lead to the end of the depth (`ToGo` of the theory); the key found is the first of them, and where
 -- all agree on it, the atoms that take part stand for one word more.
-use Prim.Native.Nat.{ℕ, suc, ◌+◌, ◌*◌, ◌≤◌, ◌<◌}
+use Prim.Native.Nat.{ℕ, suc, ◌+◌, ◌≤◌, ◌<◌}
 use native.Mathlib.Omega.{arith}
-use native.Mathlib.Nat.{le-mul_of_pos_right}
 use native.Mathlib.Numerals.{add-one}
 use mathlib.Core.Path.{◌≡◌, refl, sym, subst, ap, ◌∙◌}
 use mathlib.Core.Bool.{Bool, true, false}
@@ -15,7 +14,7 @@ use Rattle.query.specs.Meet.{meet}
 use Rattle.query.specs.Solve.{headed}
 use Rattle.query.specs.Window.{Progress, emit}
 use Rattle.query.specs.Descend.{standings, nobody, Joinable, Descends}
-use Rattle.query.proofs.Descend.{ToGo, leaf, descends_fits, to_go_same, to_go_none, to_go_full}
+use Rattle.query.proofs.Descend.{ToGo, leaf, to_go_same, to_go_none, to_go_full}
 use Rattle.query.proofs.Meet.{get_or_in}
 use Rattle.query.proofs.Under.{Gains}
 use Rattle.query.proofs.Engine.{engine_start, engine_key, engine_joinable}
@@ -30,7 +29,7 @@ use Rattle.stretches.specs.declared.State.{State}
 use Rattle.stretches.specs.Whole.{WholeAgreed}
 use Rattle.join_query.specs.Query.{max_variables, atom_at, order_of, vars_of, atoms_of}
 use Rattle.join_plan.specs.Plan as plans
-use Rattle.join_window.specs.Window.{written, Fits}
+use Rattle.join_window.specs.Window.{written}
 use Rattle.join_openings.specs.Openings.{variable_at, count_at}
 use Rattle.join_depths.specs.Depth.{PlacedIn, Based, Stands, Standing, takes_part, Opened, AgreedAt, IfFound, Begins, DepthBegun, Steps}
 use Rattle.descent.specs.Descent.{Descended}
@@ -38,6 +37,7 @@ use Rattle.join_query.specs.declared.Query.{Query}
 use Rattle.join_query.specs.declared.Tables.{Tables}
 use Rattle.join_query.proofs.Lists.{reached_in, reached_out}
 use Rattle.join_query.proofs.Accepted.{sized, tables, atoms_length}
+use Rattle.join_plan.specs.Plan.{Plan}
 use Rattle.join_depths.proofs.Standing.{left_vars, order_next, variable_is}
 use Rattle.join_depths.proofs.Wholes.{whole_first}
 use Rattle.join_depths.proofs.Beginnings.{opened_moved}
@@ -49,7 +49,7 @@ use Rattle.join_depths.proofs.Below.{placed_next}
 abbrev pub gained : Query → ℕ → (ℕ → Row) → ℕ → ℕ → Row
 gained q d f x i = pick (takes_part q d f i) (f i ++ x ∷ []) (f i)
 
-module _ {pool : List ℕ} {ts : Tables} {q : Query} {plan ends : List ℕ} {n d : ℕ} {z : State} {by_atom : List ℕ} {f : ℕ → Row} (o : Opened pool ts q plan ends n d z by_atom f) {x p : ℕ} (g : WholeAgreed pool z ends by_atom (count_at plan d) x p) where
+module _ {pool : List ℕ} {ts : Tables} {q : Query} {plan : Plan} {ends : List ℕ} {n d : ℕ} {z : State} {by_atom : List ℕ} {f : ℕ → Row} (o : Opened pool ts q plan ends n d z by_atom f) {x p : ℕ} (g : WholeAgreed pool z ends by_atom (count_at plan d) x p) where
   -- by cases of whether atom i takes part
   part_cases : (P : Row → Type 0) (i : ℕ) → (takes_part q d f i ≡ true → P (f i ++ x ∷ [])) → (takes_part q d f i ≡ false → P (f i)) → P (gained q d f x i)
   part_cases P i a b = go (takes_part q d f i) refl
@@ -98,7 +98,7 @@ module _ {pool : List ℕ} {ts : Tables} {q : Query} {plan ends : List ℕ} {n d
 
 -- ---- the keys left, of one query
 
-module _ (pool : List ℕ) (ts : Tables) (q : Query) (plan ends : List ℕ) (n d : ℕ) (f : ℕ → Row) (found : Row) (s₀ : Progress) where
+module _ (pool : List ℕ) (ts : Tables) (q : Query) (plan : Plan) (ends : List ℕ) (n d : ℕ) (f : ℕ → Row) (found : Row) (s₀ : Progress) where
   -- the keys left lead to the end of the depth, and where one is found, the atoms are opened
   pub record Goes (z : State) (by_atom : List ℕ) (landed : Landed) (s : Progress) : Type 0 where
     to_go : ToGo n (get_or (order_of q) d 0) (drop (suc d) (order_of q)) (standings f (atoms_of pool ts q)) found s₀ (left_of (wholes_in pool z ends by_atom (count_at plan d)) landed) s
@@ -115,7 +115,7 @@ first q d = get_or (order_of q) d 0
 abbrev pub rest : Query → ℕ → List ℕ
 rest q d = drop (suc d) (order_of q)
 
-module _ {pool : List ℕ} {ts : Tables} {q : Query} {plan ends : List ℕ} {n d : ℕ} {f : ℕ → Row} {found : Row} {s₀ : Progress} where
+module _ {pool : List ℕ} {ts : Tables} {q : Query} {plan : Plan} {ends : List ℕ} {n d : ℕ} {f : ℕ → Row} {found : Row} {s₀ : Progress} where
   goes_start : Based pool ts q plan ends n d f → {z : State} {by_atom : List ℕ} {landed : Landed} → Begins pool ts q plan ends n d z by_atom f landed → Goes pool ts q plan ends n d f found s₀ z by_atom landed s₀
   goes_start b g = record {
     to_go = to_go_same n (first q d) (rest q d) (standings f (atoms_of pool ts q)) found s₀ (sym g.keys) (engine_start n (first q d) (rest q d) f (atoms_of pool ts q) (tables b.accepted) found s₀);
@@ -153,22 +153,18 @@ module _ {pool : List ℕ} {ts : Tables} {q : Query} {plan ends : List ℕ} {n d
 -- ---- the loop's invariant
 
 -- z₀ and landed₀ are what the opening left, the rest is as it stands now
-pub record Walk (pool plan ends : List ℕ) (n d : ℕ) (z₀ : State) (ring by_atom : List ℕ) (landed₀ : Landed) (found w₀ : List ℕ) (from : ℕ) (w : List ℕ) (z : State) (landed : Landed) (row : List ℕ) (rows : ℕ) : Type 0 where
+pub record Walk (pool : List ℕ) (plan : Plan) (ends : List ℕ) (n d : ℕ) (z₀ : State) (ring by_atom : List ℕ) (landed₀ : Landed) (found w₀ : List ℕ) (from : ℕ) (w : List ℕ) (z : State) (landed : Landed) (row : List ℕ) (rows : ℕ) : Type 0 where
   pub agreed : AgreedAt pool z ends by_atom (count_at plan d) landed
   pub same : IfFound landed (SameAtoms by_atom ring (count_at plan d))
-  pub window : length w ≡ length w₀
-  pub fits : Fits n (length w₀) rows
   pub others : (x : ℕ) → set row (variable_at plan d) x ≡ set found (variable_at plan d) x
   pub long : length row ≡ max_variables
   pub goes : (ts : Tables) (q : Query) (f : ℕ → Row) → Based pool ts q plan ends n d f → Begins pool ts q plan ends n d z₀ by_atom f landed₀ → Goes pool ts q plan ends n d f found (written w₀ from false) z by_atom landed (written w rows false)
 
-module _ {pool plan ends : List ℕ} {n d : ℕ} {above owned : List ℕ} {z₀ : State} {ring by_atom : List ℕ} {landed₀ : Landed} (b : DepthBegun pool plan ends n d above owned z₀ ring by_atom landed₀) {found w₀ : List ℕ} {from : ℕ} where
-  pub walk_start : length found ≡ max_variables → Fits n (length w₀) from → Walk pool plan ends n d z₀ ring by_atom landed₀ found w₀ from w₀ z₀ landed₀ found from
-  walk_start l h = record {
+module _ {pool : List ℕ} {plan : Plan} {ends : List ℕ} {n d : ℕ} {above owned : List ℕ} {z₀ : State} {ring by_atom : List ℕ} {landed₀ : Landed} (b : DepthBegun pool plan ends n d above owned z₀ ring by_atom landed₀) {found w₀ : List ℕ} {from : ℕ} where
+  pub walk_start : length found ≡ max_variables → Walk pool plan ends n d z₀ ring by_atom landed₀ found w₀ from w₀ z₀ landed₀ found from
+  walk_start l = record {
     agreed = b.agreed;
     same = b.same;
-    window = refl;
-    fits = h;
     others = λ x. refl;
     long = l;
     goes = λ ts q f s g. goes_start s g;
@@ -182,14 +178,14 @@ pub steps_less : {pool ends by_atom : List ℕ} {k : ℕ} {z z' : State} {x y p 
 steps_less {pool} {ends} {by_atom} {k} {z} e t = omega (arith, ap length t.keys, ap (keys_left pool z ends by_atom k) e)
 
 -- what the call for the key x leaves, of one query: in the terms of its order
-below_is : (row : List ℕ) {pool : List ℕ} {ts : Tables} {q : Query} {plan ends : List ℕ} {n d : ℕ} {z : State} {by_atom : List ℕ} {f : ℕ → Row} {found w w' : List ℕ} {x p rows rows' : ℕ} {full : Bool} {s₀ : Progress} → Goes pool ts q plan ends n d f found s₀ z by_atom (Key x p) (written w rows false) → WholeAgreed pool z ends by_atom (count_at plan d) x p → ((y : ℕ) → set row (variable_at plan d) y ≡ set found (variable_at plan d) y) → Descended pool plan ends n (d + 1) z.at z.own (set row (variable_at plan d) x) w rows w' rows' full → Descends n (rest q d) (standings (gained q d f x) (atoms_of pool ts q)) (set found (first q d) x) (written w rows false) (written w' rows' full)
+below_is : (row : List ℕ) {pool : List ℕ} {ts : Tables} {q : Query} {plan : Plan} {ends : List ℕ} {n d : ℕ} {z : State} {by_atom : List ℕ} {f : ℕ → Row} {found w w' : List ℕ} {x p rows rows' : ℕ} {full : Bool} {s₀ : Progress} → Goes pool ts q plan ends n d f found s₀ z by_atom (Key x p) (written w rows false) → WholeAgreed pool z ends by_atom (count_at plan d) x p → ((y : ℕ) → set row (variable_at plan d) y ≡ set found (variable_at plan d) y) → Descended pool plan ends n (d + 1) z.at z.own (set row (variable_at plan d) x) w rows w' rows' full → Descends n (rest q d) (standings (gained q d f x) (atoms_of pool ts q)) (set found (first q d) x) (written w rows false) (written w' rows' full)
 below_is row {pool} {ts} {q} {plan} {n} {d} {f = f} {found} {w} {w'} {x} {rows = rows} {rows'} {full} g a others r =
     let e : set row (variable_at plan d) x ≡ set found (first q d) x = others x ∙ ap (λ (y : ℕ). set found y x) (variable_is g.opened.based g.opened.below) in
     subst (λ (l : List ℕ). Descends n l (standings (gained q d f x) (atoms_of pool ts q)) (set found (first q d) x) (written w rows false) (written w' rows' full)) (ap (λ (m : ℕ). drop m (order_of q)) (add-one d))
     (subst (λ (l : Row). Descends n (drop (d + 1) (order_of q)) (standings (gained q d f x) (atoms_of pool ts q)) l (written w rows false) (written w' rows' full)) e
     (r.descends ts q (gained q d f x) (goes_below g a)))
 
-module _ {pool plan ends : List ℕ} {n d : ℕ} {above owned : List ℕ} {z₀ : State} {ring by_atom : List ℕ} {landed₀ : Landed} (b : DepthBegun pool plan ends n d above owned z₀ ring by_atom landed₀) (st : Standing pool plan ends n d above owned) (below : d < n) {found w₀ : List ℕ} {from : ℕ} {w : List ℕ} {z : State} {row : List ℕ} {rows : ℕ} where
+module _ {pool : List ℕ} {plan : Plan} {ends : List ℕ} {n d : ℕ} {above owned : List ℕ} {z₀ : State} {ring by_atom : List ℕ} {landed₀ : Landed} (b : DepthBegun pool plan ends n d above owned z₀ ring by_atom landed₀) (st : Standing pool plan ends n d above owned) (below : d < n) {found w₀ : List ℕ} {from : ℕ} {w : List ℕ} {z : State} {row : List ℕ} {rows : ℕ} where
   -- a key is found
   module _ {landed : Landed} {x p : ℕ} (e : landed ≡ Key x p) (now : Walk pool plan ends n d z₀ ring by_atom landed₀ found w₀ from w z landed row rows) where
     i : Walk pool plan ends n d z₀ ring by_atom landed₀ found w₀ from w z (Key x p) row rows
@@ -211,9 +207,6 @@ module _ {pool plan ends : List ℕ} {n d : ℕ} {above owned : List ℕ} {z₀ 
     pub walk_same : SameAtoms by_atom ring (count_at plan d)
     walk_same = i.same
 
-    pub walk_fits : Fits n (length w) rows
-    walk_fits = record { inside = omega (arith, i.fits, i.window); few = omega (arith, i.fits, i.window) }
-
     pub walk_long : length (set row (variable_at plan d) x) ≡ max_variables
     walk_long = length-set row (variable_at plan d) x ∙ i.long
 
@@ -226,20 +219,10 @@ module _ {pool plan ends : List ℕ} {n d : ℕ} {above owned : List ℕ} {z₀ 
             (goes_full g i.agreed (below_is row g i.agreed i.others r) t);
       }
 
-      pub walk_kept : (length w' ≡ length w) × (rows' * n ≤ length w)
-      walk_kept =
-          let q = st.query in
-          let m : n ≤ length found = omega (arith, ap length (i.others 0), length-set row (variable_at plan d) 0, length-set found (variable_at plan d) 0, i.long, (sized st.stands.based.accepted).few, st.stands.based.size) in
-          descends_fits (below_is row going i.agreed i.others r) (omega (arith, m, length-set found (first q d) x)) (omega (arith, i.fits, i.window))
-
       pub walk_next : full ≡ false → {z' : State} {landed' : Landed} → Steps pool ends by_atom (count_at plan d) z z' (key_at pool z.at (get_or by_atom 0 0)) landed' → Walk pool plan ends n d z₀ ring by_atom landed₀ found w₀ from w' z' landed' (set row (variable_at plan d) x) rows'
       walk_next f {z'} {landed'} t = record {
         agreed = t.agreed;
         same = if_found landed' i.same;
-        window = walk_kept.0 ∙ i.window;
-        fits =
-            let c : rows' ≤ rows' * n = le-mul_of_pos_right rows' (let h : 1 ≤ n = omega arith in h) in
-            record { inside = omega (arith, walk_kept.1, i.window); few = omega (arith, c, walk_kept.1, i.window) };
         others = λ y. set-set row (variable_at plan d) x y ∙ i.others y;
         long = walk_long;
         goes = λ ts q f₀ s g₀.
@@ -249,16 +232,17 @@ module _ {pool plan ends : List ℕ} {n d : ℕ} {above owned : List ℕ} {z₀ 
       }
 
   -- none is left
-  pub walk_none : {landed : Landed} {p : ℕ} → landed ≡ Nothing p → Walk pool plan ends n d z₀ ring by_atom landed₀ found w₀ from w z landed row rows → Descended pool plan ends n d above owned found w₀ from w rows false
-  walk_none {p = p} e now = record {
+  pub walk_none : {landed : Landed} {p : ℕ} → landed ≡ Nothing p → Walk pool plan ends n d z₀ ring by_atom landed₀ found w₀ from w z landed row rows → {full : Bool} → full ≡ false → Descended pool plan ends n d above owned found w₀ from w rows full
+  walk_none {p = p} e now u = record {
     descends = λ ts q f s.
-        subst (λ (l : List ℕ). Descends n l (standings f (atoms_of pool ts q)) found (written w₀ from false) (written w rows false)) (sym (order_next s.based below))
-        (goes_none (subst (λ (h : Landed). Goes pool ts q plan ends n d f found (written w₀ from false) z by_atom h (written w rows false)) e (now.goes ts q f s.based (b.begins ts q f s))));
+        subst (λ (b : Bool). Descends n (drop d (order_of q)) (standings f (atoms_of pool ts q)) found (written w₀ from false) (written w rows b)) (sym u)
+        (subst (λ (l : List ℕ). Descends n l (standings f (atoms_of pool ts q)) found (written w₀ from false) (written w rows false)) (sym (order_next s.based below))
+        (goes_none (subst (λ (h : Landed). Goes pool ts q plan ends n d f found (written w₀ from false) z by_atom h (written w rows false)) e (now.goes ts q f s.based (b.begins ts q f s)))));
   }
 
 -- ---- numbers that the code relies on
 
-module _ {pool plan ends : List ℕ} {n d : ℕ} {above owned : List ℕ} (st : Standing pool plan ends n d above owned) where
+module _ {pool : List ℕ} {plan : Plan} {ends : List ℕ} {n d : ℕ} {above owned : List ℕ} (st : Standing pool plan ends n d above owned) where
   pub few_variables : n ≤ max_variables
   few_variables = omega (arith, (sized st.stands.based.accepted).few, st.stands.based.size)
 
@@ -279,10 +263,15 @@ module _ {pool plan ends : List ℕ} {n d : ℕ} {above owned : List ℕ} (st : 
 
 -- ---- no variable is left
 
-pub descended_leaf : {pool plan ends : List ℕ} {n d : ℕ} {at own : List ℕ} {found w₀ : List ℕ} {from : ℕ} {w : List ℕ} {rows : ℕ} {full : Bool} → d ≡ n → written w rows full ≡ emit n (written w₀ from false) (take n found) → Descended pool plan ends n d at own found w₀ from w rows full
+pub descended_leaf : {pool : List ℕ} {plan : Plan} {ends : List ℕ} {n d : ℕ} {at own : List ℕ} {found w₀ : List ℕ} {from : ℕ} {w : List ℕ} {rows : ℕ} {full : Bool} → d ≡ n → written w rows full ≡ emit n (written w₀ from false) (take n found) → Descended pool plan ends n d at own found w₀ from w rows full
 descended_leaf {pool} {n = n} {d} {found = found} {w₀} {from} {w} {rows} {full} e r = record {
   descends = λ ts q f s.
       let none : [] ≡ drop d (order_of q) = sym (drop_of_length-le (order_of q) (let h : length (order_of q) ≤ d = omega (arith, (sized s.based.accepted).permutation.size, s.based.size) in h)) in
       subst (λ (l : List ℕ). Descends n l (standings f (atoms_of pool ts q)) found (written w₀ from false) (written w rows full)) none
       (subst (Descends n [] (standings f (atoms_of pool ts q)) found (written w₀ from false)) (sym r) (leaf n (standings f (atoms_of pool ts q)) found (written w₀ from false)));
 }
+
+-- ---- a depth begins where the one above stands
+
+pub from_above : (p : List ℕ → List ℕ → Type 0) {at own above owned : List ℕ} → at ≡ above → own ≡ owned → p at own → p above owned
+from_above p {own = own} {above} e h x = subst (p above) h (subst (λ (a : List ℕ). p a own) e x)

@@ -9,10 +9,11 @@ use Rattle.join_query.specs.Query.{order_of, atoms_of}
 use Rattle.join_window.specs.Window.{written}
 use Rattle.join_query.specs.declared.Query.{Query}
 use Rattle.join_query.specs.declared.Tables.{Tables}
+use Rattle.join_plan.specs.Plan.{Plan}
 use Rattle.join_depths.specs.Depth.{Stands}
 
 -- what the descent leaves: the rows that complete `found` are emitted
-pub record Descended (pool plan ends : List ℕ) (n d : ℕ) (at own : List ℕ) (found : Row) (w₀ : List ℕ) (from : ℕ) (w : List ℕ) (rows : ℕ) (full : Bool) : Type 0 where
+pub record Descended (pool : List ℕ) (plan : Plan) (ends : List ℕ) (n d : ℕ) (at own : List ℕ) (found : Row) (w₀ : List ℕ) (from : ℕ) (w : List ℕ) (rows : ℕ) (full : Bool) : Type 0 where
   pub descends : (ts : Tables) (q : Query) (f : ℕ → Row) → Stands pool ts q plan ends n d at own f → Descends n (drop d (order_of q)) (standings f (atoms_of pool ts q)) found (written w₀ from false) (written w rows full)
 
 -- the definition's walk leaves the window so, and these seeks
@@ -21,6 +22,6 @@ pub record Counted (t : Tally) (s : Progress) (seeks : ℕ) : Type 0 where
   pub count : seeks ≡ capped t.seeks
 
 -- besides the rows, their seeks: those of the definition's walk
-pub record Completes (pool plan ends : List ℕ) (n d : ℕ) (at own : List ℕ) (found : Row) (w₀ : List ℕ) (from before : ℕ) (w : List ℕ) (rows : ℕ) (full : Bool) (seeks : ℕ) : Type 0 where
+pub record Completes (pool : List ℕ) (plan : Plan) (ends : List ℕ) (n d : ℕ) (at own : List ℕ) (found : Row) (w₀ : List ℕ) (from before : ℕ) (w : List ℕ) (rows : ℕ) (full : Bool) (seeks : ℕ) : Type 0 where
   pub descended : Descended pool plan ends n d at own found w₀ from w rows full
   pub counts : (ts : Tables) (q : Query) (f : ℕ → Row) → Stands pool ts q plan ends n d at own f → (m : ℕ) → before ≡ capped m → Counted (walk_of n (drop d (order_of q)) (standings f (atoms_of pool ts q)) found (record { progress = written w₀ from false; seeks = m })) (written w rows full) seeks

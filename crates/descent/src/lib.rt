@@ -1,118 +1,60 @@
-// Internal: every function asks something of its caller by a `requires`. The descent of a join whose query passed the checks, by the depths of
+// Internal: the function here asks something of its caller by a `requires`. The descent of a join whose query passed the checks, by the depths of
 // crates/join_depths.
 #![tactic(auto)]
 
-ghost use Rattle.std.specs.Prelude.{◌≡◌, false, ◌≤◌, length, take};
-ghost use Rattle.query.specs.Window.{emit};
-ghost use Rattle.join_query.specs.Query.{max_variables};
-ghost use Rattle.join_window.specs.Window.{written, Fits};
+ghost use Rattle.join_window.specs.Window.{Open, Kept};
 ghost use Rattle.join_depths.specs.Depth.{Standing};
 ghost use Rattle.descent.specs.Descent.{Completes};
 
 use join_depths::depth::{onward, open};
 use join_openings::Join;
-use join_plan::{COUNT, DEPTH_WORDS};
 use join_query::Query;
-use join_window::emit;
+use join_window::Window;
 use leapfrog_search::Landed;
 use query::MAX_ATOMS;
 use stretches::State;
 
-// How many rows the window holds, whether more exist than fit, and the number of seeks that the leapfrogs have made.
-#[derive(Clone, Copy)]
-pub struct Walked {
-    pub rows: usize,
-    pub full: bool,
-    pub seeks: u64,
-}
-
-// Writes a row that has all its words; nothing is sought for it.
-fn complete(
-    window: &mut [u64],
-    row: &[u64; Query::MAX_VARIABLES],
-    n: usize,
-    rows: usize,
-    seeks: u64,
-) -> Walked
-    requires n_le_max_variables { (n ≤ max_variables) × (n ≤ length row.now) }
-    requires fits { Fits n (length window.old) rows }
-    ensures { (written window.new result.rows result.full ≡ emit n (written window.old rows false) (take n row.now)) × (result.seeks ≡ seeks) }
-{
-    let w = emit(window, row, n, rows);
-    Walked {
-        rows: w.rows,
-        full: w.full,
-        seeks,
-    }
-}
-
-// Writes the rows that complete `found`, from depth `depth` on, behind the first `from`, until the window is full. The cursors' places come by value, with
-// the table that each is in, so those of the caller are as they were when it returns. At the last depth a row is written at once: a call for each would copy
-// three arrays and do nothing else.
+// Writes the rows that complete `found`, from depth `depth` on, behind those that the window holds, until it is full, and answers the seeks: those made before and its own. The
+// cursors' places come by value, with the table that each is in, so those of the caller are as they were when it returns. At the last depth a row is written at once: a call for
+// each would copy three arrays and do nothing else.
 pub fn descend(
     join: &Join,
-    window: &mut [u64],
+    window: &mut Window,
     depth: usize,
     above: [usize; MAX_ATOMS],
     owned: [usize; MAX_ATOMS],
     found: [u64; Query::MAX_VARIABLES],
-    from: usize,
     before: u64,
-) -> Walked
-    requires standing { Standing join.now.pool.now join.now.plan.now join.now.ends.now join.now.n depth above owned }
-    requires fits { Fits join.now.n (length window.old) from }
-    ensures { Completes join.now.pool.now join.now.plan.now join.now.ends.now join.now.n depth above owned found window.old from before window.new result.rows result.full result.seeks }
+) -> u64
+    requires standing { Standing join.now.leap.pool.now join.now.plan.now join.now.leap.ends.now join.now.n depth above owned }
+    requires ready { Open join.now.n window.old }
+    ensures kept { Kept window.old window.new }
+    ensures completes { Completes join.now.leap.pool.now join.now.plan.now join.now.leap.ends.now join.now.n depth above owned found window.old.words.now window.old.rows before window.new.words.now window.new.rows window.new.full result }
 {
     if depth == join.n {
-        return complete(window, &found, join.n, from, before);
+        window.emit(&found);
+        return before;
     }
-    let v = join.plan[DEPTH_WORDS * depth];
-    let k = join.plan[DEPTH_WORDS * depth + COUNT];
-    let mut state = State {
-        at: above,
-        end: [0; MAX_ATOMS],
-        own: owned,
-        left: [0; MAX_ATOMS],
-    };
+    let v = join.plan[depth].variable;
+    let k = join.plan[depth].count;
+    let mut state = State::begin(above, owned);
     let mut ring = [0usize; MAX_ATOMS];
     let mut by_atom = [0usize; MAX_ATOMS];
     let first = open(join, depth, &mut state, &mut ring, &mut by_atom, before);
     let mut landed = first.landed;
     let mut seeks = first.seeks;
     let mut row = found;
-    let mut rows = from;
-    loop {
-        let Landed::Key { key, p } = landed else {
-            return Walked {
-                rows,
-                full: false,
-                seeks,
-            };
-        };
+    while let Landed::Key { key, p } = landed {
         row[v] = key;
-        let below: Walked = if depth + 1 == join.n {
-            complete(window, &row, join.n, rows, seeks)
+        let below = if depth + 1 == join.n {
+            window.emit(&row);
+            seeks
         } else {
-            descend(
-                join,
-                window,
-                depth + 1,
-                state.at,
-                state.own,
-                row,
-                rows,
-                seeks,
-            )
+            descend(join, window, depth + 1, state.at, state.own, row, seeks)
         };
-        if below.full {
-            // by its fields: a copy of the whole takes the bytes between them along, which processors do slowly
-            return Walked {
-                rows: below.rows,
-                full: below.full,
-                seeks: below.seeks,
-            };
+        if window.full {
+            return below;
         }
-        rows = below.rows;
         let next = onward(
             join,
             &mut state,
@@ -121,9 +63,10 @@ pub fn descend(
             k,
             p,
             depth + 1 == join.n,
-            below.seeks,
+            below,
         );
         landed = next.landed;
         seeks = next.seeks;
     }
+    seeks
 }

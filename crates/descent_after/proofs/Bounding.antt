@@ -1,13 +1,12 @@
 -- The descent with a bound: its end, and one depth of it. Idea: the keys from the given row's word on are left; if the first is that word, the call below it lists what
 -- comes after the given row there, and no later key is that word, so the rest of the depth is walked without the bound.
-use Prim.Native.Nat.{ℕ, ◌+◌, ◌*◌, ◌≤◌, ◌<◌}
+use Prim.Native.Nat.{ℕ, ◌+◌, ◌≤◌, ◌<◌}
 use native.Mathlib.Omega.{arith}
-use native.Mathlib.Nat.{le-mul_of_pos_right}
 use mathlib.Core.Path.{◌≡◌, refl, sym, subst, ap, ◌∙◌}
 use mathlib.Core.Bool.{Bool, true, false}
 use mathlib.Core.Logic.{⊎_elim}
 use mathlib.Core.List.{List, [], ◌∷◌, ◌++◌, map, flat_map}
-use lib.ListN.{length, get_or, set, drop, length-set, drop_of_length-le}
+use lib.ListN.{length, get_or, set, drop, drop_of_length-le}
 use lib.Dec.{eqb}
 use borrow.Author.Tests.{ne_eqb}
 use Rattle.relation.specs.Order.{Row, pick}
@@ -30,11 +29,12 @@ use Rattle.leapfrog_join.proofs.Laws.{agreed_key}
 use Rattle.stretches.specs.Stand.{wholes_in}
 use Rattle.stretches.specs.declared.State.{State}
 use Rattle.stretches.specs.Whole.{WholeAgreed}
-use Rattle.join_query.specs.Query.{max_variables, order_of, atoms_of}
+use Rattle.join_query.specs.Query.{order_of, atoms_of}
 use Rattle.join_query.specs.declared.Query.{Query}
 use Rattle.join_query.specs.declared.Tables.{Tables}
 use Rattle.join_query.proofs.Accepted.{sized, tables}
-use Rattle.join_window.specs.Window.{written, Fits}
+use Rattle.join_plan.specs.Plan.{Plan}
+use Rattle.join_window.specs.Window.{written}
 use Rattle.join_openings.specs.Openings.{variable_at, count_at}
 use Rattle.join_depths.specs.Depth.{Stands, Standing, AgreedAt, IfFound, common_at, Steps}
 use Rattle.join_depths.proofs.Standing.{order_next, variable_is}
@@ -42,7 +42,7 @@ use Rattle.join_depths.proofs.Wholes.{whole_ready, whole_first, ready_wholes}
 use Rattle.descent.proofs.Walking.{first, rest, gained}
 use Rattle.rows_after.specs.Bounded.{extend_after, DescendsAfter}
 use Rattle.rows_after.proofs.Bounded.{common_ascend}
-use Rattle.rows_after.proofs.Walk.{ToGoAfter, leaf_after, after_fits, after_still, after_on, after_end, after_full, engine_after_start}
+use Rattle.rows_after.proofs.Walk.{ToGoAfter, leaf_after, after_still, after_on, after_end, after_full, engine_after_start}
 use Rattle.bounded_depth.specs.From.{DepthFrom}
 use Rattle.rest_of_depth.specs.Rest.{keys_at, KeysLeft, Underway, rows_under, Walks}
 use Rattle.rest_of_depth.proofs.Keys.{if_found, key_stands, key_rows, key_next}
@@ -50,12 +50,13 @@ use Rattle.descent_after.specs.Descent.{DescendedAfter}
 
 -- ---- no variable is left
 
-pub after_leaf : {pool plan ends : List ℕ} {n d : ℕ} {at own : List ℕ} {found given w : List ℕ} {rows : ℕ} → d ≡ n → DescendedAfter pool plan ends n d at own found given w rows w rows false
-after_leaf {pool} {n = n} {d} {found = found} {given} {w} {rows} e = record {
+pub after_leaf : {pool : List ℕ} {plan : Plan} {ends : List ℕ} {n d : ℕ} {at own : List ℕ} {found given w : List ℕ} {rows : ℕ} {full : Bool} → d ≡ n → full ≡ false → DescendedAfter pool plan ends n d at own found given w rows w rows full
+after_leaf {pool} {n = n} {d} {found = found} {given} {w} {rows} e t = record {
   descends = λ ts q f s.
       let none : [] ≡ drop d (order_of q) = sym (drop_of_length-le (order_of q) (let h : length (order_of q) ≤ d = omega (arith, (sized s.based.accepted).permutation.size, s.based.size) in h)) in
-      subst (λ (l : List ℕ). DescendsAfter n l (standings f (atoms_of pool ts q)) found given (written w rows false) (written w rows false)) none
-      (leaf_after n (standings f (atoms_of pool ts q)) found given (written w rows false));
+      subst (λ (b : Bool). DescendsAfter n (drop d (order_of q)) (standings f (atoms_of pool ts q)) found given (written w rows false) (written w rows b)) (sym t)
+      (subst (λ (l : List ℕ). DescendsAfter n l (standings f (atoms_of pool ts q)) found given (written w rows false) (written w rows false)) none
+      (leaf_after n (standings f (atoms_of pool ts q)) found given (written w rows false)));
 }
 
 -- ---- keys that are not the given row's word
@@ -78,7 +79,7 @@ module _ (n v : ℕ) (vs : List ℕ) (atoms : List Atom) (row given : Row) where
 
 -- ---- one depth, opened from the given row's word on
 
-module _ {pool plan ends : List ℕ} {n d : ℕ} {above owned : List ℕ} {z : State} {ring by_atom : List ℕ} (given : Row) {landed : Landed} (b : DepthFrom pool plan ends n d above owned z ring by_atom (get_or given (variable_at plan d) 0) landed) (st : Standing pool plan ends n d above owned) (below : d < n) where
+module _ {pool : List ℕ} {plan : Plan} {ends : List ℕ} {n d : ℕ} {above owned : List ℕ} {z : State} {ring by_atom : List ℕ} (given : Row) {landed : Landed} (b : DepthFrom pool plan ends n d above owned z ring by_atom (get_or given (variable_at plan d) 0) landed) (st : Standing pool plan ends n d above owned) (below : d < n) where
   -- of one query
   module _ {ts : Tables} {q : Query} {f : ℕ → Row} (s : Stands pool ts q plan ends n d above owned f) where
     abbrev atoms : List Atom
@@ -110,11 +111,12 @@ module _ {pool plan ends : List ℕ} {n d : ℕ} {above owned : List ℕ} {z : S
     ends_so {found} {s₀} {t} e = subst (λ (l : List ℕ). DescendsAfter n l atoms found given s₀ t) (sym (order_next s.based below)) e
 
   -- no key is left
-  pub after_none : {found w₀ : List ℕ} {from₀ p : ℕ} → landed ≡ Nothing p → DescendedAfter pool plan ends n d above owned found given w₀ from₀ w₀ from₀ false
-  after_none {found} {w₀} {from₀} e = record {
+  pub after_none : {found w₀ : List ℕ} {from₀ p : ℕ} → landed ≡ Nothing p → {full : Bool} → full ≡ false → DescendedAfter pool plan ends n d above owned found given w₀ from₀ w₀ from₀ full
+  after_none {found} {w₀} {from₀} e t = record {
     descends = λ ts q f s.
-        ends_so s (after_end n (first q d) (rest q d) (atoms s) found given (written w₀ from₀ false)
-        (after_still n (first q d) (rest q d) (atoms s) found given (written w₀ from₀ false) (ap (keys_at pool plan ends d z by_atom) e) (starts s found (written w₀ from₀ false))));
+        subst (λ (b : Bool). DescendsAfter n (drop d (order_of q)) (atoms s) found given (written w₀ from₀ false) (written w₀ from₀ b)) (sym t)
+        (ends_so s (after_end n (first q d) (rest q d) (atoms s) found given (written w₀ from₀ false)
+        (after_still n (first q d) (rest q d) (atoms s) found given (written w₀ from₀ false) (ap (keys_at pool plan ends d z by_atom) e) (starts s found (written w₀ from₀ false)))));
   }
 
   -- a key is found
@@ -193,13 +195,6 @@ module _ {pool plan ends : List ℕ} {n d : ℕ} {above owned : List ℕ} {z : S
       -- the window is full
       pub after_filled : full₁ ≡ true → DescendedAfter pool plan ends n d above owned found given w₀ from₀ w₁ rows₁ full₁
       after_filled t = record { descends = λ ts q f s. ends_so s (after_full n (first q d) (rest q d) (atoms s) found given (written w₀ from₀ false) (gone s (whole_first a)) t) }
-
-      pub after_fitting : length found ≡ max_variables → Fits n (length w₀) from₀ → Fits n (length w₁) rows₁
-      after_fitting long h =
-          let g = st.stands.based in
-          let k = after_fits (r.descends st.tables st.query (gained st.query d st.words x) (key_stands (found_left st.stands) a)) (omega (arith, length-set found (variable_at plan d) x, long, (sized g.accepted).few, g.size)) h.inside in
-          let c : rows₁ ≤ rows₁ * n = le-mul_of_pos_right rows₁ (let l : 1 ≤ n = omega (arith, below) in l) in
-          record { inside = omega (arith, k.0, k.1); few = omega (arith, c, k.0, k.1) }
 
       -- the rest is walked
       pub after_rest : {z' : State} {landed' : Landed} → Steps pool ends by_atom (count_at plan d) z z' (key_at pool z.at (get_or by_atom 0 0)) landed' → full₁ ≡ false → {w : List ℕ} {rows : ℕ} {full : Bool} → Walks pool plan ends n d z' by_atom landed' found w₁ rows₁ w rows full → DescendedAfter pool plan ends n d above owned found given w₀ from₀ w rows full

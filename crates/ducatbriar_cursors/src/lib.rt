@@ -11,9 +11,9 @@ ghost use Rattle.strategy_word.specs.Strategy.{strategy_of};
 use column_trie::ColumnTrie;
 use column_trie_iter::{EndAnswer, KeyAnswer, NextAnswer, OpenAnswer, SeekAnswer, UpAnswer};
 use column_trie_place::ColumnTrieIter;
+use laid_iter::LaidIter;
 use overlay_iter::{LaidNextAnswer, LaidOpenAnswer, LaidSeekAnswer, LaidUpAnswer};
 use overlay_lookup::LookedUp;
-use overlay_place::LaidIter;
 use strategy_word::strategy_of;
 
 #[unsafe(no_mangle)]

@@ -64,7 +64,7 @@ pub extern "C" fn ducatbriar_empty(start: usize, arity: usize, capacity: usize) 
 pub extern "C" fn ducatbriar_undamaged(pool: &[u64], table: ColumnTrie) -> bool
     ensures { result ≡ undamaged pool.now table }
 {
-    column_trie::undamaged(pool, table)
+    sound_table::undamaged(pool, table)
 }
 
 // The kinds of a table's columns, as its header has them: C passes no array by value.
@@ -89,7 +89,7 @@ pub extern "C" fn ducatbriar_build(
     column_trie_build::build(rows, pool, start, arity, capacity, grade)
 }
 
-// The numbers of a table's columns in their new sequence.
+// The numbers of a table's columns in their new sequence: C passes no array by value.
 #[repr(C)]
 #[derive(Clone, Copy)]
 pub struct Columns {

@@ -4,48 +4,29 @@ use mathlib.Core.Path.{◌≡◌, refl, sym, ap, ap₂, ◌∙◌}
 use mathlib.Core.List.{List, [], ◌∷◌, ◌++◌, append_assoc}
 use native.Mathlib.Omega.{arith}
 use native.Mathlib.Numerals.{add-one}
-use lib.ListN.{length, take, drop, get_or, set, length-take}
+use lib.ListN.{length, take, drop, get_or, set}
 use lib.Seq.{drop-drop, get_or-take, take-suc-set, sets-eq}
 use borrow.Rule.Slice.PartMut.{put_mid}
-use Rattle.std.specs.Int.{w64, to_be_bytes}
+use Rattle.std.specs.Int.{w16, w64, to_be_bytes, from_be_bytes}
 use Rattle.std.proofs.lemmas.Slice.{put_mid-paste}
 use Rattle.std.proofs.lemmas.List.Edits.{paste_all}
 use Rattle.column_trie.specs.Pool.{lay}
-use Rattle.table_file.specs.Bytes.{bytes_of, number, decode, Bytes}
-use Rattle.table_file.proofs.Numbers.{top, number_top, bytes_drop}
+use Rattle.table_file.specs.Bytes.{bytes_of, number, decode}
 
-pub number_none : (bs : List ℕ) → number 0 bs ≡ 0
+-- the library's numbers of bytes are ours
+pub word_2 : (bs : List ℕ) → from_be_bytes w16 (get_or bs 0 0 ∷ (get_or bs 1 0 ∷ [])) ≡ number 2 bs
 unfolding number
-number_none bs = refl
+word_2 bs = omega arith
 
-pub number_more : (i : ℕ) (bs : List ℕ) → number (i + 1) bs ≡ number i bs * 256 + get_or bs i 0
+pub word_8 : (bs : List ℕ) → from_be_bytes w64 bs ≡ number 8 bs
 unfolding number
-number_more i bs = ap (λ (k : ℕ). number k bs) (add-one i)
+word_8 bs = omega arith
 
 -- the bytes of a part of no fewer than n
 pub number_part : (n m : ℕ) (bs : List ℕ) → n ≤ m → number n (take m bs) ≡ number n bs
 unfolding number
 number_part zero m bs h = refl
 number_part (suc n) m bs h = omega (arith, number_part n m bs (omega arith), get_or-take m bs n 0 (omega arith))
-
-top_more : (i : ℕ) → i < 8 → top i * 256 ≤ 18446744073709551616
-unfolding top
-top_more zero h = omega arith
-top_more (suc zero) h = omega arith
-top_more (suc (suc zero)) h = omega arith
-top_more (suc (suc (suc zero))) h = omega arith
-top_more (suc (suc (suc (suc zero)))) h = omega arith
-top_more (suc (suc (suc (suc (suc zero))))) h = omega arith
-top_more (suc (suc (suc (suc (suc (suc zero)))))) h = omega arith
-top_more (suc (suc (suc (suc (suc (suc (suc zero))))))) h = omega arith
-top_more (suc (suc (suc (suc (suc (suc (suc (suc i)))))))) h = absurd (omega arith)
-
--- at each byte of a part of eight or fewer: a word has room for that byte too
-pub number_fits : (k i at : ℕ) (bs : List ℕ) → Bytes bs → k ≤ 8 → i < length (take k (drop at bs)) → number i (take k (drop at bs)) * 256 + get_or (take k (drop at bs)) i 0 < 18446744073709551616
-number_fits k i at bs b h j =
-    let short : i < k = omega (arith, length-take k (drop at bs)) in
-    let byte : get_or (take k (drop at bs)) i 0 < 256 = omega (arith, get_or-take k (drop at bs) i 0 short, bytes_drop at bs b i) in
-    omega (arith, byte, number_part i k (drop at bs) (omega arith), number_top i (drop at bs) (bytes_drop at bs b), top_more i (omega arith))
 
 -- the library's bytes of a word are ours
 pub word_bytes : (w : ℕ) → to_be_bytes w64 w ≡ bytes_of 8 w
@@ -80,8 +61,8 @@ pub none_read : (row bs : List ℕ) → take 0 row ≡ decode 0 bs
 unfolding decode
 none_read row bs = refl
 
-pub word_read : (row : List ℕ) (w : ℕ) (bytes : List ℕ) (at k : ℕ) → k < length row → take k row ≡ decode k (drop at bytes) → w ≡ number 8 (drop (at + 8 * k) bytes) → take (k + 1) (set row k w) ≡ decode (k + 1) (drop at bytes)
-word_read row w bytes at k h e q =
+pub word_read : (row : List ℕ) (w : ℕ) (bytes : List ℕ) (k : ℕ) → k < length row → take k row ≡ decode k bytes → w ≡ number 8 (drop (8 * k) bytes) → take (k + 1) (set row k w) ≡ decode (k + 1) bytes
+word_read row w bytes k h e q =
     ap (λ (n : ℕ). take n (set row k w)) (add-one k) ∙ take-suc-set row k w h ∙
-    ap₂ {C = List ℕ} (λ (l : List ℕ) (x : ℕ). l ++ (x ∷ [])) e (q ∙ ap (number 8) (sym (drop-drop (8 * k) at bytes))) ∙
-    sym (ap (λ (n : ℕ). decode n (drop at bytes)) (add-one k) ∙ decode_snoc k (drop at bytes))
+    ap₂ {C = List ℕ} (λ (l : List ℕ) (x : ℕ). l ++ (x ∷ [])) e q ∙
+    sym (ap (λ (n : ℕ). decode n bytes) (add-one k) ∙ decode_snoc k bytes)

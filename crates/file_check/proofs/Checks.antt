@@ -8,7 +8,7 @@ use native.Mathlib.Omega.{arith}
 use native.Mathlib.Nat.{div-add-mod', suc-mul}
 use lib.ListN.{length, take, drop, get_or, length-append, length-drop, take-append-drop}
 use lib.Dec.{eqb}
-use lib.Seq.{get_or-drop, drop-drop, drop-cons, take_all}
+use lib.Seq.{drop-drop, drop-cons, take_all}
 use borrow.Author.Tests.{eqb-true, eq-eqb}
 use Rattle.std.specs.Prelude.{Some, None}
 use Rattle.std.proofs.lemmas.Option.{none-some, same_Some}
@@ -171,53 +171,34 @@ module _ (a : ℕ) (pos : 0 < a) (bs : List ℕ) (b : Bytes bs) where
         omega (arith, n, not_empty_rows (rows_here a bs) (tests a pos bs h).1),
       )
 
--- ---- at a place of the bytes
+-- ---- by the length that the code has read
 
-module _ (a : ℕ) (pos : 0 < a) (bytes : List ℕ) (at : ℕ) (b : Bytes bytes) where
-  bd : Bytes (drop at bytes)
-  bd = bytes_drop at bytes b
+module _ (a : ℕ) (pos : 0 < a) (bs : List ℕ) (b : Bytes bs) where
+  pub at_short : length bs < 3 → field_rows a bs ≡ None
+  at_short h = rows_bad a pos bs b (λ g. omega (arith, g.long))
 
-  said_at : number 2 (drop 1 (drop at bytes)) ≡ number 2 (drop (at + 1) bytes)
-  said_at = ap (number 2) (drop-drop 1 at bytes)
+  pub at_tag : (get_or bs 0 0 ≡ 2 → ⊥) → field_rows a bs ≡ None
+  at_tag h = rows_bad a pos bs b (λ g. h g.tag)
 
-  tag_at : get_or (drop at bytes) 0 0 ≡ get_or bytes at 0
-  tag_at = get_or-drop at bytes 0 0 ∙ ap (λ (k : ℕ). get_or bytes k 0) (let e : at + 0 ≡ at = omega arith in e)
+  module _ (n : ℕ) (e : n ≡ number 2 (drop 1 bs)) where
+    pub at_empty : n ≡ 0 → field_rows a bs ≡ None
+    at_empty h = rows_empty a pos bs b (sym e ∙ h)
 
-  pub at_short : length bytes - at < 3 → field_rows a (drop at bytes) ≡ None
-  at_short h = rows_bad a pos (drop at bytes) bd (λ g. omega (arith, g.long, length-drop at bytes))
+    pub at_part : (n % (8 * a) ≡ 0 → ⊥) → field_rows a bs ≡ None
+    at_part h = rows_bad a pos bs b (λ g. h (ap (λ (k : ℕ). k % (8 * a)) e ∙ g.whole))
 
-  pub at_tag : (get_or bytes at 0 ≡ 2 → ⊥) → field_rows a (drop at bytes) ≡ None
-  at_tag h = rows_bad a pos (drop at bytes) bd (λ g. h (sym tag_at ∙ g.tag))
+    pub at_long : length bs - 3 < n → field_rows a bs ≡ None
+    at_long h = rows_bad a pos bs b (λ g. omega (arith, g.long))
 
-  module _ (n : ℕ) (e : n ≡ number 2 (drop (at + 1) bytes)) where
-    pub at_empty : n ≡ 0 → field_rows a (drop at bytes) ≡ None
-    at_empty h = rows_empty a pos (drop at bytes) bd (said_at ∙ sym e ∙ h)
+    count : n / (8 * a) ≡ number 2 (drop 1 bs) / (8 * a)
+    count = ap (λ (k : ℕ). k / (8 * a)) e
 
-    pub at_part : (n % (8 * a) ≡ 0 → ⊥) → field_rows a (drop at bytes) ≡ None
-    at_part h = rows_bad a pos (drop at bytes) bd (λ g. h (ap (λ (k : ℕ). k % (8 * a)) (e ∙ sym said_at) ∙ g.whole))
+    more : same (drop (3 + n) bs) end ≡ same (drop (3 + number 2 (drop 1 bs)) bs) end
+    more = ap (λ (k : ℕ). same (drop (3 + k) bs) end) e
 
-    pub at_long : length bytes - at - 3 < n → field_rows a (drop at bytes) ≡ None
-    at_long h = rows_bad a pos (drop at bytes) bd (λ g. omega (arith, g.long, length-drop at bytes, said_at))
+    pub at_none : (n / (8 * a) ≡ per_field a → ⊥) → same (drop (3 + n) bs) end ≡ false → field_rows a bs ≡ None
+    at_none h k = rows_bad a pos bs b (λ g. ⊎_elim (λ x. h (count ∙ x)) (λ x. not_both (same (drop (3 + n) bs) end) (more ∙ x) k) g.last)
 
-    more : drop (3 + number 2 (drop 1 (drop at bytes))) (drop at bytes) ≡ drop (at + 3 + n) bytes
-    more = drop-drop (3 + number 2 (drop 1 (drop at bytes))) at bytes ∙ ap (λ (k : ℕ). drop k bytes) (let q : at + (3 + number 2 (drop 1 (drop at bytes))) ≡ at + 3 + n = omega (arith, said_at) in q)
-
-    count : number 2 (drop 1 (drop at bytes)) / (8 * a) ≡ n / (8 * a)
-    count = ap (λ (k : ℕ). k / (8 * a)) (said_at ∙ sym e)
-
-    pub at_none : (n / (8 * a) ≡ 65535 / (8 * a) → ⊥) → same (drop (at + 3 + n) bytes) end ≡ false → field_rows a (drop at bytes) ≡ None
-    unfolding per_field
-    at_none h k = rows_bad a pos (drop at bytes) bd (λ g. ⊎_elim (λ (x : number 2 (drop 1 (drop at bytes)) / (8 * a) ≡ per_field a). h (sym count ∙ x)) (λ (x : same (drop (3 + number 2 (drop 1 (drop at bytes))) (drop at bytes)) end ≡ true). not_both (same (drop (at + 3 + n) bytes) end) (subst (λ (l : List ℕ). same l end ≡ true) more x) k) g.last)
-
-    pub at_some : get_or bytes at 0 ≡ 2 → 0 < n → n % (8 * a) ≡ 0 → 3 ≤ length bytes - at → n ≤ length bytes - at - 3 → (n / (8 * a) ≡ 65535 / (8 * a)) ⊎ (same (drop (at + 3 + n) bytes) end ≡ true) → field_rows a (drop at bytes) ≡ Some (n / (8 * a))
-    unfolding per_field
+    pub at_some : get_or bs 0 0 ≡ 2 → 0 < n → n % (8 * a) ≡ 0 → 3 ≤ length bs → n ≤ length bs - 3 → (n / (8 * a) ≡ per_field a) ⊎ (same (drop (3 + n) bs) end ≡ true) → field_rows a bs ≡ Some (n / (8 * a))
     at_some t s w l m o =
-        rows_good a pos (drop at bytes) bd
-        (record {
-          tag = tag_at ∙ t;
-          whole = ap (λ (k : ℕ). k % (8 * a)) (said_at ∙ sym e) ∙ w;
-          long = omega (arith, length-drop at bytes, said_at);
-          last = ⊎_elim (λ (x : n / (8 * a) ≡ 65535 / (8 * a)). inl (count ∙ x)) (λ (x : same (drop (at + 3 + n) bytes) end ≡ true). inr (subst (λ (l : List ℕ). same l end ≡ true) (sym more) x)) o;
-        })
-        (omega (arith, said_at))
-        ∙ ap Some count
+        rows_good a pos bs b (record { tag = t; whole = ap (λ (k : ℕ). k % (8 * a)) (sym e) ∙ w; long = omega arith; last = ⊎_elim (λ x. inl (sym count ∙ x)) (λ x. inr (sym more ∙ x)) o }) (omega arith) ∙ ap Some (sym count)

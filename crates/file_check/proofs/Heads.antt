@@ -89,26 +89,23 @@ module _ (bs : List ℕ) (b : Bytes bs) where
   unfolding head bytes_of
   head_long h = omega (arith, ap length (begins_true (head arity kinds) bs (head_tests arity kinds bs h).3))
 
-  head_first : head_ok arity kinds bs ≡ true → number 3 bs ≡ 65537
-  unfolding head bytes_of number
-  head_first h = ap (number 3) (begins_true (head arity kinds) bs (head_tests arity kinds bs h).3)
+  head_first : head_ok arity kinds bs ≡ true → take 3 bs ≡ 1 ∷ (0 ∷ (1 ∷ []))
+  unfolding head bytes_of
+  head_first h = ap (take 3) (begins_true (head arity kinds) bs (head_tests arity kinds bs h).3)
 
   pub no_short : length bs < 4 → head_len bs ≡ None
   no_short h = len_none (λ k. omega (arith, head_long k))
 
-  pub no_first : (number 3 (drop 0 bs) ≡ 65537 → ⊥) → head_len bs ≡ None
+  pub no_first : (take 3 bs ≡ 1 ∷ (0 ∷ (1 ∷ [])) → ⊥) → head_len bs ≡ None
   no_first n = len_none (λ k. n (head_first k))
 
   pub no_arity : arity_ok arity ≡ false → head_len bs ≡ None
   no_arity h = len_none (λ k. not_both (arity_ok arity) (head_tests arity kinds bs k).0 h)
 
-  front : 4 ≤ length bs → number 3 bs ≡ 65537 → bs ≡ 1 ∷ (0 ∷ (1 ∷ (arity ∷ drop 4 bs)))
-  unfolding bytes_of
-  front l h =
-      let t : bytes_of 3 65537 ≡ take 3 bs = ap (bytes_of 3) (sym h) ∙ bytes_number 3 bs b (omega arith) in
-      sym (take-append-drop 3 bs) ∙ ap₂ {C = List ℕ} ◌++◌ (sym t) (drop-cons bs 3 0 (omega arith))
+  front : 4 ≤ length bs → take 3 bs ≡ 1 ∷ (0 ∷ (1 ∷ [])) → bs ≡ 1 ∷ (0 ∷ (1 ∷ (arity ∷ drop 4 bs)))
+  front l h = sym (take-append-drop 3 bs) ∙ ap₂ {C = List ℕ} ◌++◌ h (drop-cons bs 3 0 (omega arith))
 
-  pub plain_head : 4 ≤ length bs → number 3 (drop 0 bs) ≡ 65537 → arity_ok arity ≡ true → (get_or bs 4 0 ≡ 4 → ⊥) → head_len bs ≡ Some 4
+  pub plain_head : 4 ≤ length bs → take 3 bs ≡ 1 ∷ (0 ∷ (1 ∷ [])) → arity_ok arity ≡ true → (get_or bs 4 0 ≡ 4 → ⊥) → head_len bs ≡ Some 4
   plain_head l h p n =
       let e : kinds ≡ replicate arity false = kinds_plain arity bs n in
       let g : graded kinds ≡ false = ap graded e ∙ no_grades arity in
@@ -153,7 +150,7 @@ module _ (bs : List ℕ) (b : Bytes bs) where
         go false true h e = h
         go false false h e = e
 
-    pub graded_head : number 3 (drop 0 bs) ≡ 65537 → arity_ok arity ≡ true → 7 + arity ≤ length bs → number 2 (drop 5 bs) ≡ arity → kinds_ok kb ≡ true → head_len bs ≡ Some (7 + arity)
+    pub graded_head : take 3 bs ≡ 1 ∷ (0 ∷ (1 ∷ [])) → arity_ok arity ≡ true → 7 + arity ≤ length bs → number 2 (drop 5 bs) ≡ arity → kinds_ok kb ≡ true → head_len bs ≡ Some (7 + arity)
     unfolding kinds_ok
     graded_head h p l s k =
         let m : kb ≡ map kind_byte (ones kb) = same_is kb (map kind_byte (ones kb)) (and_left (same kb (map kind_byte (ones kb))) (graded (ones kb)) k) in

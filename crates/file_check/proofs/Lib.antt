@@ -1,4 +1,4 @@
-pub mod Ends
+pub mod Same
 pub mod Checks
 pub mod Counts
 pub mod Heads

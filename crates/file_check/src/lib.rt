@@ -1,7 +1,7 @@
 // Whether bytes are a table file, as `parse` says (internal). For the reader, which asks it of the whole text before it writes a word.
 #![tactic(auto)]
 
-ghost use Rattle.std.specs.Prelude.{◌≡◌, ◌+◌, ◌*◌, ◌≤◌, ◌<◌, length, take, drop};
+ghost use Rattle.std.specs.Prelude.{◌≡◌, ◌+◌, ◌*◌, ◌≤◌, ◌<◌, length, drop};
 ghost use Rattle.relation.specs.Rows.{same};
 ghost use Rattle.table_file.specs.Bytes.{Bytes};
 ghost use Rattle.table_file.specs.File.{end, ascending, parse};
@@ -9,22 +9,19 @@ ghost use Rattle.table_file.specs.Places.{place};
 ghost use Rattle.file_check.specs.Checks.{field_rows, counted, kinds_ok, head_len, given, rows_from, HasRows, checked};
 
 use column_trie::arity_ok;
-use file_bytes::{read_number, read_row};
+use file_bytes::{Tag, per_field, read_len, read_row};
 
-// Whether the file ends at `at`.
-fn ends_at(bytes: &[u8], at: usize) -> bool
-    requires { at ≤ length bytes.now }
-    ensures { result ≡ same (drop at bytes.now) end }
+// Whether the end of a file is all that is left.
+fn ends(rest: &[u8]) -> bool
+    ensures { result ≡ same rest.now end }
 {
-    bytes[at..] == [3, 0, 0]
+    rest[..] == [Tag::End.byte(), 0, 0]
 }
 
-// Whether the n bytes at `at` are kinds, not all plain.
-fn kinds_at(bytes: &[u8], at: usize, n: usize) -> bool
-    requires { at + n ≤ length bytes.now }
-    ensures { result ≡ kinds_ok (take n (drop at bytes.now)) }
+// Whether the bytes are kinds, not all plain.
+fn kinds_ok(kinds: &[u8]) -> bool
+    ensures { result ≡ kinds_ok kinds.now }
 {
-    let kinds = &bytes[at..at + n];
     kinds.iter().all(|&kind| kind <= 1) && kinds.iter().any(|&kind| kind == 1)
 }
 
@@ -32,20 +29,20 @@ fn kinds_at(bytes: &[u8], at: usize, n: usize) -> bool
 fn head_len(bytes: &[u8]) -> Option<usize>
     ensures { result ≡ head_len bytes.now }
 {
-    if bytes.len() < 4 || read_number(bytes, 0, 3) != 65537 {
+    if bytes.len() < 4 || bytes[..3] != [Tag::Arity.byte(), 0, 1] {
         return None;
     }
     let arity = usize::from(bytes[3]);
     if !arity_ok(arity) {
         return None;
     }
-    if bytes.len() < 5 || bytes[4] != 4 {
+    if bytes.len() < 5 || bytes[4] != Tag::Kinds.byte() {
         return Some(4);
     }
-    if bytes.len() < 7 + arity || read_number(bytes, 5, 2) != arity as u64 {
+    if bytes.len() < 7 + arity || read_len(&bytes[5..]) != arity {
         return None;
     }
-    if kinds_at(bytes, 7, arity) {
+    if kinds_ok(&bytes[7..7 + arity]) {
         Some(7 + arity)
     } else {
         None
@@ -57,9 +54,7 @@ pub fn row_place(at: usize, arity: usize, i: usize) -> usize
     requires { (0 < arity) × (arity ≤ 8) × (at + place arity i < 18446744073709551616) }
     ensures { result ≡ at + place arity i }
 {
-    let size = 8 * arity;
-    let m = 65535 / size;
-    let field = i / m;
+    let field = i / per_field(arity);
     at + (3 * (field + 1) + 8 * (i * arity))
 }
 
@@ -82,17 +77,18 @@ impl<'a> Body<'a> {
         requires { p ≤ length self.now.bytes.now }
         ensures { result ≡ field_rows self.now.arity (drop p self.now.bytes.now) }
     {
-        let bytes = self.bytes;
-        if bytes.len() - p < 3 || bytes[p] != 2 {
+        let field = &self.bytes[p..];
+        if field.len() < 3 || field[0] != Tag::Rows.byte() {
             return None;
         }
         let size = 8 * self.arity;
-        let len = read_number(bytes, p + 1, 2) as usize;
-        if len == 0 || len % size != 0 || bytes.len() - p - 3 < len {
+        let len = read_len(&field[1..]);
+        if len == 0 || len % size != 0 || field.len() - 3 < len {
             return None;
         }
         let n = len / size;
-        if n == 65535 / size || ends_at(bytes, p + 3 + len) {
+        let full = n == per_field(self.arity);
+        if full || ends(&field[3 + len..]) {
             Some(n)
         } else {
             None
@@ -105,7 +101,8 @@ impl<'a> Body<'a> {
     {
         let mut p = self.at;
         let mut n = 0;
-        while !ends_at(self.bytes, p) {
+        // No index is counted: it goes on, a field at a time, until the end is met.
+        while !ends(&self.bytes[p..]) {
             let k = self.rows_at(p)?;
             p += 3 + 8 * (k * self.arity);
             n += k;
@@ -123,10 +120,10 @@ impl<'a> Body<'a> {
         }
         let arity = self.arity;
         let first = row_place(self.at, arity, 0);
-        let mut last = read_row(self.bytes, first, arity);
+        let mut last = read_row(&self.bytes[first..], arity);
         for i in 1..n {
             let place = row_place(self.at, arity, i);
-            let row = read_row(self.bytes, place, arity);
+            let row = read_row(&self.bytes[place..], arity);
             let rises = last[..arity] < row[..arity];
             if !rises {
                 return false;

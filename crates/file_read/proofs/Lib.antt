@@ -1,4 +1,3 @@
 pub mod Numbers
 pub mod Outcomes
 mod Grades
-pub mod Strict

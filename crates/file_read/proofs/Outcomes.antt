@@ -8,7 +8,7 @@ use lib.ListN.{length, get_or}
 use Rattle.std.specs.Prelude.{Option, Some, None}
 use Rattle.std.proofs.lemmas.Option.{none-some, same_Some}
 use Rattle.relation.specs.Order.{Row}
-use Rattle.relation.specs.Rows.{Sorted, Asc, Width, as_set}
+use Rattle.relation.specs.Rows.{Sorted, Width, as_set}
 use Rattle.relation.specs.Layers.{layers_of}
 use Rattle.relation.proofs.Sorting.{sort_sorted, sort_asc, as_set_is}
 use Rattle.column_trie.specs.Pool.{store}
@@ -100,7 +100,6 @@ module _ {bytes : List ℕ} {len start capacity : ℕ} (a : Accepted bytes len s
             (record { inside = (file_row a.table i h).inside; is = file_row_read a.table i h }));
         fill = subst (Filling len vacant) (sym rows_are) filling;
         width = subst (Width file.arity) (sym rows_are) a.table.width;
-        asc = subst Asc (sym rows_are) a.table.asc;
       }
 
   pub loading : {c : Checked} {t : ColumnTrie} → Some c ≡ checked (parse bytes) → t ≡ vacant → Loading bytes c.body c.rows len t

@@ -1,7 +1,7 @@
 -- Internal: what the steps of a read answer and ask.
 use Rattle.std.specs.Prelude.{ℕ, ◌+◌, ◌*◌, ◌≤◌, ◌<◌, ◌≡◌, List, [], length, drop, get_or, Option, Some, None}
 use Rattle.relation.specs.Order.{Row}
-use Rattle.relation.specs.Rows.{Asc, Width}
+use Rattle.relation.specs.Rows.{Width}
 use Rattle.column_trie.specs.Limits.{max_arity}
 use Rattle.column_trie.specs.declared.ColumnTrie.{ColumnTrie}
 use Rattle.from_sorted.specs.Push.{Filling}
@@ -25,7 +25,6 @@ pub record Loading (bytes : List ℕ) (at n len : ℕ) (t : ColumnTrie) : Type 0
   pub lies : (i : ℕ) → i < n → RowAt bytes at t.arity i (get_or (rows_found (parse bytes)) i [])
   pub fill : Filling len t (rows_found (parse bytes))
   pub width : Width t.arity (rows_found (parse bytes))
-  pub asc : Asc (rows_found (parse bytes))
 
 -- the kinds of a file are there to be read
 pub record HasKinds (bytes : List ℕ) (arity : ℕ) : Type 0 where

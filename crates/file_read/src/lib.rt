@@ -15,9 +15,9 @@ ghost use Rattle.file_read.specs.Load.{rows_found, Loading, HasKinds};
 ghost use Rattle.file_read.specs.Read.{read_number, Reads};
 
 use column_trie::{ColumnTrie, capacity_ok, lies_in};
-use file_bytes::read_row;
+use file_bytes::{Tag, read_row};
 use file_check::{Checked, check, row_place};
-use from_sorted::{Built, Lengths, common_prefix_len};
+use from_sorted::{Built, Lengths};
 use refusal::Refusal;
 
 // What file the bytes are, if a pool of `len` words has room for a table of it; else the first check that refuses.
@@ -46,7 +46,7 @@ fn read_kinds(bytes: &[u8], arity: usize) -> [bool; ColumnTrie::MAX_ARITY]
     ensures { result ≡ kept_kinds arity (kinds_read arity bytes.now) }
 {
     let mut grade: [bool; ColumnTrie::MAX_ARITY] = [false; ColumnTrie::MAX_ARITY];
-    if bytes[4] != 4 {
+    if bytes[4] != Tag::Kinds.byte() {
         return grade;
     }
     for d in 0..arity {
@@ -55,24 +55,23 @@ fn read_kinds(bytes: &[u8], arity: usize) -> [bool; ColumnTrie::MAX_ARITY]
     grade
 }
 
-// Fills the empty table t with the n rows of the file, whose fields of rows begin at `at`. The lengths are kept beside the header until the end, as in a build.
-fn load(bytes: &[u8], at: usize, n: usize, pool: &mut [u64], t: ColumnTrie) -> ColumnTrie
-    requires { Loading bytes.now at n (length pool.old) t }
+// Fills the empty table t with the rows of the file that the bytes are. The lengths are kept beside the header until the end, as in a build.
+fn load(bytes: &[u8], file: Checked, pool: &mut [u64], t: ColumnTrie) -> ColumnTrie
+    requires { Loading bytes.now file.body file.rows (length pool.old) t }
     ensures { Fills pool.old t (rows_found (parse bytes.now)) pool.new result }
 {
-    if n == 0 {
+    if file.rows == 0 {
         return t;
     }
     let arity = t.arity;
     let mut lengths = Lengths::of(t);
-    let first = row_place(at, arity, 0);
-    let mut last = read_row(bytes, first, arity);
+    let first = row_place(file.body, arity, 0);
+    let mut last = read_row(&bytes[first..], arity);
     lengths.append_row(pool, t, &last, 0, 0);
-    for i in 1..n {
-        let place = row_place(at, arity, i);
-        let row = read_row(bytes, place, arity);
-        let d = common_prefix_len(&last, &row, arity);
-        lengths.append_row(pool, t, &row, d, d + 1);
+    for i in 1..file.rows {
+        let place = row_place(file.body, arity, i);
+        let row = read_row(&bytes[place..], arity);
+        lengths.append_next(pool, t, &last, &row);
         last = row;
     }
     lengths.filled(t)
@@ -84,15 +83,10 @@ pub fn read(bytes: &[u8], pool: &mut [u64], start: usize, capacity: usize) -> Bu
 {
     let file = match readable(bytes, pool.len(), start, capacity) {
         Ok(file) => file,
-        Err(refused) => {
-            return Built {
-                number: refused.number(),
-                table: ColumnTrie::empty(0, 0, 0),
-            };
-        }
+        Err(refused) => return Built::refused(refused),
     };
     let mut empty = ColumnTrie::empty(start, file.arity, capacity);
     empty.grade = read_kinds(bytes, file.arity);
-    let table = load(bytes, file.body, file.rows, pool, empty);
+    let table = load(bytes, file, pool, empty);
     Built { number: 0, table }
 }

@@ -168,7 +168,7 @@ module _ {pool : List ℕ} {t : ColumnTrie} (o : Whole t) (s : undamaged pool t 
     next_few = per_fits t.arity u.arity.0 n (omega arith)
 
     pub next_asked : at + length (fields_in pool t) ≤ length bytes → Putting pool t path i n (p + 3) (length bytes')
-    next_asked r = record { sound = s; there = next_there; before = l.before; fits = omega (arith, next_room r, fields_kept) }
+    next_asked r = record { there = next_there; before = l.before; fits = omega (arith, next_room r, fields_kept) }
 
     pub next_laid : {bytes'' path' : List ℕ} → RowsPut pool t (i + n - 1) bytes' p (rows_field (take n (drop i rows))) bytes'' path' → FieldsLaid pool t bytes at bytes'' path' (p + (3 + 8 * (n * t.arity))) (i + n)
     next_laid r =

@@ -1,6 +1,7 @@
 -- The rows of an undamaged table: how many, how long, and the room that they take; rows laid one behind the other.
 use Prim.Native.Nat.{ℕ, ◌+◌, ◌*◌, ◌-◌, ◌≤◌, ◌<◌}
 use mathlib.Core.Path.{◌≡◌, sym, ap, ◌∙◌, subst}
+use mathlib.Core.Bool.{true}
 use mathlib.Core.List.{List, []}
 use native.Mathlib.Omega.{arith}
 use native.Mathlib.Nat.{mul-le-mul_right, suc-mul, zero-mul, one-mul}
@@ -9,7 +10,8 @@ use lib.ListN.{length, take, drop, get_or, length-drop}
 use lib.Seq.{length-take-le}
 use Rattle.relation.specs.Rows.{Width, flat}
 use Rattle.relation.proofs.Lists.{get_or_in}
-use Rattle.column_trie.specs.Table.{layers_in, rows_in, Undamaged}
+use Rattle.column_trie.specs.Limits.{max_capacity}
+use Rattle.column_trie.specs.Table.{layers_in, rows_in, Undamaged, undamaged}
 use Rattle.column_trie.specs.declared.ColumnTrie.{ColumnTrie}
 use Rattle.column_trie.proofs.Damage.{undamaged_told}
 use Rattle.column_trie.proofs.Layers.{Whole}
@@ -28,6 +30,10 @@ module _ {pool : List ℕ} {t : ColumnTrie} (o : Whole t) (u : Undamaged pool t)
 
   pub rows_many : length (rows_in pool t) ≡ t.tuple_count
   rows_many = sym (holds o u).counted
+
+  -- a number of the machine
+  pub rows_few : t.tuple_count ≤ max_capacity
+  rows_few = omega (arith, u.layers.counted, (u.layers.room (t.arity - 1) (omega (arith, u.arity.0))).0, u.capacity.1)
 
   pub row_long : (i : ℕ) → i < t.tuple_count → length (get_or (rows_in pool t) i []) ≡ t.arity
   row_long i h = rows_wide (get_or (rows_in pool t) i []) (get_or_in (rows_in pool t) i [] (omega (arith, rows_many)))
@@ -64,17 +70,17 @@ none_laid {pool} {t} {path} {i} {n} {at} bytes p =
       put = record { laid = no_rows bytes at (drop i (rows_in pool t)); on = subst (λ (m : ℕ). OnPath (layers_in pool t) m path) e p.before };
     }
 
-module _ {pool : List ℕ} {t : ColumnTrie} (o : Whole t) {bytes bytes' path : List ℕ} {at i n p k : ℕ} (l : RowsLaid pool t bytes at i n bytes' path p k) where
+module _ {pool : List ℕ} {t : ColumnTrie} (o : Whole t) (s : undamaged pool t ≡ true) {bytes bytes' path : List ℕ} {at i n p k : ℕ} (l : RowsLaid pool t bytes at i n bytes' path p k) where
   -- no byte more or less
   pub rows_kept : length bytes' ≡ length bytes
   rows_kept = ap length l.put.laid ∙ lay_length bytes at (encode (flat (take k (drop i (rows_in pool t)))))
 
   module _ {first : List ℕ} (q : Putting pool t first i n at (length bytes)) (h : k < n) where
     u : Undamaged pool t
-    u = undamaged_told pool t q.sound
+    u = undamaged_told pool t s
 
     pub row_asked : Putting pool t path (i + k) 1 p (length bytes')
-    row_asked = record { sound = q.sound; there = omega (arith, q.there); before = l.put.on; fits = omega (arith, one-mul t.arity, l.ends, row_room k n t.arity h, q.fits, rows_kept) }
+    row_asked = record { there = omega (arith, q.there); before = l.put.on; fits = omega (arith, one-mul t.arity, l.ends, row_room k n t.arity h, q.fits, rows_kept) }
 
     -- so the bytes up to the next row's end are numbers of the machine
     pub row_ends : p + 8 * t.arity ≤ length bytes

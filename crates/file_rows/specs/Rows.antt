@@ -1,14 +1,13 @@
 -- Internal: what is asked by the functions that write fields of rows, and what they leave.
-use Rattle.std.specs.Prelude.{ℕ, ◌+◌, ◌*◌, ◌-◌, ◌≤◌, ◌≡◌, true, List, length}
+use Rattle.std.specs.Prelude.{ℕ, ◌+◌, ◌*◌, ◌-◌, ◌≤◌, ◌≡◌, List, length}
 use Rattle.column_trie.specs.Pool.{lay}
-use Rattle.column_trie.specs.Table.{layers_in, rows_in, undamaged}
+use Rattle.column_trie.specs.Table.{layers_in, rows_in}
 use Rattle.column_trie.specs.declared.ColumnTrie.{ColumnTrie}
 use Rattle.table_file.specs.File.{per_field, rows_fields}
 use Rattle.row_path.specs.Path.{OnPath}
 
--- the table has n rows from row i on, the path is that of the row before them, and `room` bytes have room for them from `at` on
+-- the table, an undamaged one, has n rows from row i on, the path is that of the row before them, and `room` bytes have room for them from `at` on
 pub record Putting (pool : List ℕ) (t : ColumnTrie) (path : List ℕ) (i n at room : ℕ) : Type 0 where
-  pub sound : undamaged pool t ≡ true
   pub there : i + n ≤ t.tuple_count
   pub before : OnPath (layers_in pool t) (i - 1) path
   pub fits : at + 8 * (n * t.arity) ≤ room

@@ -3,36 +3,36 @@
 // A row's words are read by its path, which goes along from row to row, so that the whole is linear in the bytes.
 #![tactic(auto)]
 
-ghost use Rattle.std.specs.Prelude.{◌≡◌, true, [], ◌∷◌, ◌+◌, ◌*◌, ◌-◌, ◌≤◌, ◌<◌, length, take, drop, get_or};
+ghost use Rattle.std.specs.Prelude.{◌≡◌, [], ◌∷◌, ◌+◌, ◌*◌, ◌-◌, ◌≤◌, length, take, drop, get_or};
 ghost use Rattle.relation.specs.Rows.{flat};
 ghost use Rattle.column_trie.specs.Pool.{lay};
-ghost use Rattle.column_trie.specs.Table.{rows_in, undamaged};
+ghost use Rattle.column_trie.specs.Table.{rows_in};
 ghost use Rattle.table_file.specs.Bytes.{bytes_of, encode};
-ghost use Rattle.table_file.specs.File.{per_field, rows_field};
+ghost use Rattle.table_file.specs.File.{rows_field};
+ghost use Rattle.file_bytes.specs.Tags.{byte_of};
 ghost use Rattle.file_rows.specs.Rows.{fields_in, Putting, RowsPut, Laid};
 
-use column_trie::{ColumnTrie, Sound, layer_at};
-use file_bytes::put_word;
+use column_trie::{ColumnTrie, layer_at};
+use file_bytes::{Tag, per_field, put_word};
 use row_path::next_path;
+use sound_table::Intact;
 
-// Writes row i from `at` on. The path is that of the row before, and becomes that of row i. The parameters are no struct: lent as `&mut self`, pool and
-// header might change, and each contract would have to say that they stay.
+// Writes row i from `at` on. The path is that of the row before, and becomes that of row i.
 fn put_row(
     bytes: &mut [u8],
     at: usize,
-    pool: &[u64],
-    t: ColumnTrie,
+    rows: &Intact,
     path: &mut [usize; ColumnTrie::MAX_ARITY],
     i: usize,
 )
-    requires { Putting pool.now t path.old i 1 at (length bytes.old) }
-    ensures { RowsPut pool.now t i bytes.old at (encode (get_or (rows_in pool.now t) i [])) bytes.new path.new }
+    requires { Putting rows.now.sound.pool.now rows.now.sound.table path.old i 1 at (length bytes.old) }
+    ensures { RowsPut rows.now.sound.pool.now rows.now.sound.table i bytes.old at (encode (get_or (rows_in rows.now.sound.pool.now rows.now.sound.table) i [])) bytes.new path.new }
 {
-    let rows = Sound { pool, table: t };
-    next_path(&rows, path, i);
-    for d in 0..t.arity {
-        let place = layer_at(t, d) + path[d];
-        put_word(bytes, at + 8 * d, pool[place]);
+    next_path(rows, path, i);
+    let table = rows.sound.table;
+    for d in 0..table.arity {
+        let place = layer_at(table, d) + path[d];
+        put_word(bytes, at + 8 * d, rows.sound.pool[place]);
     }
 }
 
@@ -40,71 +40,61 @@ fn put_row(
 pub fn put_rows(
     bytes: &mut [u8],
     at: usize,
-    pool: &[u64],
-    t: ColumnTrie,
+    rows: &Intact,
     path: &mut [usize; ColumnTrie::MAX_ARITY],
     i: usize,
     n: usize,
 )
-    requires { Putting pool.now t path.old i n at (length bytes.old) }
-    ensures { RowsPut pool.now t (i + n - 1) bytes.old at (encode (flat (take n (drop i (rows_in pool.now t))))) bytes.new path.new }
+    requires { Putting rows.now.sound.pool.now rows.now.sound.table path.old i n at (length bytes.old) }
+    ensures { RowsPut rows.now.sound.pool.now rows.now.sound.table (i + n - 1) bytes.old at (encode (flat (take n (drop i (rows_in rows.now.sound.pool.now rows.now.sound.table))))) bytes.new path.new }
 {
     let mut p = at;
     for k in 0..n {
-        put_row(bytes, p, pool, t, path, i + k);
-        p += 8 * t.arity;
+        put_row(bytes, p, rows, path, i + k);
+        p += 8 * rows.sound.table.arity;
     }
 }
 
 // Writes a field's tag and its length, high byte first, from `at` on.
-pub fn put_tag(bytes: &mut [u8], at: usize, tag: u8, len: usize)
+pub fn put_tag(bytes: &mut [u8], at: usize, tag: Tag, len: usize)
     requires { (at + 3 ≤ length bytes.old) × (len ≤ 65535) }
-    ensures { bytes.new ≡ lay bytes.old at (tag ∷ bytes_of 2 len) }
+    ensures { bytes.new ≡ lay bytes.old at (byte_of tag ∷ bytes_of 2 len) }
 {
     let [high, low] = (len as u16).to_be_bytes();
-    bytes[at..at + 3].copy_from_slice(&[tag, high, low]);
-}
-
-// How many rows fill a field.
-pub fn per_field(arity: usize) -> usize
-    requires { (0 < arity) × (arity ≤ 8) }
-    ensures { (result ≡ per_field arity) × (0 < result) × (8 * (result * arity) ≤ 65535) }
-{
-    let size = 8 * arity;
-    65535 / size
+    bytes[at..at + 3].copy_from_slice(&[tag.byte(), high, low]);
 }
 
 // Writes the field of n rows, the first of them row i, from `at` on.
 fn put_rows_field(
     bytes: &mut [u8],
     at: usize,
-    pool: &[u64],
-    t: ColumnTrie,
+    rows: &Intact,
     path: &mut [usize; ColumnTrie::MAX_ARITY],
     i: usize,
     n: usize,
 )
-    requires { Putting pool.now t path.old i n (at + 3) (length bytes.old) × (8 * (n * t.arity) ≤ 65535) }
-    ensures { RowsPut pool.now t (i + n - 1) bytes.old at (rows_field (take n (drop i (rows_in pool.now t)))) bytes.new path.new }
+    requires { Putting rows.now.sound.pool.now rows.now.sound.table path.old i n (at + 3) (length bytes.old) × (8 * (n * rows.now.sound.table.arity) ≤ 65535) }
+    ensures { RowsPut rows.now.sound.pool.now rows.now.sound.table (i + n - 1) bytes.old at (rows_field (take n (drop i (rows_in rows.now.sound.pool.now rows.now.sound.table)))) bytes.new path.new }
 {
-    put_tag(bytes, at, 2, 8 * (n * t.arity));
-    put_rows(bytes, at + 3, pool, t, path, i, n);
+    put_tag(bytes, at, Tag::Rows, 8 * (n * rows.sound.table.arity));
+    put_rows(bytes, at + 3, rows, path, i, n);
 }
 
 // Writes all fields of rows from `at` on; answers where they end.
-pub fn put_fields(bytes: &mut [u8], at: usize, pool: &[u64], t: ColumnTrie) -> usize
-    requires { (undamaged pool.now t ≡ true) × (at + length (fields_in pool.now t) ≤ length bytes.old) }
-    ensures { Laid bytes.old at (fields_in pool.now t) bytes.new result }
+pub fn put_fields(bytes: &mut [u8], at: usize, rows: &Intact) -> usize
+    requires { at + length (fields_in rows.now.sound.pool.now rows.now.sound.table) ≤ length bytes.old }
+    ensures { Laid bytes.old at (fields_in rows.now.sound.pool.now rows.now.sound.table) bytes.new result }
 {
     let mut path = [0usize; ColumnTrie::MAX_ARITY];
-    let full = per_field(t.arity);
+    let table = rows.sound.table;
+    let full = per_field(table.arity);
     let mut p = at;
     let mut i = 0;
     // A field's rows at a time: `step_by` would count i alone, and n and p would stand beside it as they do here.
-    while i < t.tuple_count {
-        let n = full.min(t.tuple_count - i);
-        put_rows_field(bytes, p, pool, t, &mut path, i, n);
-        p += 3 + 8 * (n * t.arity);
+    while i < table.tuple_count {
+        let n = full.min(table.tuple_count - i);
+        put_rows_field(bytes, p, rows, &mut path, i, n);
+        p += 3 + 8 * (n * table.arity);
         i += n;
     }
     p

@@ -13,13 +13,13 @@ use Rattle.column_trie.specs.Pool.{lay}
 use Rattle.column_trie.specs.declared.ColumnTrie.{ColumnTrie}
 use Rattle.column_trie.proofs.Pool.{lay_snoc}
 use Rattle.table_file.specs.Bytes.{bytes_of}
-use Rattle.table_file.specs.File.{kind_byte, graded}
+use Rattle.table_file.specs.File.{kind_byte, graded, head}
 use Rattle.table_file.proofs.Numbers.{length_bytes_of}
 use Rattle.table_file.proofs.Laws.{head_graded, head_plain}
 use Rattle.file_rows.specs.Rows.{Laid}
 use Rattle.file_rows.proofs.Pieces.{lay_none, laid_more}
 use Rattle.file_write.specs.Write.{kinds_of}
-use Rattle.file_write.specs.Head.{head_of}
+use Rattle.file_write.specs.Head.{head_of, kinds_head}
 
 -- ---- some column is a grade
 
@@ -55,45 +55,52 @@ kind_more bytes at ks d h {bytes'} {b} e f =
 
 -- ---- the head
 
--- a header's array of kinds has one entry for each depth: what the type says of it
-module _ (t : ColumnTrie) (few : t.arity ≤ 8) (whole : length t.grade ≡ 8) where
-  pub kinds_long : length (kinds_of t) ≡ t.arity
-  kinds_long = length-take-le t.arity t.grade (omega arith)
+module _ (ks : List Bool) where
+  bytes_long : length (map kind_byte ks) ≡ length ks
+  bytes_long = length-map ks kind_byte
 
-  bytes_long : length (map kind_byte (kinds_of t)) ≡ t.arity
-  bytes_long = length-map (kinds_of t) kind_byte ∙ kinds_long
-
-  pub plain_long : graded (kinds_of t) ≡ false → length (head_of t) ≡ 4
-  plain_long e = ap length (head_plain t.arity (kinds_of t) e)
+  pub plain_long : graded ks ≡ false → length (kinds_head ks) ≡ 4
+  plain_long e = ap length (head_plain (length ks) ks e)
 
   two : (n : ℕ) (xs : List ℕ) → length (bytes_of 2 n ++ xs) ≡ 2 + length xs
   two n xs = length-append (bytes_of 2 n) xs ∙ ap (λ (k : ℕ). k + length xs) (length_bytes_of 2 n)
 
-  pub graded_long : graded (kinds_of t) ≡ true → length (head_of t) ≡ 7 + t.arity
-  graded_long e = omega (arith, ap length (head_graded t.arity (kinds_of t) e), two (length (map kind_byte (kinds_of t))) (map kind_byte (kinds_of t)), bytes_long)
+  pub graded_long : graded ks ≡ true → length (kinds_head ks) ≡ 7 + length ks
+  graded_long e = omega (arith, ap length (head_graded (length ks) ks e), two (length (map kind_byte ks)) (map kind_byte ks), bytes_long)
 
-  -- at least tag, length and arity
-  pub head_some : 4 ≤ length (head_of t)
-  head_some = go (graded (kinds_of t)) refl
-    where
-      go : (b : Bool) → graded (kinds_of t) ≡ b → 4 ≤ length (head_of t)
-      go true e = omega (arith, graded_long e)
-      go false e = omega (arith, plain_long e)
+  -- at least tag, length and arity, and at most the kinds besides
+  either_long : (b : Bool) → graded ks ≡ b → (4 ≤ length (kinds_head ks)) × (length (kinds_head ks) ≤ 7 + length ks)
+  either_long true e = (omega (arith, graded_long e), omega (arith, graded_long e))
+  either_long false e = (omega (arith, plain_long e), omega (arith, plain_long e))
+
+  pub head_some : 4 ≤ length (kinds_head ks)
+  head_some = (either_long (graded ks) refl).0
+
+  pub head_short : length (kinds_head ks) ≤ 7 + length ks
+  head_short = (either_long (graded ks) refl).1
 
   module _ (bytes : List ℕ) {b₁ : List ℕ} (p : b₁ ≡ lay bytes 0 (1 ∷ bytes_of 2 1)) where
-    first : set b₁ 3 t.arity ≡ lay bytes 0 (1 ∷ (0 ∷ (1 ∷ (t.arity ∷ []))))
+    first : set b₁ 3 (length ks) ≡ lay bytes 0 (1 ∷ (0 ∷ (1 ∷ (length ks ∷ []))))
     unfolding lay bytes_of
-    first = ap (λ (x : List ℕ). set x 3 t.arity) p
+    first = ap (λ (x : List ℕ). set x 3 (length ks)) p
 
-    pub plain_laid : graded (kinds_of t) ≡ false → Laid bytes 0 (head_of t) (set b₁ 3 t.arity) 4
-    plain_laid e = record { is = first ∙ ap (lay bytes 0) (sym (head_plain t.arity (kinds_of t) e)); ends = omega (arith, plain_long e) }
+    pub plain_laid : graded ks ≡ false → Laid bytes 0 (kinds_head ks) (set b₁ 3 (length ks)) 4
+    plain_laid e = record { is = first ∙ ap (lay bytes 0) (sym (head_plain (length ks) ks e)); ends = omega (arith, plain_long e) }
 
-    pub graded_laid : graded (kinds_of t) ≡ true → {b₂ b₃ : List ℕ} → b₂ ≡ lay (set b₁ 3 t.arity) 4 (4 ∷ bytes_of 2 t.arity) → b₃ ≡ lay b₂ 7 (map kind_byte (kinds_of t)) → Laid bytes 0 (head_of t) b₃ (7 + t.arity)
+    pub graded_laid : graded ks ≡ true → {b₂ b₃ : List ℕ} → b₂ ≡ lay (set b₁ 3 (length ks)) 4 (4 ∷ bytes_of 2 (length ks)) → b₃ ≡ lay b₂ 7 (map kind_byte ks) → Laid bytes 0 (kinds_head ks) b₃ (7 + length ks)
     graded_laid e {b₂} {b₃} q r =
-        let one : List ℕ = 1 ∷ (0 ∷ (1 ∷ (t.arity ∷ []))) in
-        let four : List ℕ = 4 ∷ bytes_of 2 t.arity in
-        let ks = map kind_byte (kinds_of t) in
-        let v : Laid bytes 0 one (set b₁ 3 t.arity) 4 = record { is = first; ends = omega arith } in
-        let w : Laid bytes 0 (one ++ four) b₂ 7 = record { is = laid_more v four q refl; ends = omega (arith, length-append one four, length_bytes_of 2 t.arity) } in
-        let h : head_of t ≡ (one ++ four) ++ ks = head_graded t.arity (kinds_of t) e ∙ ap (λ (n : ℕ). one ++ (4 ∷ (bytes_of 2 n ++ ks))) bytes_long in
-        record { is = laid_more w ks r h; ends = omega (arith, graded_long e) }
+        let one : List ℕ = 1 ∷ (0 ∷ (1 ∷ (length ks ∷ []))) in
+        let four : List ℕ = 4 ∷ bytes_of 2 (length ks) in
+        let bs = map kind_byte ks in
+        let v : Laid bytes 0 one (set b₁ 3 (length ks)) 4 = record { is = first; ends = omega arith } in
+        let w : Laid bytes 0 (one ++ four) b₂ 7 = record { is = laid_more v four q refl; ends = omega (arith, length-append one four, length_bytes_of 2 (length ks)) } in
+        let h : kinds_head ks ≡ (one ++ four) ++ bs = head_graded (length ks) ks e ∙ ap (λ (n : ℕ). one ++ (4 ∷ (bytes_of 2 n ++ bs))) bytes_long in
+        record { is = laid_more w bs r h; ends = omega (arith, graded_long e) }
+
+-- the kinds of a table, as the code takes them from its header
+module _ (t : ColumnTrie) (few : t.arity ≤ 8) (whole : length t.grade ≡ 8) where
+  pub kinds_long : length (kinds_of t) ≡ t.arity
+  kinds_long = length-take-le t.arity t.grade (omega arith)
+
+  pub head_is : kinds_head (kinds_of t) ≡ head_of t
+  head_is = ap (λ (n : ℕ). head n (kinds_of t)) kinds_long

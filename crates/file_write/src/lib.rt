@@ -12,51 +12,56 @@ ghost use Rattle.column_trie.specs.Pool.{lay};
 ghost use Rattle.column_trie.specs.Table.{undamaged};
 ghost use Rattle.table_file.specs.File.{kind_byte, graded};
 ghost use Rattle.file_rows.specs.Rows.{Laid};
-ghost use Rattle.file_write.specs.Write.{kinds_of, file_in, write_number, Writes};
-ghost use Rattle.file_write.specs.Head.{head_of, file_len};
+ghost use Rattle.file_write.specs.Write.{file_in, write_number, Writes};
+ghost use Rattle.file_write.specs.Head.{kinds_head, file_len};
 
-use column_trie::{ColumnTrie, undamaged};
-use file_rows::{per_field, put_fields, put_tag};
+use column_trie::ColumnTrie;
+use file_bytes::{Tag, per_field};
+use file_rows::{put_fields, put_tag};
 use refusal::Refusal;
+use sound_table::{Intact, Sound, undamaged};
 
 // Whether some column is a grade.
-fn some_grade(t: ColumnTrie) -> bool
-    requires { t.arity ≤ max_arity }
-    ensures { result ≡ graded (kinds_of t) }
+fn some_grade(kinds: &[bool]) -> bool
+    ensures { result ≡ graded kinds.now }
 {
-    t.grade[..t.arity].iter().any(|&grade| grade)
+    kinds.iter().any(|&grade| grade)
 }
 
 // Writes the kinds from `at` on, a byte a column.
-fn put_kinds(bytes: &mut [u8], at: usize, t: ColumnTrie)
-    requires { (t.arity ≤ max_arity) × (at + t.arity ≤ length bytes.old) }
-    ensures { bytes.new ≡ lay bytes.old at (map kind_byte (kinds_of t)) }
+fn put_kinds(bytes: &mut [u8], at: usize, kinds: &[bool])
+    requires { at + length kinds.now ≤ length bytes.old }
+    ensures { bytes.new ≡ lay bytes.old at (map kind_byte kinds.now) }
 {
-    for d in 0..t.arity {
-        bytes[at + d] = u8::from(t.grade[d]);
+    for (d, &grade) in kinds.iter().enumerate() {
+        bytes[at + d] = u8::from(grade);
     }
 }
 
-fn head_len(t: ColumnTrie) -> usize
-    requires { t.arity ≤ max_arity }
-    ensures { (result ≡ length (head_of t)) × (result ≤ 15) }
+// How long the head of a table with these kinds is.
+fn head_len(kinds: &[bool]) -> usize
+    ensures { result ≡ length (kinds_head kinds.now) }
 {
-    if some_grade(t) { 7 + t.arity } else { 4 }
+    if some_grade(kinds) {
+        7 + kinds.len()
+    } else {
+        4
+    }
 }
 
-// Writes the head at the front, kinds only if some column is a grade; answers where it ends.
-fn put_head(bytes: &mut [u8], t: ColumnTrie) -> usize
-    requires { (t.arity ≤ max_arity) × (length (head_of t) ≤ length bytes.old) }
-    ensures { Laid bytes.old 0 (head_of t) bytes.new result }
+// Writes that head at the front, the kinds only if some column is a grade; answers where it ends.
+fn put_head(bytes: &mut [u8], kinds: &[bool]) -> usize
+    requires { (length kinds.now ≤ max_arity) × (length (kinds_head kinds.now) ≤ length bytes.old) }
+    ensures { Laid bytes.old 0 (kinds_head kinds.now) bytes.new result }
 {
-    put_tag(bytes, 0, 1, 1);
-    bytes[3] = t.arity as u8;
-    if !some_grade(t) {
+    put_tag(bytes, 0, Tag::Arity, 1);
+    bytes[3] = kinds.len() as u8;
+    if !some_grade(kinds) {
         return 4;
     }
-    put_tag(bytes, 4, 4, t.arity);
-    put_kinds(bytes, 7, t);
-    7 + t.arity
+    put_tag(bytes, 4, Tag::Kinds, kinds.len());
+    put_kinds(bytes, 7, kinds);
+    7 + kinds.len()
 }
 
 // How long the table's file is, by its header.
@@ -64,7 +69,8 @@ fn file_len(t: ColumnTrie) -> usize
     requires { (0 < t.arity) × (t.arity ≤ max_arity) × (t.tuple_count ≤ max_capacity) }
     ensures { result ≡ file_len t }
 {
-    let head = head_len(t);
+    let kinds = &t.grade[..t.arity];
+    let head = head_len(kinds);
     let full = per_field(t.arity);
     let fields = t.tuple_count.div_ceil(full);
     head + (3 * fields + 8 * (t.tuple_count * t.arity)) + 3
@@ -75,9 +81,13 @@ fn put_file(bytes: &mut [u8], pool: &[u64], t: ColumnTrie)
     requires { (undamaged pool.now t ≡ true) × (length (file_in pool.now t) ≤ length bytes.old) }
     ensures { bytes.new ≡ lay bytes.old 0 (file_in pool.now t) }
 {
-    let body = put_head(bytes, t);
-    let end = put_fields(bytes, body, pool, t);
-    put_tag(bytes, end, 3, 0);
+    let kinds = &t.grade[..t.arity];
+    let body = put_head(bytes, kinds);
+    let rows = Intact {
+        sound: Sound { pool, table: t },
+    };
+    let end = put_fields(bytes, body, &rows);
+    put_tag(bytes, end, Tag::End, 0);
 }
 
 // The refusal's number, 0 for none, and the file's length. C's struct, so a number stands where Rust has a Result.

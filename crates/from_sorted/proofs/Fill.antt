@@ -18,7 +18,7 @@ use Rattle.column_trie.specs.Pool.{lay, store}
 use Rattle.column_trie.specs.Table.{relengthed, padded, key_counts, interval_counts, refilled}
 use Rattle.column_trie.specs.declared.ColumnTrie.{ColumnTrie}
 use Rattle.column_trie.proofs.Lengths.{keys_at_lem}
-use Rattle.from_sorted.specs.Push.{Turn, Pushing, Pushes, CanPush, Pushed, Filling, Fills}
+use Rattle.from_sorted.specs.Push.{Turn, Pushing, Pushes, CanPush, Pushed, Filled, Filling, Fills}
 use Rattle.from_sorted.proofs.Turns.{width_take, turn_one, turn_next, turn_equal}
 
 -- ---- no rows
@@ -76,15 +76,6 @@ lengths_all t {rows} {ks} {is} w h e g =
     cc
 
 -- ---- row by row
-
--- the first i rows are held, from a pool in which the first was
-pub record Filled (t : ColumnTrie) (rows : List Row) (pool₀ pool ks is : List ℕ) (i : ℕ) : Type 0 where
-  pub low : 0 < i
-  pub high : i ≤ length rows
-  pub long : length pool ≡ length pool₀
-  pub keys : ks ≡ key_counts (layers_of t.arity (take i rows))
-  pub intervals : is ≡ interval_counts (layers_of t.arity (take i rows))
-  pub words : (p : List ℕ) → pool₀ ≡ store t.start t.capacity (layers_of t.arity (take 1 rows)) p → pool ≡ store t.start t.capacity (layers_of t.arity (take i rows)) p
 
 -- row i is the next one
 next_row : (rows : List Row) (i : ℕ) → i < length rows → take (suc i) rows ≡ take i rows ++ (get_or rows i [] ∷ [])

@@ -1,5 +1,5 @@
 -- Internal: what the steps of a build do to a table: a key or an interval more, a row more, all rows.
-use Rattle.std.specs.Prelude.{ℕ, ◌+◌, ◌*◌, ◌≤◌, ◌<◌, ◌≡◌, List, [], ◌∷◌, ◌++◌, length, get_or, set, replicate}
+use Rattle.std.specs.Prelude.{ℕ, ◌+◌, ◌-◌, ◌*◌, ◌≤◌, ◌<◌, ◌≡◌, List, [], ◌∷◌, ◌++◌, length, take, get_or, set, replicate}
 use Rattle.relation.specs.Order.{Row}
 use Rattle.relation.specs.Rows.{Sorted, Width, as_set}
 use Rattle.relation.specs.Layers.{Layer, layer, layers_of}
@@ -53,6 +53,15 @@ CanPush len t ks is row from opens = (old : List Row) × Pushing len t ks is old
 abbrev pub Pushed : List ℕ → ColumnTrie → List ℕ → List ℕ → Row → ℕ → ℕ → List ℕ → List ℕ → List ℕ → Type 0
 Pushed pool t ks is row from opens pool' ks' is' = (old : List Row) → Pushing (length pool) t ks is old row from opens → Pushes pool t old row pool' ks' is'
 
+-- the first i of the rows are held, from a pool in which the first was
+pub record Filled (t : ColumnTrie) (rows : List Row) (pool₀ pool ks is : List ℕ) (i : ℕ) : Type 0 where
+  pub low : 0 < i
+  pub high : i ≤ length rows
+  pub long : length pool ≡ length pool₀
+  pub keys : ks ≡ key_counts (layers_of t.arity (take i rows))
+  pub intervals : is ≡ interval_counts (layers_of t.arity (take i rows))
+  pub words : (p : List ℕ) → pool₀ ≡ store t.start t.capacity (layers_of t.arity (take 1 rows)) p → pool ≡ store t.start t.capacity (layers_of t.arity (take i rows)) p
+
 -- an empty table with room for the rows, which are sorted
 pub record Filling (len : ℕ) (t : ColumnTrie) (rows : List Row) : Type 0 where
   pub positive : 0 < t.arity
@@ -67,3 +76,21 @@ pub record Filling (len : ℕ) (t : ColumnTrie) (rows : List Row) : Type 0 where
 pub record Fills (pool : List ℕ) (t : ColumnTrie) (rows : List Row) (pool' : List ℕ) (r : ColumnTrie) : Type 0 where
   pub header : r ≡ refilled t (as_set rows)
   pub words : pool' ≡ store t.start t.capacity (layers_of t.arity (as_set rows)) pool
+
+-- a table of which the first i of such rows are held, the last of them and the next one
+pub record Following (len : ℕ) (t : ColumnTrie) (rows : List Row) (pool₀ pool ks is : List ℕ) (i : ℕ) (last row : Row) : Type 0 where
+  pub filling : Filling len t rows
+  pub width : Width t.arity rows
+  pub filled : Filled t rows pool₀ pool ks is i
+  pub same : length pool ≡ len
+  pub more : i < length rows
+  pub last_is : last ≡ get_or rows (i - 1) []
+  pub row_is : row ≡ get_or rows i []
+
+-- for some rows of which the last and the next are these; and for any
+abbrev pub CanFollow : List ℕ → ColumnTrie → List ℕ → List ℕ → Row → Row → Type 0
+CanFollow pool t ks is last row = (len : ℕ) × (rows : List Row) × (pool₀ : List ℕ) × (i : ℕ) × Following len t rows pool₀ pool ks is i last row
+
+abbrev pub Followed : List ℕ → ColumnTrie → List ℕ → List ℕ → Row → Row → List ℕ → List ℕ → List ℕ → Type 0
+Followed pool t ks is last row pool' ks' is' =
+    (len : ℕ) (rows : List Row) (pool₀ : List ℕ) (i : ℕ) → Following len t rows pool₀ pool ks is i last row → Filled t rows pool₀ pool' ks' is' (i + 1)

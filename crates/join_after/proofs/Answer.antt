@@ -1,7 +1,6 @@
 -- The call from its checks to its answer: the descents leave the rows that it lists in the window, and the row read back from there is the one to hand back.
-use Prim.Native.Nat.{ℕ, zero, suc, ◌*◌, ◌≤◌}
+use Prim.Native.Nat.{ℕ, zero, suc, ◌*◌}
 use native.Mathlib.Omega.{arith}
-use native.Mathlib.Nat.{zero-mul}
 use mathlib.Core.Path.{◌≡◌, refl, sym, subst, ap, ◌∙◌}
 use mathlib.Core.Bool.{Bool, true, false}
 use Rattle.std.specs.Prelude.{Some, None}
@@ -12,15 +11,15 @@ use Rattle.relation.specs.Rows.{Width}
 use Rattle.query.specs.Limits.{max_atoms}
 use Rattle.query.specs.Outcome.{Comes, told, refused}
 use Rattle.query.specs.Solve.{listing}
-use Rattle.query.specs.Window.{Progress, begin, emits, windowed}
+use Rattle.query.specs.Window.{Progress}
 use Rattle.query.proofs.Listed.{listing_listing}
-use Rattle.query.proofs.Window.{emits_length, emits_fits, emits_windowed}
 use Rattle.join_query.specs.Query.{max_variables, order_of, atoms_of, join_number, Accepted}
 use Rattle.join_query.specs.declared.Query.{Query}
 use Rattle.join_query.specs.declared.Tables.{Tables}
 use Rattle.join_query.proofs.Accepted.{sized, passes}
-use Rattle.join_plan.specs.Plan.{Planned, FirstsEnded}
-use Rattle.join_window.specs.Window.{written, Fits}
+use Rattle.join_plan.specs.Plan.{Plan, Planned, FirstsEnded}
+use Rattle.join_window.specs.Window.{written, Begun}
+use Rattle.join_window.specs.declared.Window.{Window}
 use Rattle.descent.specs.Descent.{Descended}
 use Rattle.descent.proofs.Root.{stands_root, joined}
 use Rattle.rows_after.specs.After.{rows_asked, listed_after, last_of, stood_at, padded, outcome_after, JoinsAfter}
@@ -32,9 +31,9 @@ use Rattle.last_row.specs.Last.{last_read}
 use Rattle.join_after.specs.From.{given_row, listed_from}
 use Rattle.descent_after.specs.Descent.{DescendedAfter}
 
--- nothing is written yet
-pub fits_none : (n : ℕ) (w : List ℕ) → Fits n (length w) 0
-fits_none n w = record { inside = omega (arith, zero-mul n); few = omega arith }
+-- a descent that began in a new window, as one of its words
+pub begun_after : {pool : List ℕ} {plan : Plan} {ends : List ℕ} {m n d : ℕ} {at own found given : List ℕ} {w₀ : Window} {w' : List ℕ} {rows : ℕ} {full : Bool} → Begun m w₀ → DescendedAfter pool plan ends n d at own found given w₀.words.now w₀.rows w' rows full → DescendedAfter pool plan ends n d at own found given w₀.words.now 0 w' rows full
+begun_after {pool} {plan} {ends} {n = n} {d} {at} {own} {found} {given} {w₀} {w'} {rows} {full} b d₀ = subst (λ (r : ℕ). DescendedAfter pool plan ends n d at own found given w₀.words.now r w' rows full) b.none d₀
 
 module _ {pool : List ℕ} {ts : Tables} {q : Query} (w : List ℕ) (a : Accepted pool ts q (length w)) (given : Row) where
   -- every row listed is n words
@@ -49,7 +48,7 @@ module _ {pool : List ℕ} {ts : Tables} {q : Query} (w : List ℕ) (a : Accepte
 
   -- ---- the descents from the root
 
-  module _ {plan ends : List ℕ} (p : Planned plan ts q) (e : FirstsEnded ends ts q q.atom_count) {w' : List ℕ} {rows : ℕ} {full : Bool} where
+  module _ {plan : Plan} {ends : List ℕ} (p : Planned plan ts q) (e : FirstsEnded ends ts q q.atom_count) {w' : List ℕ} {rows : ℕ} {full : Bool} where
     pub listed_on : DescendedAfter pool plan ends q.n 0 (replicate max_atoms 0) (replicate max_atoms 0) (replicate max_variables 0) given w 0 w' rows full → written w' rows full ≡ listed_from pool ts q (Some given) w
     listed_on d = engine_after_root (passes a) (λ i. _) (λ i h. refl) (replicate max_variables 0) given w (omega (arith, (sized a).few)) (d.descends ts q _ (stands_root a p e))
 
@@ -61,16 +60,6 @@ module _ {pool : List ℕ} {ts : Tables} {q : Query} (w : List ℕ) (a : Accepte
   module _ (goes_on : Bool) {w' : List ℕ} {rows : ℕ} {full : Bool} (f : written w' rows full ≡ listed_from pool ts q (given_row goes_on given) w) where
     l : written w' rows full ≡ listed_after pool ts q goes_on given w
     l = f ∙ from goes_on
-
-    by_emits : windowed w q.n (rows_asked pool ts q goes_on given) ≡ emits q.n (begin w) (rows_asked pool ts q goes_on given)
-    by_emits = sym (emits_windowed w q.n (rows_asked pool ts q goes_on given) (wide goes_on))
-
-    pub rows_inside : rows * q.n ≤ length w'
-    rows_inside =
-        let s = ap (λ (s : Progress). s.count) (l ∙ by_emits) in
-        let t = ap (λ (s : Progress). length s.words) (l ∙ by_emits) in
-        let f = emits_fits q.n (rows_asked pool ts q goes_on given) (begin w) (wide goes_on) (omega (arith, zero-mul q.n)) in
-        subst (λ (m : ℕ). m * q.n ≤ length w') (sym s) (omega (arith, f, t, emits_length q.n (rows_asked pool ts q goes_on given) (begin w) (wide goes_on)))
 
     -- the row read back is the last of those written, or the one that the call stood at
     read_back : last_of (stood_at q.n goes_on given) (take (listed_after pool ts q goes_on given w).count (rows_asked pool ts q goes_on given)) ≡ last_read w' q.n rows (given_row goes_on given)

@@ -6,7 +6,7 @@
 
 ghost use Rattle.std.specs.Prelude.{◌≡◌, length};
 ghost use Rattle.join_query.specs.Query.{Accepted};
-ghost use Rattle.join_window.specs.Window.{written};
+ghost use Rattle.join_window.specs.Window.{progress, Begun, Kept};
 ghost use Rattle.rows_after.specs.After.{JoinsAfter};
 ghost use Rattle.join_after.specs.From.{listed_from};
 
@@ -14,47 +14,49 @@ use descent::descend;
 use descent_after::descend_after;
 use join_checks::check;
 use join_openings::Join;
-use join_plan::{ENDS, PLAN_WORDS, make_ends, make_plan};
+use join_plan::{DepthPlan, make_ends, make_plan};
 use join_query::{Query, Tables};
-use join_window::Written;
+use join_window::Window;
 use last_row::last_row;
 use refusal::Refusal;
 use rows_after::JoinedAfter;
 use seek::SeekStrategy;
+use stretches::{Leap, RUN_ENDS};
 
-// Writes the rows that a call lists, of a query that passed the checks: those after the given row, or all of them where none is given.
+// Writes the rows that a call lists, of a query that passed the checks, into a window that has none: those after the given row, or all of them where none is given.
 fn list_after(
     strategy: SeekStrategy,
     pool: &[u64],
     tables: Tables,
     query: Query,
     after: Option<[u64; Query::MAX_VARIABLES]>,
-    window: &mut [u64],
-) -> Written
-    requires { Accepted pool.now tables query (length window.old) }
-    ensures { written window.new result.rows result.full ≡ listed_from pool.now tables query after window.old }
+    window: &mut Window,
+)
+    requires accepted { Accepted pool.now tables query (length window.old.words.now) }
+    requires begun { Begun query.n window.old }
+    ensures kept { Kept window.old window.new }
+    ensures listed { progress window.new ≡ listed_from pool.now tables query after window.old.words.now }
 {
-    let mut plan = [0usize; PLAN_WORDS];
+    let mut plan = [DepthPlan::empty(); Query::MAX_VARIABLES];
     make_plan(&mut plan, tables, query);
-    let mut ends = [0usize; ENDS];
+    let mut ends = [0usize; RUN_ENDS];
     make_ends(&mut ends, tables, query);
-    let join = Join {
+    let leap = Leap {
         pool,
-        plan: &plan,
         ends: &ends,
-        n: query.n,
         strategy,
+    };
+    let join = Join {
+        leap,
+        plan: &plan,
+        n: query.n,
     };
     let at = [0usize; Query::MAX_ATOMS];
     let row = [0u64; Query::MAX_VARIABLES];
     if let Some(given) = after {
-        return descend_after(&join, 0, at, at, row, given, window, 0);
+        return descend_after(&join, 0, at, at, row, given, window);
     }
-    let all = descend(&join, window, 0, at, at, row, 0, 0);
-    Written {
-        rows: all.rows,
-        full: all.full,
-    }
+    descend(&join, window, 0, at, at, row, 0);
 }
 
 // Joins as `join` does, and writes the rows that come strictly after the given one as read in the query's order; where it does not go on, it starts, and writes
@@ -80,14 +82,16 @@ pub fn join_after(
         };
     }
     let given = if goes_on { Some(after) } else { None };
-    let listed = list_after(strategy, pool, tables, query, given, window);
+    let mut listed = Window::new(window, query.n);
+    list_after(strategy, pool, tables, query, given, &mut listed);
+    let rows = listed.rows;
     JoinedAfter {
         number: if listed.full {
             Refusal::Full.number()
         } else {
             0
         },
-        rows: listed.rows,
-        last: last_row(window, query.n, listed.rows, given),
+        rows,
+        last: last_row(window, query.n, rows, given),
     }
 }

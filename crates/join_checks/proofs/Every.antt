@@ -2,17 +2,15 @@
 use Prim.Native.Nat.{ℕ, zero, suc, ◌<◌}
 use native.Mathlib.Nat.{zero-add}
 use native.Mathlib.Omega.{arith}
-use mathlib.Core.Path.{◌≡◌, refl, sym, ap, subst, ◌∙◌}
+use mathlib.Core.Path.{◌≡◌, refl, sym, ap, ◌∙◌}
 use mathlib.Core.Bool.{Bool, true, false, ◌&&◌, false≢true}
 use mathlib.Core.List.{List}
 use lib.ListN.{length, get_or, take}
 use lib.Seq.{get_or-take}
-use Rattle.relation.specs.Lists.{◌∈◌}
 use Rattle.relation.specs.Tests.{every}
 use Rattle.relation.proofs.Tests.{every_at, every_all, every_fails}
 use Rattle.query.specs.Meet.{has}
 use Rattle.query.specs.Checks.{some, covers}
-use Rattle.query.proofs.Meet.{in_has, has_not, get_or_in, in_get_or}
 use Rattle.join_query.specs.Query.{max_tables, no_atom, atom_at, atoms_in, named_ok}
 use Rattle.join_query.specs.declared.Atom.{Atom}
 use Rattle.join_query.specs.declared.Query.{Query}
@@ -32,11 +30,6 @@ every_first {X} p d l n {walked} e m r f g =
     every_below (λ (i : ℕ). p (get_or l i d)) n r
     (λ t i h. ap p (sym (at i h)) ∙ f t i (omega (arith, h, m)))
     (λ t. let w = g t in let h : w.0 < n = omega (arith, w.1, m) in (w.0, h, ap p (sym (at w.0 h)) ∙ w.2))
-
--- what `contains` answers
-pub has_is : (l : List ℕ) (v : ℕ) (r : Bool) → (r ≡ true → (k : ℕ) × (k < length l) × (get_or l k 0 ≡ v)) → (r ≡ false → (k : ℕ) → k < length l → get_or l k 0 ≡ v → ⊥) → r ≡ has l v
-has_is l v true f g = let t = f refl in sym (in_has (subst (λ (x : ℕ). x ∈ l) t.2 (get_or_in l t.0 0 t.1)))
-has_is l v false f g = sym (has_not l v (λ m. let t = in_get_or 0 m in g refl t.0 t.1 t.2))
 
 -- `all` over the numbers below n
 pub all_below : (p : ℕ → Bool) (n : ℕ) → list_all p (range_with_len 0 n) ≡ every n p

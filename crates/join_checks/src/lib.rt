@@ -1,36 +1,29 @@
 // The checks of a query, in document 01's sequence, with 15 and 16 of document 02 behind 11 and 17 behind 6. `check` asks nothing; the others are internal, and some ask of their caller what an earlier check found.
 #![tactic(auto)]
 
-ghost use Rattle.std.specs.Prelude.{◌≡◌, true, List, ℕ, ◌≤◌, length, take, drop};
+ghost use Rattle.std.specs.Prelude.{◌≡◌, true, List, ℕ, ◌≤◌, length, drop};
 ghost use Rattle.relation.specs.Tests as index;
 ghost use Rattle.query.specs.Meet.{has};
 ghost use Rattle.query.specs.Solve.{headed};
 ghost use Rattle.query.specs.Checks.{some, covers};
 ghost use Rattle.column_trie.specs.Limits.{max_arity};
 ghost use Rattle.query.specs.Limits.{max_atoms};
-ghost use Rattle.join_query.specs.Query.{max_tables, max_variables, table_at, vars_of, lists_of, order_ok, names_some, named_ok, listed_at, list_ok, column_ok, binds_only, one_kind, whole_rows, names, named, sound_at, shapes_agree, shape_ok, join_number};
+ghost use Rattle.join_query.specs.Query.{max_tables, table_at, lists_of, order_ok, names_some, named_ok, listed_at, list_ok, column_ok, binds_only, one_kind, whole_rows, names, named, sound_at, shapes_agree, shape_ok, join_number};
 ghost use Rattle.join_query.specs.Checking.{reached};
 ghost use Rattle.refusal.specs.Number.{given};
 
-use column_trie::{ColumnTrie, undamaged};
+use column_trie::ColumnTrie;
 use join_query::{Atom, Query, Tables};
 use laid_over::same_shape;
+use query::permutes;
 use refusal::Refusal;
+use sound_table::undamaged;
 
 // Not 8: the order, n numbers long, is a permutation of 0 to n - 1, and n is at most 8.
 fn order_ok(q: Query) -> bool
     ensures { result ≡ order_ok q }
 {
-    if Query::MAX_VARIABLES < q.n {
-        return false;
-    }
-    for i in 0..q.n {
-        let v = q.order[i];
-        if q.n <= v || q.order[..i].contains(&v) {
-            return false;
-        }
-    }
-    true
+    q.n <= Query::MAX_VARIABLES && permutes(&q.order[..q.n])
 }
 
 // Whether the atom's table is one of `count`, and its maker's where it is laid over.
@@ -49,22 +42,20 @@ fn named_ok(count: usize, q: Query) -> bool
         && q.atoms().iter().all(|a| names_some(count, *a))
 }
 
-// Whether v is the atom's variable at place j.
-pub fn heads(a: Atom, j: usize, v: usize) -> bool
-    requires { a.len ≤ max_arity }
-    ensures { result ≡ headed v (drop j (vars_of a)) }
+// Whether v stands at place j of an atom's list.
+pub fn heads(list: &[usize], j: usize, v: usize) -> bool
+    ensures { result ≡ headed v (drop j list.now) }
 {
-    j < a.len && a.variables[j] == v
+    j < list.len() && list[j] == v
 }
 
-// How many of the atom's variables the first `depth` of the order give a word to.
-pub fn reached(order: [usize; Query::MAX_VARIABLES], depth: usize, a: Atom) -> usize
-    requires { (depth ≤ max_variables) × (a.len ≤ max_arity) }
-    ensures { result ≡ reached (take depth order) (vars_of a) }
+// How many of the variables of an atom's list the first ones of the order give a word to.
+pub fn reached(first: &[usize], list: &[usize]) -> usize
+    ensures { result ≡ reached first.now list.now }
 {
     let mut j = 0;
-    for v in &order[..depth] {
-        if heads(a, j, *v) {
+    for v in first {
+        if heads(list, j, *v) {
             j += 1;
         }
     }
@@ -76,7 +67,9 @@ fn list_ok(q: Query, a: Atom, arity: usize) -> bool
     requires { order_ok q ≡ true }
     ensures { result ≡ listed_at q a arity }
 {
-    a.len <= ColumnTrie::MAX_ARITY && a.len == arity && reached(q.order, q.n, a) == a.len
+    a.len <= ColumnTrie::MAX_ARITY
+        && a.len == arity
+        && reached(&q.order[..q.n], &a.variables[..a.len]) == a.len
 }
 
 // Not 10: every atom's list passes.

@@ -27,6 +27,7 @@ use Rattle.join_query.specs.Query.{atom_table, order_of, atoms_of}
 use Rattle.join_query.specs.declared.Query.{Query}
 use Rattle.join_query.specs.declared.Tables.{Tables}
 use Rattle.join_query.proofs.Accepted.{tables}
+use Rattle.join_plan.specs.Plan.{Plan}
 use Rattle.join_openings.specs.Openings.{count_at, Opens, Refuses}
 use Rattle.join_depths.specs.Depth.{owner_of, Owned, PlacedIn, Stands, Standing, takes_part, twofold, Within, WithinOne, starts_at, WithinIn, Opened, IfFound, DepthBegun, Leapt, AtKey, groups_at, since_of, Opening}
 use Rattle.join_depths.proofs.Standing.{Taker, taker, taker_in}
@@ -47,7 +48,7 @@ within_forward {pool} {ts} {q} {i} {s} {s'} {p} w m =
     }
 
 -- places move on in what is left of their runs; atoms that take no part stay
-pub opened_moved : {pool : List ℕ} {ts : Tables} {q : Query} {plan ends : List ℕ} {n d : ℕ} {z z' : State} {by_atom : List ℕ} {f : ℕ → Row} → Opened pool ts q plan ends n d z by_atom f → Carried pool ends by_atom (count_at plan d) z z' → Opened pool ts q plan ends n d z' by_atom f
+pub opened_moved : {pool : List ℕ} {ts : Tables} {q : Query} {plan : Plan} {ends : List ℕ} {n d : ℕ} {z z' : State} {by_atom : List ℕ} {f : ℕ → Row} → Opened pool ts q plan ends n d z by_atom f → Carried pool ends by_atom (count_at plan d) z z' → Opened pool ts q plan ends n d z' by_atom f
 opened_moved {pool} {ts} {q} {plan} {ends} {d = d} {z} {z'} {by_atom} {f = f} o m = record {
   based = o.based;
   below = o.below;
@@ -69,7 +70,7 @@ if_found : (landed : Landed) {A : Type 0} → A → IfFound landed A
 if_found (Key x p) a = a
 if_found (Nothing p) a = tt
 
-module _ {pool plan ends : List ℕ} {n d : ℕ} (z₀ : State) (below : d < n) where
+module _ {pool : List ℕ} {plan : Plan} {ends : List ℕ} {n d : ℕ} (z₀ : State) (below : d < n) where
   -- one that has no keys refuses
   pub begun_refused : {z : State} {ring by_atom : List ℕ} → Refuses pool plan ends d z₀ → DepthBegun pool plan ends n d z₀.at z₀.own z ring by_atom (Nothing 0)
   begun_refused r = record { agreed = tt; same = tt; begins = λ ts q f s. record { keys = sym (refused_none z₀ s below r); opened = tt } }
@@ -99,7 +100,7 @@ module _ {pool plan ends : List ℕ} {n d : ℕ} (z₀ : State) (below : d < n) 
 
 -- ---- the seeks
 
-module _ {pool plan ends : List ℕ} {n d : ℕ} (z₀ : State) (below : d < n) where
+module _ {pool : List ℕ} {plan : Plan} {ends : List ℕ} {n d : ℕ} (z₀ : State) (below : d < n) where
   runs_are : {ts : Tables} {q : Query} {f : ℕ → Row} → Stands pool ts q plan ends n d z₀.at z₀.own f → runs (get_or (order_of q) d 0) (standings f (atoms_of pool ts q)) ≡ map (λ (i : ℕ). keys_under (f i) (get_or (atoms_of pool ts q) i nobody).rows) (holders (get_or (order_of q) d 0) (standings f (atoms_of pool ts q)))
   runs_are {ts} {q} {f} s = standings_runs (get_or (order_of q) d 0) f (atoms_of pool ts q) (tables s.based.accepted)
 

@@ -27,7 +27,7 @@ use Rattle.join_query.specs.Query.{atom_at, atom_table}
 use Rattle.join_query.specs.declared.Query.{Query}
 use Rattle.join_query.specs.declared.Tables.{Tables}
 use Rattle.join_query.proofs.Accepted.{table_wide, sound, maker_wide}
-use Rattle.join_plan.specs.Plan.{above_of, firsts_end}
+use Rattle.join_plan.specs.Plan.{Plan, above_of, firsts_end}
 use Rattle.join_openings.specs.Openings.{count_at}
 use Rattle.join_depths.specs.Depth.{owner_of, Owned, Placed, PlacedIn, takes_part, twofold, WithinOne, starts_at, WithinIn, Opened}
 use Rattle.join_depths.proofs.Groups as groups
@@ -53,7 +53,7 @@ same_first (y ∷ p) x n e = (p, ap (λ (z : ℕ). z ∷ p) (ap (λ (l : Row). g
 
 -- ---- one atom that takes part
 
-module _ {pool : List ℕ} {ts : Tables} {q : Query} {plan ends : List ℕ} {n d : ℕ} {z : State} {by_atom : List ℕ} {f : ℕ → Row} (o : Opened pool ts q plan ends n d z by_atom f) {x p : ℕ} (g : WholeAgreed pool z ends by_atom (count_at plan d) x p) (i : ℕ) (h : i < q.atom_count) (e : takes_part q d f i ≡ true) where
+module _ {pool : List ℕ} {ts : Tables} {q : Query} {plan : Plan} {ends : List ℕ} {n d : ℕ} {z : State} {by_atom : List ℕ} {f : ℕ → Row} (o : Opened pool ts q plan ends n d z by_atom f) {x p : ℕ} (g : WholeAgreed pool z ends by_atom (count_at plan d) x p) (i : ℕ) (h : i < q.atom_count) (e : takes_part q d f i ≡ true) where
   t : Taker o.based o.below i
   t = record { atom = h; takes = e }
 

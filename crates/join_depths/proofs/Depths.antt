@@ -26,7 +26,7 @@ use Rattle.join_query.specs.Query.{atom_at, order_of, atoms_of, rows_at}
 use Rattle.join_query.specs.declared.Query.{Query}
 use Rattle.join_query.specs.declared.Tables.{Tables}
 use Rattle.join_query.proofs.Accepted.{sized, names, atoms_at}
-use Rattle.join_plan.specs.Plan.{takers}
+use Rattle.join_plan.specs.Plan.{Plan, takers}
 use Rattle.join_plan.proofs.Plans.{takers_few}
 use Rattle.join_openings.specs.Openings.{count_at, who_at, Openable, Opens, Refuses}
 use Rattle.join_depths.specs.Depth.{PlacedIn, Stands, takes_part, twofold, WithinIn, Opened, common_at}
@@ -40,7 +40,7 @@ rises (amore {r = r} {rs = rs} g s) i zero h k = absurd (omega arith)
 rises (amore {r = r} {rs = rs} g s) zero (suc j) h k = g (get_or rs j 0) (get_or_in rs j 0 (omega arith))
 rises (amore {r = r} {rs = rs} g s) (suc i) (suc j) h k = rises s i j (omega arith) (omega arith)
 
-module _ {pool : List ℕ} {ts : Tables} {q : Query} {plan ends : List ℕ} {n d : ℕ} (z₀ : State) {f : ℕ → Row} (s : Stands pool ts q plan ends n d z₀.at z₀.own f) (below : d < n) where
+module _ {pool : List ℕ} {ts : Tables} {q : Query} {plan : Plan} {ends : List ℕ} {n d : ℕ} (z₀ : State) {f : ℕ → Row} (s : Stands pool ts q plan ends n d z₀.at z₀.own f) (below : d < n) where
   few : count_at plan d ≤ max_atoms
   few = omega (arith, count_is s.based below, takers_few q d q.atom_count (omega (arith, s.based.accepted.whole, (names s.based.accepted).few)), (names s.based.accepted).few)
 

@@ -16,7 +16,7 @@ use Rattle.query.proofs.Meet.{get_or_in, in_get_or}
 use Rattle.query.proofs.Holders.{in_holders, holders_in, holders_ascend}
 use Rattle.query.proofs.Under.{length_standings, standings_at}
 use Rattle.join_query.specs.Query.{no_atom, atom_at, table_at, order_of, vars_of, atoms_of, atom_table}
-use Rattle.join_plan.specs.Plan.{depth_at, opening_at, left_at, takers, second_of, AtomOpening, DepthPlanned}
+use Rattle.join_plan.specs.Plan.{Plan, depth_at, opening_at, left_at, takers, second_of, AtomOpening, DepthPlanned}
 use Rattle.join_openings.specs.Openings.{count_at, who_at}
 use Rattle.join_depths.specs.Depth.{Based, takes_part}
 use Rattle.join_query.specs.declared.Query.{Query}
@@ -36,7 +36,7 @@ holders_vars v (a ∷ l) (b ∷ m) e f =
     ap₂ (λ (xs : List ℕ) (hs : List ℕ). pick (headed v xs) (0 ∷ map suc hs) (map suc hs)) (f 0 (omega arith))
     (holders_vars v l m (omega arith) (λ i h. f (suc i) (omega arith)))
 
-module _ {pool : List ℕ} {ts : Tables} {q : Query} {plan ends : List ℕ} {n d : ℕ} {f : ℕ → Row} (s : Based pool ts q plan ends n d f) where
+module _ {pool : List ℕ} {ts : Tables} {q : Query} {plan : Plan} {ends : List ℕ} {n d : ℕ} {f : ℕ → Row} (s : Based pool ts q plan ends n d f) where
   -- what is left of atom i's list
   pub left_vars : (i : ℕ) → i < q.atom_count → (standing (f i) (get_or (atoms_of pool ts q) i nobody)).vars ≡ drop (length (f i)) (vars_of (atom_at q i))
   left_vars i h = ap (λ (a : meaning.Atom). (standing (f i) a).vars) (atoms_at s.accepted i h)
@@ -54,10 +54,10 @@ module _ {pool : List ℕ} {ts : Tables} {q : Query} {plan ends : List ℕ} {n d
     order_at : v ≡ get_or q.order d 0
     order_at = get_or-take q.n q.order d 0 (omega (arith, s.size))
 
-    at_depth : DepthPlanned plan ts q d
+    at_depth : DepthPlanned (depth_at plan d) ts q d
     at_depth = s.planned.each d (omega (arith, s.size))
 
-    pub variable_is : get_or plan (depth_at d) 0 ≡ v
+    pub variable_is : (depth_at plan d).variable ≡ v
     variable_is = at_depth.variable ∙ sym order_at
 
     pub takers_are : holders v (standings f (atoms_of pool ts q)) ≡ takers q d
@@ -80,7 +80,7 @@ module _ {pool : List ℕ} {ts : Tables} {q : Query} {plan ends : List ℕ} {n d
     count_is = at_depth.count
 
     pub who_is : (j : ℕ) → j < count_at plan d → who_at plan d j ≡ get_or (takers q d) j 0
-    who_is j h = (at_depth.openings j (omega (arith, count_is))).table.tag
+    who_is j h = (at_depth.openings j (omega (arith, count_is))).atom
 
     -- one that takes part
     pub record Taker (i : ℕ) : Type 0 where
@@ -115,12 +115,12 @@ module _ {pool : List ℕ} {ts : Tables} {q : Query} {plan ends : List ℕ} {n d
     takers_ascend = rw takers_are at (holders_ascend v (standings f (atoms_of pool ts q)))
 
     -- its opening: the layer is the number of its words, and there is such a layer
-    pub opening_is : (j : ℕ) → j < count_at plan d → let a = who_at plan d j in AtomOpening plan (opening_at d j) a (atom_at q a).laid_over (atom_table ts q a) (table_at ts (second_of (atom_at q a))) (length (f a))
+    pub opening_is : (j : ℕ) → j < count_at plan d → let a = who_at plan d j in AtomOpening (opening_at plan d j) a (atom_at q a).laid_over (atom_table ts q a) (table_at ts (second_of (atom_at q a))) (length (f a))
     opening_is j h =
         let a = get_or (takers q d) j 0 in
         let w = who_is j h in
-        subst (λ (x : ℕ). AtomOpening plan (opening_at d j) x (atom_at q x).laid_over (atom_table ts q x) (table_at ts (second_of (atom_at q x))) (length (f x))) (sym w)
-        (subst (AtomOpening plan (opening_at d j) a (atom_at q a).laid_over (atom_table ts q a) (table_at ts (second_of (atom_at q a)))) (sym (s.words a (taker (get_or_in (takers q d) j 0 (omega (arith, count_is)))).atom)) (at_depth.openings j (omega (arith, count_is))))
+        subst (λ (x : ℕ). AtomOpening (opening_at plan d j) x (atom_at q x).laid_over (atom_table ts q x) (table_at ts (second_of (atom_at q x))) (length (f x))) (sym w)
+        (subst (AtomOpening (opening_at plan d j) a (atom_at q a).laid_over (atom_table ts q a) (table_at ts (second_of (atom_at q a)))) (sym (s.words a (taker (get_or_in (takers q d) j 0 (omega (arith, count_is)))).atom)) (at_depth.openings j (omega (arith, count_is))))
 
     pub layer_in_lem : {i : ℕ} → Taker i → length (f i) < (atom_table ts q i).arity
     layer_in_lem {i} t = omega (arith, headed_inside v (length (f i)) (vars_of (atom_at q i)) t.takes, (lists s.accepted i t.atom).exact)

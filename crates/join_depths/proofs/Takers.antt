@@ -33,8 +33,10 @@ use Rattle.join_query.specs.declared.Query.{Query}
 use Rattle.join_query.specs.declared.Tables.{Tables}
 use Rattle.join_query.proofs.Accepted.{names, sound, sound_maker}
 use Rattle.join_query.proofs.Keys.{first_keys}
-use Rattle.join_plan.specs.Plan.{interval_count_word, makers_word, opening_at, above_of, both_of, second_of, firsts_end, Opening, AtomOpening}
-use Rattle.join_openings.specs.Openings.{count_at, who_at, keys_at, interval_at, group_start, group_low, group_high, Readable, both_at, table_from, first_runs, OneOpenable, Alone, OpenedIn, Without}
+use Rattle.join_plan.specs.Plan.{Plan, opening_at, above_of, second_of, firsts_end, Opening, AtomOpening}
+use Rattle.join_plan.specs.declared.LayerPlan.{LayerPlan}
+use Rattle.join_plan.specs.declared.AtomPlan.{AtomPlan}
+use Rattle.join_openings.specs.Openings.{count_at, who_at, interval_at, group_start, group_low, group_high, Readable, table_of, first_runs, OneOpenable, Alone, OpenedIn, Without}
 use Rattle.join_depths.specs.Depth.{owner_of, Owned, Placed, PlacedIn, Stands, twofold, Within, starts_at, WithinIn}
 use Rattle.join_depths.proofs.Groups as groups
 use Rattle.join_depths.proofs.Firsts.{firsts_in, first_run, first_rises}
@@ -45,10 +47,6 @@ rows_some : (d : ℕ) (rows : List Row) → 0 < length (prefixes d rows) → 0 <
 unfolding prefixes as_set
 rows_some d [] h = absurd (omega arith)
 rows_some d (r ∷ rows) h = omega arith
-
-one_is : (b : Bool) → eqb (pick b 1 0) 1 ≡ b
-one_is true = refl
-one_is false = refl
 
 pub both_true : (a b : Bool) → (a && b) ≡ true → (a ≡ true) × (b ≡ true)
 both_true true true e = (refl, refl)
@@ -63,12 +61,12 @@ no_word (k ∷ p) e = absurd (omega arith)
 pub second_is : (ts : Tables) (q : Query) (i : ℕ) → (atom_at q i).laid_over ≡ true → table_at ts (second_of (atom_at q i)) ≡ atom_maker ts q i
 second_is ts q i l = ap (λ (b : Bool). table_at ts (pick b (atom_at q i).maker (atom_at q i).table)) l
 
-module _ {pool : List ℕ} {ts : Tables} {q : Query} {plan ends : List ℕ} {n d : ℕ} (z₀ : State) {f : ℕ → Row} (s : Stands pool ts q plan ends n d z₀.at z₀.own f) (below : d < n) (j : ℕ) (h : j < count_at plan d) where
+module _ {pool : List ℕ} {ts : Tables} {q : Query} {plan : Plan} {ends : List ℕ} {n d : ℕ} (z₀ : State) {f : ℕ → Row} (s : Stands pool ts q plan ends n d z₀.at z₀.own f) (below : d < n) (j : ℕ) (h : j < count_at plan d) where
   abbrev a : ℕ
   a = who_at plan d j
 
-  abbrev base : ℕ
-  base = opening_at d j
+  abbrev here : AtomPlan
+  here = opening_at plan d j
 
   abbrev place : ℕ
   place = get_or z₀.at a 0
@@ -82,36 +80,29 @@ module _ {pool : List ℕ} {ts : Tables} {q : Query} {plan ends : List ℕ} {n d
   pub takes : Taker s.based below (who_at plan d j)
   takes = taker_at s.based below j h
 
-  openings : AtomOpening plan base a (atom_at q a).laid_over (atom_table ts q a) (table_at ts (second_of (atom_at q a))) L
+  openings : AtomOpening here a (atom_at q a).laid_over (atom_table ts q a) (table_at ts (second_of (atom_at q a))) L
   openings = opening_is s.based below j h
 
   placed : PlacedIn pool ts q a place own (f a)
   placed = s.placed a takes.atom
 
-  pub both_is : both_at plan (opening_at d j) ≡ twofold q f (who_at plan d j)
-  both_is = ap (λ (m : ℕ). eqb m 1) openings.both ∙ one_is ((atom_at q a).laid_over && eqb L 0)
+  pub both_is : (opening_at plan d j).both ≡ twofold q f (who_at plan d j)
+  both_is = openings.both
 
   -- ---- in the table that its words lie in
 
   abbrev table : ColumnTrie
   table = owner_of ts q a own
 
-  abbrev from : ℕ
-  from = table_from base own
+  abbrev from : LayerPlan
+  from = table_of here own
 
   -- the plan has its numbers
-  opened_by : (tag : ℕ) × Opening plan (table_from base own) tag table L
-  opened_by = by_side (λ o. (tag : ℕ) × Opening plan (table_from base o) tag (owner_of ts q a o) L) own placed.owned.side
-      (λ e. (a, subst (λ (b : ℕ). Opening plan b a (atom_table ts q a) L) (let z : base ≡ table_from base 0 = omega arith in z) openings.table))
-      (λ e.
-      let l = owner_laid s.based.accepted a takes.atom placed.owned e in (
-        both_of (atom_at q a).laid_over L,
-        subst (λ (b : ℕ). Opening plan b (both_of (atom_at q a).laid_over L) (atom_maker ts q a) L) (let z : base + makers_word ≡ table_from base 1 = omega arith in z)
-            (subst (λ (t : ColumnTrie). Opening plan (base + makers_word) (both_of (atom_at q a).laid_over L) t L) (second_is ts q a l) (openings.maker l)),
-      ))
-
-  o : Opening plan from opened_by.0 table L
-  o = opened_by.1
+  o : Opening from table L
+  o =
+      by_side (λ o. Opening (table_of here o) (owner_of ts q a o) L) own placed.owned.side
+      (λ e. openings.table)
+      (λ e. subst (λ (t : ColumnTrie). Opening here.maker t L) (second_is ts q a (owner_laid s.based.accepted a takes.atom placed.owned e)) openings.maker)
 
   u : Undamaged pool table
   u = owner_sound s.based.accepted a takes.atom placed.owned
@@ -129,32 +120,32 @@ module _ {pool : List ℕ} {ts : Tables} {q : Query} {plan ends : List ℕ} {n d
   abbrev x : ℕ
   x = place - above_of table L
 
-  interval_is : interval_at plan from place ≡ x
+  interval_is : interval_at from place ≡ x
   interval_is = ap (λ (k : ℕ). place - k) o.above
 
-  count : get_or plan (from + interval_count_word) 0 ≡ length (prefixes L rows)
+  count : from.interval_count ≡ length (prefixes L rows)
   count = o.interval_count ∙ groups.interval_each u L b
 
   -- where the group of an interval starts, by the layer's own intervals
-  starts : (i : ℕ) → group_start pool plan from i ≡ groups.keys_from u L b + get_or (layer_at L rows).intervals i (length (layer_at L rows).keys)
+  starts : (i : ℕ) → group_start pool from i ≡ groups.keys_from u L b + get_or (layer_at L rows).intervals i (length (layer_at L rows).keys)
   starts i =
       (λ j. o.keys j + get_or (take (o.interval_count j) (drop (o.intervals j) pool)) i ((o.key_count ∙ groups.key_count u L b) j))
       ∙ ap (λ (l : List ℕ). groups.keys_from u L b + get_or l i (length (layer_at L rows).keys)) (groups.intervals_are u L b)
 
-  module _ (nonempty : keys_at plan from ≡ 0 → ⊥) where
+  module _ (nonempty : from.key_count ≡ 0 → ⊥) where
     inside : x < length (prefixes L rows)
     inside = stood.inside (rows_some (suc L) rows (omega (arith, nonempty, o.key_count, groups.key_each u L b)))
 
-    low_is : group_low pool plan from place ≡ groups.low u L b x
+    low_is : group_low pool from place ≡ groups.low u L b x
     low_is =
-        ap (group_start pool plan from) interval_is
+        ap (group_start pool from) interval_is
         ∙ starts x
         ∙ ap (λ (m : ℕ). groups.keys_from u L b + m) (get_or_any (layer_at L rows).intervals x (length (layer_at L rows).keys) 0 (omega (arith, inside, groups.interval_count u L b, groups.interval_each u L b)))
 
-    high_is : group_high pool plan from place ≡ groups.high u L b x
-    high_is = ap (group_start pool plan from) (let e : interval_at plan from place + 1 ≡ suc x = omega (arith, interval_is) in e) ∙ starts (suc x)
+    high_is : group_high pool from place ≡ groups.high u L b x
+    high_is = ap (group_start pool from) (let e : interval_at from place + 1 ≡ suc x = omega (arith, interval_is) in e) ∙ starts (suc x)
 
-    readable : Readable pool plan from place
+    readable : Readable pool from place
     readable = record {
       above = omega (arith, o.above, stood.above);
       inside = omega (arith, count, interval_is, inside);
@@ -185,10 +176,10 @@ module _ {pool : List ℕ} {ts : Tables} {q : Query} {plan ends : List ℕ} {n d
     abbrev runs : two.Runs
     runs = record { x = spot (atom_table ts q a).start (atom_table ts q a).capacity 0; e = firsts_end (atom_table ts q a); y = spot (atom_maker ts q a).start (atom_maker ts q a).capacity 0; f = firsts_end (atom_maker ts q a); own = 0 }
 
-    runs_are : first_runs plan ends base ≡ runs
+    runs_are : first_runs ends here ≡ runs
     runs_are =
         let t = openings.table.keys ∙ ap (spot (atom_table ts q a).start (atom_table ts q a).capacity) nothing in
-        let m = (openings.maker is_laid).keys ∙ (ap (λ (t : ColumnTrie). spot t.start t.capacity L) (second_is ts q a is_laid) ∙ ap (spot (atom_maker ts q a).start (atom_maker ts q a).capacity) nothing) in
+        let m = openings.maker.keys ∙ (ap (λ (t : ColumnTrie). spot t.start t.capacity L) (second_is ts q a is_laid) ∙ ap (spot (atom_maker ts q a).start (atom_maker ts q a).capacity) nothing) in
         let e : get_or ends (2 * a + 0) 0 ≡ firsts_end (atom_table ts q a) = ap (λ (i : ℕ). get_or ends i 0) (let z : 2 * a + 0 ≡ 2 * a = omega arith in z) ∙ s.based.firsts.table a takes.atom in
         let g : get_or ends (2 * a + 1 - 0) 0 ≡ firsts_end (atom_maker ts q a) = ap (λ (i : ℕ). get_or ends i 0) (let z : 2 * a + 1 - 0 ≡ 2 * a + 1 = omega arith in z) ∙ (s.based.firsts.second a takes.atom ∙ ap firsts_end (second_is ts q a is_laid)) in
         λ j. record { x = t j; e = e j; y = m j; f = g j; own = 0 }
@@ -196,7 +187,7 @@ module _ {pool : List ℕ} {ts : Tables} {q : Query} {plan ends : List ℕ} {n d
     runs_inside : Inside pool runs
     runs_inside = record { low = omega arith; high = firsts_in school; ascends = first_rises school; low₂ = omega arith; high₂ = firsts_in maker; ascends₂ = first_rises maker; side = omega arith }
 
-    run_is : run_of pool (first_runs plan ends base) ≡ keys_under (f a) (rows_at pool ts (atom_at q a))
+    run_is : run_of pool (first_runs ends here) ≡ keys_under (f a) (rows_at pool ts (atom_at q a))
     run_is =
         ap (run_of pool) runs_are
         ∙ (ap₂ merge (first_run school) (first_run maker)
@@ -208,7 +199,7 @@ module _ {pool : List ℕ} {ts : Tables} {q : Query} {plan ends : List ℕ} {n d
 
   -- ---- either way
 
-  pub can_open : get_or z₀.left (who_at plan d j) 0 ≡ 0 → OneOpenable pool plan ends (opening_at d j) (stand_of z₀ ends (who_at plan d j))
+  pub can_open : get_or z₀.left (who_at plan d j) 0 ≡ 0 → OneOpenable pool ends (opening_at plan d j) (stand_of z₀ ends (who_at plan d j))
   can_open l = record {
     atom = omega (arith, takes.atom, (names s.based.accepted).few);
     side = placed.owned.side;
@@ -218,25 +209,25 @@ module _ {pool : List ℕ} {ts : Tables} {q : Query} {plan ends : List ℕ} {n d
   }
 
   -- a layer without keys: no key under its words
-  pub none_under : Without (both_at plan (opening_at d j)) pool plan ends (opening_at d j) (stand_of z₀ ends (who_at plan d j)) → keys_under (f (who_at plan d j)) (rows_at pool ts (atom_at q (who_at plan d j))) ≡ []
-  none_under w = go (twofold q f a) refl (subst (λ (t : Bool). Without t pool plan ends base (stand_of z₀ ends a)) both_is w)
+  pub none_under : Without (opening_at plan d j).both pool ends (opening_at plan d j) (stand_of z₀ ends (who_at plan d j)) → keys_under (f (who_at plan d j)) (rows_at pool ts (atom_at q (who_at plan d j))) ≡ []
+  none_under w = go (twofold q f a) refl (subst (λ (t : Bool). Without t pool ends here (stand_of z₀ ends a)) both_is w)
     where
-      go : (t : Bool) → twofold q f a ≡ t → Without t pool plan ends base (stand_of z₀ ends a) → keys_under (f a) (rows_at pool ts (atom_at q a)) ≡ []
+      go : (t : Bool) → twofold q f a ≡ t → Without t pool ends here (stand_of z₀ ends a) → keys_under (f a) (rows_at pool ts (atom_at q a)) ≡ []
       go true e v = sym (run_is e) ∙ v
       go false e v = keys_are e ∙ keys_none (f a) rows (omega (arith, v, o.key_count, groups.key_each u L b))
 
   -- it is opened
-  module _ (z : State) (w : OpenedIn (both_at plan (opening_at d j)) pool plan ends (opening_at d j) (stand_of z₀ ends (who_at plan d j)) (stand_of z ends (who_at plan d j))) where
+  module _ (z : State) (w : OpenedIn (opening_at plan d j).both pool ends (opening_at plan d j) (stand_of z₀ ends (who_at plan d j)) (stand_of z ends (who_at plan d j))) where
     abbrev st : Stand
     st = stand_of z ends a
 
-    opened : OpenedIn (twofold q f a) pool plan ends base (stand_of z₀ ends a) (stand_of z ends a)
-    opened = subst (λ (t : Bool). OpenedIn t pool plan ends base (stand_of z₀ ends a) (stand_of z ends a)) both_is w
+    opened : OpenedIn (twofold q f a) pool ends here (stand_of z₀ ends a) (stand_of z ends a)
+    opened = subst (λ (t : Bool). OpenedIn t pool ends here (stand_of z₀ ends a) (stand_of z ends a)) both_is w
 
     pub open_within : WithinIn (twofold q f (who_at plan d j)) pool ts q (who_at plan d j) (stand_of z ends (who_at plan d j)) (f (who_at plan d j))
     open_within = go (twofold q f a) refl opened
       where
-        go : (t : Bool) → twofold q f a ≡ t → OpenedIn t pool plan ends base (stand_of z₀ ends a) (stand_of z ends a) → WithinIn t pool ts q a (stand_of z ends a) (f a)
+        go : (t : Bool) → twofold q f a ≡ t → OpenedIn t pool ends here (stand_of z₀ ends a) (stand_of z ends a) → WithinIn t pool ts q a (stand_of z ends a) (f a)
         go true e v = v.laid (starts_at ts q a) (keys_under [] (rows_in pool (atom_table ts q a))) (subst (Began pool (starts_at ts q a) (keys_under [] (rows_in pool (atom_table ts q a)))) (sym (runs_are e)) (began e))
         go false e v = record {
           owned = subst (λ (y : ℕ). Owned pool ts q a y (f a)) (sym v.own) placed.owned;
@@ -252,7 +243,7 @@ module _ {pool : List ℕ} {ts : Tables} {q : Query} {plan ends : List ℕ} {n d
         }
 
     -- its group's keys, of the one table
-    group_is : (v : Alone pool plan base (stand_of z₀ ends a) (stand_of z ends a)) → part pool st.at st.end ≡ keys_under (f a) rows
+    group_is : (v : Alone pool here (stand_of z₀ ends a) (stand_of z ends a)) → part pool st.at st.end ≡ keys_under (f a) rows
     group_is v =
         ap₂ (part pool) (v.low ∙ low_is v.nonempty) (v.high ∙ high_is v.nonempty)
         ∙ groups.group_run u L b x (inside v.nonempty)
@@ -261,17 +252,17 @@ module _ {pool : List ℕ} {ts : Tables} {q : Query} {plan ends : List ℕ} {n d
     pub open_whole : whole_of pool (stand_of z ends (who_at plan d j)) ≡ keys_under (f (who_at plan d j)) (rows_at pool ts (atom_at q (who_at plan d j)))
     open_whole = go (twofold q f a) refl opened
       where
-        go : (t : Bool) → twofold q f a ≡ t → OpenedIn t pool plan ends base (stand_of z₀ ends a) (stand_of z ends a) → whole_of pool (stand_of z ends a) ≡ keys_under (f a) (rows_at pool ts (atom_at q a))
+        go : (t : Bool) → twofold q f a ≡ t → OpenedIn t pool ends here (stand_of z₀ ends a) (stand_of z ends a) → whole_of pool (stand_of z ends a) ≡ keys_under (f a) (rows_at pool ts (atom_at q a))
         go true e v = v.whole ∙ run_is e
         go false e v = last_whole pool st v.last ∙ (group_is v ∙ sym (keys_are e))
 
-    piece_rises : (v : Alone pool plan base (stand_of z₀ ends a) (stand_of z ends a)) → Ascends ◌<◌ (part pool st.at st.end)
+    piece_rises : (v : Alone pool here (stand_of z₀ ends a) (stand_of z ends a)) → Ascends ◌<◌ (part pool st.at st.end)
     piece_rises v = subst (Ascends ◌<◌) (sym (ap₂ (part pool) (v.low ∙ low_is v.nonempty) (v.high ∙ high_is v.nonempty))) (groups.group_rises u L b x (inside v.nonempty))
 
     pub open_tailed : Tailed pool (stand_of z ends (who_at plan d j))
     open_tailed = go (twofold q f a) opened
       where
-        go : (t : Bool) → OpenedIn t pool plan ends base (stand_of z₀ ends a) (stand_of z ends a) → Tailed pool (stand_of z ends a)
+        go : (t : Bool) → OpenedIn t pool ends here (stand_of z₀ ends a) (stand_of z ends a) → Tailed pool (stand_of z ends a)
         go true v = v.tailed
         go false v = last_tailed pool st v.last (piece_rises v)
 
@@ -281,7 +272,7 @@ module _ {pool : List ℕ} {ts : Tables} {q : Query} {plan ends : List ℕ} {n d
         in_array : a < max_atoms
         in_array = omega (arith, takes.atom, (names s.based.accepted).few)
 
-        go : (t : Bool) → OpenedIn t pool plan ends base (stand_of z₀ ends a) (stand_of z ends a) → OnKey pool z.at z.end a
+        go : (t : Bool) → OpenedIn t pool ends here (stand_of z₀ ends a) (stand_of z ends a) → OnKey pool z.at z.end a
         go true v = record { atom = in_array; inside = v.some; ends = v.high; ascends = (ascends_split (part pool st.at st.end) v.tailed.ascends).0 }
         go false v =
             let i = inside v.nonempty in

@@ -34,7 +34,7 @@ use Rattle.stretches.specs.Whole.{WholeAgreed, Carried}
 use Rattle.join_query.specs.Query.{atom_table, atom_maker, Accepted, atom_at, order_of, vars_of, atoms_of}
 use Rattle.join_query.specs.declared.Query.{Query}
 use Rattle.join_query.specs.declared.Tables.{Tables}
-use Rattle.join_plan.specs.Plan.{above_of, layer_at, takers, Planned, FirstsEnded}
+use Rattle.join_plan.specs.Plan.{Plan, above_of, layer_at, takers, Planned, FirstsEnded}
 use Rattle.join_openings.specs.Openings.{count_at, Arrays}
 
 -- ---- where the atoms stand
@@ -61,7 +61,7 @@ pub record PlacedIn (pool : List ℕ) (ts : Tables) (q : Query) (i at o : ℕ) (
   pub placed : Placed pool (owner_of ts q i o) at p
 
 -- such a query with its plan, d of its n variables given words; `len` is the length of the window that it passed with
-pub record Based (pool : List ℕ) (ts : Tables) (q : Query) (plan ends : List ℕ) (n d : ℕ) (f : ℕ → Row) : Type 0 where
+pub record Based (pool : List ℕ) (ts : Tables) (q : Query) (plan : Plan) (ends : List ℕ) (n d : ℕ) (f : ℕ → Row) : Type 0 where
   pub len : ℕ
   pub accepted : Accepted pool ts q len
   pub planned : Planned plan ts q
@@ -72,12 +72,12 @@ pub record Based (pool : List ℕ) (ts : Tables) (q : Query) (plan ends : List �
   pub words : (i : ℕ) → i < q.atom_count → length (f i) ≡ layer_at q d (atom_at q i)
 
 -- and each atom stands at the place of its words
-pub record Stands (pool : List ℕ) (ts : Tables) (q : Query) (plan ends : List ℕ) (n d : ℕ) (at own : List ℕ) (f : ℕ → Row) : Type 0 where
+pub record Stands (pool : List ℕ) (ts : Tables) (q : Query) (plan : Plan) (ends : List ℕ) (n d : ℕ) (at own : List ℕ) (f : ℕ → Row) : Type 0 where
   pub based : Based pool ts q plan ends n d f
   pub placed : (i : ℕ) → i < q.atom_count → PlacedIn pool ts q i (get_or at i 0) (get_or own i 0) (f i)
 
 -- some query's atoms stand so: what the descent asks. What it leaves it says of every such query
-pub record Standing (pool plan ends : List ℕ) (n d : ℕ) (at own : List ℕ) : Type 0 where
+pub record Standing (pool : List ℕ) (plan : Plan) (ends : List ℕ) (n d : ℕ) (at own : List ℕ) : Type 0 where
   pub tables : Tables
   pub query : Query
   pub words : ℕ → Row
@@ -120,7 +120,7 @@ WithinIn true pool ts q i s p = Laid pool (starts_at ts q i) (keys_under [] (row
 WithinIn false pool ts q i s p = WithinOne pool ts q i s p
 
 -- the atoms that take part, which `byAtom` has in atom order, are opened; the others stand where they stood
-pub record Opened (pool : List ℕ) (ts : Tables) (q : Query) (plan ends : List ℕ) (n d : ℕ) (z : State) (by_atom : List ℕ) (f : ℕ → Row) : Type 0 where
+pub record Opened (pool : List ℕ) (ts : Tables) (q : Query) (plan : Plan) (ends : List ℕ) (n d : ℕ) (z : State) (by_atom : List ℕ) (f : ℕ → Row) : Type 0 where
   pub based : Based pool ts q plan ends n d f
   pub below : d < n
   pub ring : take (count_at plan d) by_atom ≡ takers q d
@@ -147,11 +147,11 @@ abbrev pub common_at : List ℕ → Tables → Query → ℕ → (ℕ → Row) �
 common_at pool ts q d f = meet (map (λ (i : ℕ). keys_under (f i) (get_or (atoms_of pool ts q) i nobody).rows) (holders (get_or (order_of q) d 0) (standings f (atoms_of pool ts q))))
 
 -- what the opening of a depth leaves, of one query: the common keys are left, and where there is one, the atoms are opened
-pub record Begins (pool : List ℕ) (ts : Tables) (q : Query) (plan ends : List ℕ) (n d : ℕ) (z : State) (by_atom : List ℕ) (f : ℕ → Row) (landed : Landed) : Type 0 where
+pub record Begins (pool : List ℕ) (ts : Tables) (q : Query) (plan : Plan) (ends : List ℕ) (n d : ℕ) (z : State) (by_atom : List ℕ) (f : ℕ → Row) (landed : Landed) : Type 0 where
   pub keys : left_of (wholes_in pool z ends by_atom (count_at plan d)) landed ≡ common_at pool ts q d f
   pub opened : IfFound landed (Opened pool ts q plan ends n d z by_atom f)
 
-pub record DepthBegun (pool plan ends : List ℕ) (n d : ℕ) (at₀ own₀ : List ℕ) (z : State) (ring by_atom : List ℕ) (landed : Landed) : Type 0 where
+pub record DepthBegun (pool : List ℕ) (plan : Plan) (ends : List ℕ) (n d : ℕ) (at₀ own₀ : List ℕ) (z : State) (ring by_atom : List ℕ) (landed : Landed) : Type 0 where
   pub agreed : AgreedAt pool z ends by_atom (count_at plan d) landed
   pub same : IfFound landed (SameAtoms by_atom ring (count_at plan d))
   pub begins : (ts : Tables) (q : Query) (f : ℕ → Row) → Stands pool ts q plan ends n d at₀ own₀ f → Begins pool ts q plan ends n d z by_atom f landed
@@ -183,12 +183,12 @@ abbrev pub groups_at : List ℕ → Tables → Query → ℕ → (ℕ → Row) �
 groups_at pool ts q d f = runs (get_or (order_of q) d 0) (standings f (atoms_of pool ts q))
 
 -- of one query: the leapfrog is begun on those; where it found a key, each run is cut there
-pub record Starts (pool : List ℕ) (ts : Tables) (q : Query) (plan ends : List ℕ) (d : ℕ) (z : State) (ring by_atom : List ℕ) (f : ℕ → Row) (before : ℕ) (landed : Landed) (seeks : ℕ) : Type 0 where
+pub record Starts (pool : List ℕ) (ts : Tables) (q : Query) (plan : Plan) (ends : List ℕ) (d : ℕ) (z : State) (ring by_atom : List ℕ) (f : ℕ → Row) (before : ℕ) (landed : Landed) (seeks : ℕ) : Type 0 where
   pub leapt : Leapt (init_of (groups_at pool ts q d f)) (wholes_in pool z ends ring (count_at plan d)) before landed seeks
   pub cut : AtKey landed (λ (x : ℕ). wholes_in pool z ends by_atom (count_at plan d) ≡ map (from x) (groups_at pool ts q d f))
 
 -- the opening of a depth
-pub record Opening (pool plan ends : List ℕ) (n d : ℕ) (at₀ own₀ : List ℕ) (z : State) (ring by_atom : List ℕ) (before : ℕ) (r : Searched) : Type 0 where
+pub record Opening (pool : List ℕ) (plan : Plan) (ends : List ℕ) (n d : ℕ) (at₀ own₀ : List ℕ) (z : State) (ring by_atom : List ℕ) (before : ℕ) (r : Searched) : Type 0 where
   pub begun : DepthBegun pool plan ends n d at₀ own₀ z ring by_atom r.landed
   pub starts : (ts : Tables) (q : Query) (f : ℕ → Row) → Stands pool ts q plan ends n d at₀ own₀ f → Starts pool ts q plan ends d z ring by_atom f before r.landed r.seeks
 

@@ -7,7 +7,6 @@ ghost use Rattle.stretches.specs.Whole.{WholeAgreed};
 ghost use Rattle.join_depths.specs.Depth.{Standing, Fresh, Opening, Onward, since_of};
 
 use join_openings::{Join, open_all};
-use join_plan::{COUNT, DEPTH_WORDS};
 use leapfrog_search::{Landed, Searched};
 use query::MAX_ATOMS;
 use stretches::{State, whole_init, whole_next};
@@ -16,13 +15,15 @@ use stretches::{State, whole_init, whole_next};
 fn since(before: u64, s: Searched) -> Searched
     ensures { result ≡ since_of before s }
 {
-    let landed = s.landed;
-    let seeks = before.saturating_add(s.seeks);
-    Searched { landed, seeks }
+    Searched {
+        seeks: before.saturating_add(s.seeks),
+        ..s
+    }
 }
 
 // Opens a depth and finds its first key: the atoms that take part are opened in atom order, and the leapfrog over their runs is begun. Where one has no keys,
-// nothing is searched, and the place that comes with no key says nothing.
+// nothing is searched, and the place that comes with no key says nothing. `Standing` is a clause in four and no type's: here and in `open_from` it is of places in
+// the state that is written, of which it no longer holds then, in `descend` and `descend_after` of arrays of the call's own.
 pub fn open(
     join: &Join,
     depth: usize,
@@ -31,9 +32,9 @@ pub fn open(
     by_atom: &mut [usize; MAX_ATOMS],
     seeks: u64,
 ) -> Searched
-    requires standing { Standing join.now.pool.now join.now.plan.now join.now.ends.now join.now.n depth state.old.at state.old.own }
-    requires depth_lt_n { (depth < join.now.n) × Fresh state.old join.now.ends.now ring.old by_atom.old }
-    ensures { Opening join.now.pool.now join.now.plan.now join.now.ends.now join.now.n depth state.old.at state.old.own state.new ring.new by_atom.new seeks result }
+    requires standing { Standing join.now.leap.pool.now join.now.plan.now join.now.leap.ends.now join.now.n depth state.old.at state.old.own }
+    requires depth_lt_n { (depth < join.now.n) × Fresh state.old join.now.leap.ends.now ring.old by_atom.old }
+    ensures { Opening join.now.leap.pool.now join.now.plan.now join.now.leap.ends.now join.now.n depth state.old.at state.old.own state.new ring.new by_atom.new seeks result }
 {
     if !open_all(join, depth, state, ring, by_atom) {
         return Searched {
@@ -41,11 +42,8 @@ pub fn open(
             seeks,
         };
     }
-    let k = join.plan[DEPTH_WORDS * depth + COUNT];
-    since(
-        seeks,
-        whole_init(join.pool, state, join.ends, ring, k, join.strategy),
-    )
+    let k = join.plan[depth].count;
+    since(seeks, whole_init(&join.leap, state, ring, k))
 }
 
 // The ring itself, or the one in atom order.
@@ -73,14 +71,11 @@ pub fn onward<'a>(
     last: bool,
     seeks: u64,
 ) -> Searched
-    requires whole_agreed { WholeAgreed join.now.pool.now state.old join.now.ends.now by_atom.now k (key_at join.now.pool.now state.old.at (get_or by_atom.now 0 0)) p }
+    requires whole_agreed { WholeAgreed join.now.leap.pool.now state.old join.now.leap.ends.now by_atom.now k (key_at join.now.leap.pool.now state.old.at (get_or by_atom.now 0 0)) p }
     requires same_atoms { SameAtoms by_atom.now ring.now k }
-    ensures { Onward join.now.pool.now join.now.ends.now ring.now by_atom.now k p last state.old state.new seeks result }
+    ensures { Onward join.now.leap.pool.now join.now.leap.ends.now ring.now by_atom.now k p last state.old state.new seeks result }
 {
     let turn = chosen(last, ring, by_atom);
     let start = if last { p } else { 0 };
-    since(
-        seeks,
-        whole_next(join.pool, state, join.ends, turn, k, start, join.strategy),
-    )
+    since(seeks, whole_next(&join.leap, state, turn, k, start))
 }

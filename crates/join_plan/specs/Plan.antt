@@ -1,6 +1,6 @@
--- Internal: contracts of the functions that make the plan of a descent: plain numbers, made once for a call, so that the descent reads no header. For each depth its variable, how many atoms take part
--- there, and for each of them, in atom order, twelve numbers: its openings of its table and, where it is laid over, of its maker's.
-use Rattle.std.specs.Prelude.{ℕ, zero, suc, ◌+◌, ◌*◌, ◌≤◌, ◌<◌, ◌^◌, ◌≡◌, Bool, true, ◌&&◌, List, [], map, length, get_or, take, drop, eqb}
+-- Internal: contracts of the functions that make the plan of a descent: structs of plain numbers, made once for a call, so that the descent reads no header. For each depth its variable, how many atoms
+-- take part there, and for each of them, in atom order, its openings of its table and of its second one, which is its maker's where it is laid over.
+use Rattle.std.specs.Prelude.{ℕ, zero, suc, ◌+◌, ◌*◌, ◌≤◌, ◌<◌, ◌^◌, ◌≡◌, Bool, false, ◌&&◌, List, [], map, length, get_or, take, drop, eqb}
 use Rattle.relation.specs.Order.{pick}
 use Rattle.query.specs.Meaning as meaning
 use Rattle.query.specs.Descend.{holders}
@@ -14,54 +14,35 @@ use Rattle.join_query.specs.Query.{max_tables, max_variables, atom_at, table_at,
 use Rattle.join_query.specs.declared.Atom.{Atom}
 use Rattle.join_query.specs.declared.Query.{Query}
 use Rattle.join_query.specs.declared.Tables.{Tables}
+use Rattle.join_plan.specs.declared.LayerPlan.{LayerPlan}
+use Rattle.join_plan.specs.declared.AtomPlan.{AtomPlan}
+use Rattle.join_plan.specs.declared.DepthPlan.{DepthPlan}
 
--- ---- the layout
+-- ---- a plan's parts
 
--- a table's opening: a number of its own, where the keys above start, where the layer's keys start and how many they are, and the same of its intervals
-abbrev pub above_word : ℕ
-above_word = 1
+-- what stands where a part is looked up by a number that none has
+abbrev pub no_layer : LayerPlan
+no_layer = record { above = 0; keys = 0; key_count = 0; intervals = 0; interval_count = 0 }
 
-abbrev pub keys_word : ℕ
-keys_word = 2
+abbrev pub no_opening : AtomPlan
+no_opening = record { atom = 0; school = no_layer; maker = no_layer; both = false }
 
-abbrev pub key_count_word : ℕ
-key_count_word = 3
+abbrev pub no_depth : DepthPlan
+no_depth = record { variable = 0; count = 0; openings = [] }
 
-abbrev pub intervals_word : ℕ
-intervals_word = 4
+abbrev pub opening_in : DepthPlan → ℕ → AtomPlan
+opening_in p j = get_or p.openings j no_opening
 
-abbrev pub interval_count_word : ℕ
-interval_count_word = 5
+-- the depths, in sequence
+abbrev pub Plan : Type 0
+Plan = List DepthPlan
 
-abbrev pub table_words : ℕ
-table_words = 6
+abbrev pub depth_at : Plan → ℕ → DepthPlan
+depth_at plan d = get_or plan d no_depth
 
--- an atom's: that of its table, whose own number is the atom's; and behind it that of its maker's, whose own number says whether the atom is opened in both tables at once
-abbrev pub makers_word : ℕ
-makers_word = table_words
-
-abbrev pub opening_words : ℕ
-opening_words = makers_word + table_words
-
--- a depth's numbers: its variable, how many atoms take part, and their openings
-abbrev pub count_word : ℕ
-count_word = 1
-
-abbrev pub openings_word : ℕ
-openings_word = 2
-
-abbrev pub depth_words : ℕ
-depth_words = openings_word + opening_words * max_atoms
-
-abbrev pub plan_words : ℕ
-plan_words = depth_words * max_variables
-
--- where a depth's numbers start, and where its opening j does
-abbrev pub depth_at : ℕ → ℕ
-depth_at d = depth_words * d
-
-abbrev pub opening_at : ℕ → ℕ → ℕ
-opening_at d j = depth_words * d + openings_word + opening_words * j
+-- the j-th opening of a depth
+abbrev pub opening_at : Plan → ℕ → ℕ → AtomPlan
+opening_at plan d j = opening_in (depth_at plan d) j
 
 -- ---- what stands there
 
@@ -70,24 +51,24 @@ abbrev pub above_of : ColumnTrie → ℕ → ℕ
 above_of t zero = 0
 above_of t (suc d) = spot t.start t.capacity d
 
--- the opening of layer d of table t, with the number a of its own
-pub record Opening (plan : List ℕ) (base a : ℕ) (t : ColumnTrie) (d : ℕ) : Type 0 where
-  pub tag : get_or plan base 0 ≡ a
-  pub above : get_or plan (base + above_word) 0 ≡ above_of t d
-  pub keys : get_or plan (base + keys_word) 0 ≡ spot t.start t.capacity d
-  pub key_count : get_or plan (base + key_count_word) 0 ≡ data_len_at t d
-  pub intervals : get_or plan (base + intervals_word) 0 ≡ spot t.start t.capacity d + t.capacity
-  pub interval_count : get_or plan (base + interval_count_word) 0 ≡ interval_len_at t d
+-- the opening of layer d of table t
+pub record Opening (p : LayerPlan) (t : ColumnTrie) (d : ℕ) : Type 0 where
+  pub above : p.above ≡ above_of t d
+  pub keys : p.keys ≡ spot t.start t.capacity d
+  pub key_count : p.key_count ≡ data_len_at t d
+  pub intervals : p.intervals ≡ spot t.start t.capacity d + t.capacity
+  pub interval_count : p.interval_count ≡ interval_len_at t d
 
 -- whether an atom that opens layer d is opened in both its tables at once: at the first column, where it is laid over
-abbrev pub both_of : Bool → ℕ → ℕ
-both_of laid d = pick (laid && eqb d 0) 1 0
+abbrev pub both_of : Bool → ℕ → Bool
+both_of laid d = laid && eqb d 0
 
--- atom a opens layer d: of its table t; and of its maker's table m, where it is laid over
-pub record AtomOpening (plan : List ℕ) (base a : ℕ) (laid : Bool) (t m : ColumnTrie) (d : ℕ) : Type 0 where
-  pub table : Opening plan base a t d
-  pub both : get_or plan (base + makers_word) 0 ≡ both_of laid d
-  pub maker : laid ≡ true → Opening plan (base + makers_word) (both_of laid d) m d
+-- atom a opens layer d of its table t and of its second table m
+pub record AtomOpening (p : AtomPlan) (a : ℕ) (laid : Bool) (t m : ColumnTrie) (d : ℕ) : Type 0 where
+  pub atom : p.atom ≡ a
+  pub table : Opening p.school t d
+  pub maker : Opening p.maker m d
+  pub both : p.both ≡ both_of laid d
 
 -- an atom's second table: its maker's where it is laid over, else its own again
 abbrev pub second_of : Atom → ℕ
@@ -109,16 +90,16 @@ abbrev pub takers : Query → ℕ → List ℕ
 takers q d = takers_of q d q.atom_count
 
 -- the openings of those of the first i atoms that take part
-abbrev pub Openings : List ℕ → Tables → Query → ℕ → ℕ → Type 0
-Openings plan ts q d i = (j : ℕ) → j < length (takers_of q d i) → let a = get_or (takers_of q d i) j 0 in AtomOpening plan (opening_at d j) a (atom_at q a).laid_over (table_at ts (atom_at q a).table) (table_at ts (second_of (atom_at q a))) (layer_at q d (atom_at q a))
+abbrev pub Openings : List AtomPlan → Tables → Query → ℕ → ℕ → Type 0
+Openings ps ts q d i = (j : ℕ) → j < length (takers_of q d i) → let a = get_or (takers_of q d i) j 0 in AtomOpening (get_or ps j no_opening) a (atom_at q a).laid_over (table_at ts (atom_at q a).table) (table_at ts (second_of (atom_at q a))) (layer_at q d (atom_at q a))
 
-pub record DepthPlanned (plan : List ℕ) (ts : Tables) (q : Query) (d : ℕ) : Type 0 where
-  pub variable : get_or plan (depth_at d) 0 ≡ get_or q.order d 0
-  pub count : get_or plan (depth_at d + count_word) 0 ≡ length (takers q d)
-  pub openings : Openings plan ts q d q.atom_count
+pub record DepthPlanned (p : DepthPlan) (ts : Tables) (q : Query) (d : ℕ) : Type 0 where
+  pub variable : p.variable ≡ get_or q.order d 0
+  pub count : p.count ≡ length (takers q d)
+  pub openings : Openings p.openings ts q d q.atom_count
 
-pub record Planned (plan : List ℕ) (ts : Tables) (q : Query) : Type 0 where
-  pub each : (d : ℕ) → d < q.n → DepthPlanned plan ts q d
+pub record Planned (plan : Plan) (ts : Tables) (q : Query) : Type 0 where
+  pub each : (d : ℕ) → d < q.n → DepthPlanned (depth_at plan d) ts q d
 
 -- where the first keys of a table end
 abbrev pub firsts_end : ColumnTrie → ℕ
@@ -145,20 +126,3 @@ pub record Plannable (ts : Tables) (q : Query) : Type 0 where
   pub named₂ : (i : ℕ) → i < q.atom_count → second_of (atom_at q i) < max_tables
   pub low : (i : ℕ) → i < q.atom_count → Low (table_at ts (atom_at q i).table)
   pub low₂ : (i : ℕ) → i < q.atom_count → Low (table_at ts (second_of (atom_at q i)))
-
--- what a call leaves of the plan: its length, and all words below `base`
-pub record Behind (base : ℕ) (plan₀ plan : List ℕ) : Type 0 where
-  pub long : length plan ≡ length plan₀
-  pub stay : (i : ℕ) → i < base → get_or plan i 0 ≡ get_or plan₀ i 0
-
-pub record OpeningMade (base a : ℕ) (t : ColumnTrie) (d : ℕ) (plan₀ plan : List ℕ) : Type 0 where
-  pub opening : Opening plan base a t d
-  pub behind : Behind base plan₀ plan
-
-pub record AtomMade (base a : ℕ) (laid : Bool) (t m : ColumnTrie) (d : ℕ) (plan₀ plan : List ℕ) : Type 0 where
-  pub opening : AtomOpening plan base a laid t m d
-  pub behind : Behind base plan₀ plan
-
-pub record DepthMade (ts : Tables) (q : Query) (d : ℕ) (plan₀ plan : List ℕ) : Type 0 where
-  pub planned : DepthPlanned plan ts q d
-  pub behind : Behind (depth_at d) plan₀ plan

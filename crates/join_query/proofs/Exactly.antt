@@ -30,7 +30,8 @@ use Rattle.column_trie.specs.Table.{grade_at, Undamaged}
 use Rattle.column_trie.specs.declared.ColumnTrie.{ColumnTrie}
 use Rattle.column_trie.proofs.Damage.{undamaged_told, told_undamaged}
 use Rattle.laid_over.specs.Shape.{same_shape, SameShape}
-use Rattle.laid_over.proofs.Shape.{same_decides, shape_decides}
+use Rattle.std.specs.Cmp.{booleans_Decides}
+use Rattle.laid_over.proofs.Shape.{shape_decides}
 use Rattle.query.specs.Limits.{max_atoms}
 use Rattle.join_query.specs.Query.{max_tables, max_variables, no_atom, atom_at, table_at, atom_table, atom_maker, order_of, vars_of, var_at, atoms_in, lists_of, order_ok, named_ok, listed_at, list_ok, column_ok, columns_ok, binds_only, one_kind, whole_rows, names, named, sound_at, shape_ok, join_number}
 use Rattle.join_query.specs.Facts.{Typed, Ordered, Named, Follows, AllFollow, Covered, HasColumn, SameKinds, WholeRows, SoundTables, SameShapes, Passing}
@@ -87,12 +88,12 @@ list_decides q a arity o whole = (tells, back)
 
 column_decides : (t : ColumnTrie) (a : Atom) (v : ℕ) (grade : Bool) (j : ℕ) → Exactly (column_ok t a v grade j ≡ true) (var_at a j ≡ v → grade_at t j ≡ grade)
 column_decides t a v grade j = (
-  λ e d. (same_decides (grade_at t j) grade).0 (sym (ap (λ (b : Bool). not b || beq (grade_at t j) grade) (eq-eqb (var_at a j) v d)) ∙ e),
+  λ e d. (booleans_Decides (grade_at t j) grade).0 (sym (ap (λ (b : Bool). not b || beq (grade_at t j) grade) (eq-eqb (var_at a j) v d)) ∙ e),
   λ f. back f (eqb (var_at a j) v) refl,
 )
   where
     back : (var_at a j ≡ v → grade_at t j ≡ grade) → (b : Bool) → eqb (var_at a j) v ≡ b → (not b || beq (grade_at t j) grade) ≡ true
-    back f true e = (same_decides (grade_at t j) grade).1 (f (eqb-true (var_at a j) v e))
+    back f true e = (booleans_Decides (grade_at t j) grade).1 (f (eqb-true (var_at a j) v e))
     back f false e = refl
 
 -- every column that v binds is of this kind

@@ -3,26 +3,24 @@
 use Prim.Native.Nat.{ℕ, suc, ◌+◌, ◌≤◌, ◌<◌}
 use native.Mathlib.Omega.{arith}
 use native.Mathlib.Numerals.{add-one}
-use native.Mathlib.Decide.{ℕ_discrete, dec_lt}
-use mathlib.Core.Path.{◌≡◌, refl, sym, subst, ap, ap₂, ◌∙◌}
+use native.Mathlib.Decide.{dec_lt}
+use mathlib.Core.Path.{◌≡◌, refl, sym, ap, ap₂, ◌∙◌}
 use mathlib.Core.Bool.{Bool, true, false, ◌&&◌, ◌||◌, not, beq, false≢true}
 use mathlib.Core.Logic.{◌⊎◌, inl, inr, ⊎_elim}
 use mathlib.Core.List.{List, [], ◌∷◌, ◌++◌, map}
 use lib.ListN.{length, get_or, take, drop, length-take, drop_of_length-le}
 use lib.Seq.{drop-cons, drop-drop, get_or-take, length-take-le, take-suc}
 use lib.Dec.{eqb, ltb, leb, eqb-zero-suc, eqb-suc-suc}
-use borrow.Author.Count.{below_more}
 use borrow.Author.Tests.{eqb-true, eq-eqb, ne_eqb, le-leb, lt-leb, leb-true, ltb-true, not-true, not-false}
 use Rattle.relation.specs.Order.{pick}
-use Rattle.relation.specs.Lists.{◌∈◌}
 use Rattle.relation.specs.Tests as index
 use Rattle.relation.proofs.Tests.{not_both, and_true, and_left, and_right, or_right, gate_shut, gate_open, every_at}
-use Rattle.query.specs.Meaning.{Permutation, follows}
+use Rattle.query.specs.Meaning.{follows}
 use Rattle.query.specs.Meet.{has}
 use Rattle.query.specs.Solve.{headed}
 use Rattle.query.specs.Checks.{some, permutes, listed, covers}
-use Rattle.query.proofs.Meet.{in_has, has_in, get_or_in, in_get_or}
-use Rattle.query.proofs.Checks.{permutes_true, true_permutes, permutes_false, distinct_at, at_distinct, listed_is, listed_true, some_in, in_some}
+use Rattle.query.proofs.Meet.{get_or_in, in_get_or}
+use Rattle.query.proofs.Checks.{permutes_true, listed_is, listed_true, some_in, in_some}
 use Rattle.column_trie.specs.Limits.{max_arity}
 use Rattle.column_trie.specs.Table.{grade_at, undamaged}
 use Rattle.column_trie.specs.declared.ColumnTrie.{ColumnTrie}
@@ -56,22 +54,15 @@ pub make : (a b : Bool) → (a ≡ true → b ≡ true) → (not a || b) ≡ tru
 make true b f = f refl
 make false b f = refl
 
--- ---- the first n numbers of a list, by place
+-- ---- a list by place
 
-module _ (l : List ℕ) (n : ℕ) (fits : n ≤ length l) where
-  long : length (take n l) ≡ n
-  long = length-take-le n l fits
+pub headed_at : (l : List ℕ) (v j : ℕ) → j < length l → headed v (drop j l) ≡ eqb (get_or l j 0) v
+unfolding headed
+headed_at l v j h = ap (headed v) (drop-cons l j 0 h)
 
-  pub has_at : (i v : ℕ) → i < n → get_or l i 0 ≡ v → has (take n l) v ≡ true
-  has_at i v h e = in_has (subst (λ (x : ℕ). x ∈ take n l) (get_or-take n l i 0 h ∙ e) (get_or_in (take n l) i 0 (omega (arith, long))))
-
-  pub headed_at : (v j : ℕ) → j < n → headed v (drop j (take n l)) ≡ eqb (get_or l j 0) v
-  unfolding headed
-  headed_at v j h = ap (headed v) (drop-cons (take n l) j 0 (omega (arith, long))) ∙ ap (λ (x : ℕ). eqb x v) (get_or-take n l j 0 h)
-
-  pub headed_past : (v j : ℕ) → n ≤ j → headed v (drop j (take n l)) ≡ false
-  unfolding headed
-  headed_past v j h = ap (headed v) (drop_of_length-le (take n l) (let g : length (take n l) ≤ j = omega (arith, long) in g))
+pub headed_past : (l : List ℕ) (v j : ℕ) → length l ≤ j → headed v (drop j l) ≡ false
+unfolding headed
+headed_past l v j h = ap (headed v) (drop_of_length-le l h)
 
 pub headed_inside : (v j : ℕ) (xs : List ℕ) → headed v (drop j xs) ≡ true → j < length xs
 unfolding headed
@@ -131,70 +122,15 @@ follows_reached (v ∷ vs) (x ∷ xs) = go (eqb x v) (follows_reached vs xs) (fo
 
 -- ---- 8: the order
 
--- the numbers before place i are below n, and no two are the same
-pub record Permuting (n : ℕ) (order : List ℕ) (i : ℕ) : Type 0 where
-  pub inside : i ≤ n
-  pub below : (k : ℕ) → k < i → get_or order k 0 < n
-  pub apart : (j k : ℕ) → j < k → k < i → get_or order j 0 ≡ get_or order k 0 → ⊥
-
-module _ (q : Query) (long : length q.order ≡ max_variables) where
-  abbrev n : ℕ
-  n = q.n
-
-  pub too_many : max_variables < n → false ≡ order_ok q
+module _ (q : Query) where
+  pub too_many : max_variables < q.n → false ≡ order_ok q
   unfolding order_ok
-  too_many h = gate_shut (leb n max_variables) (permutes n (order_of q)) (lt-leb n max_variables h)
+  too_many h = gate_shut (leb q.n max_variables) (permutes q.n (order_of q)) (lt-leb q.n max_variables h)
 
-  module _ (few : n ≤ max_variables) where
-    at : (k : ℕ) → k < n → get_or (order_of q) k 0 ≡ get_or q.order k 0
-    at k h = get_or-take n q.order k 0 h
-
-    size : length (order_of q) ≡ n
-    size = length-take-le n q.order (omega (arith, long))
-
-    pub permuted : {i : ℕ} → Permuting n q.order i → n ≤ i → true ≡ order_ok q
-    unfolding order_ok
-    permuted {i} p h =
-        let e : i ≡ n = omega (arith, p.inside) in
-        gate_open (leb n max_variables) (permutes n (order_of q)) true (le-leb n max_variables few)
-        (sym (true_permutes n (order_of q) (record {
-          size = size;
-          below = λ x m.
-              let t = in_get_or 0 m in
-              let k : t.0 < n = omega (arith, t.1, size) in
-              omega (arith, p.below t.0 (omega arith), at t.0 k, t.2);
-          single = at_distinct (order_of q) (λ j k lt g d. p.apart j k lt (omega (arith, size)) (sym (at j (omega (arith, size))) ∙ d ∙ at k (omega (arith, size))));
-        })))
-
-    -- a number from n up, or one that stands before
-    not_permuted : (Permutation n (order_of q) → ⊥) → false ≡ order_ok q
-    unfolding order_ok
-    not_permuted f = gate_open (leb n max_variables) (permutes n (order_of q)) false (le-leb n max_variables few) (sym (permutes_false n (order_of q) f))
-
-    pub too_large : (i : ℕ) → i < n → n ≤ get_or q.order i 0 → false ≡ order_ok q
-    too_large i h g = not_permuted (λ p. omega (arith, p.below (get_or (order_of q) i 0) (get_or_in (order_of q) i 0 (omega (arith, size))), at i h))
-
-    pub twice : (i : ℕ) → i < n → has (take i q.order) (get_or q.order i 0) ≡ true → false ≡ order_ok q
-    twice i h e =
-        not_permuted (λ p.
-        let t = in_get_or 0 (has_in (take i q.order) (get_or q.order i 0) e) in
-        let j : t.0 < i = omega (arith, t.1, length-take-le i q.order (omega (arith, long))) in
-        distinct_at p.single t.0 i j (omega (arith, size))
-        (at t.0 (omega arith) ∙ sym (get_or-take i q.order t.0 0 j) ∙ t.2 ∙ sym (at i h)))
-
-    pub permuting_start : Permuting n q.order 0
-    permuting_start = record { inside = omega arith; below = λ k h. omega arith; apart = λ j k g h e. omega arith }
-
-    pub permuting_next : {i : ℕ} → Permuting n q.order i → i < n → get_or q.order i 0 < n → has (take i q.order) (get_or q.order i 0) ≡ false → Permuting n q.order (i + 1)
-    permuting_next {i} p h b e = record {
-      inside = omega arith;
-      below = below_more (λ (k : ℕ). get_or q.order k 0 < n) i p.below b;
-      apart = λ j k g l d. go j k g d (ℕ_discrete k i) l;
-    }
-      where
-        go : (j k : ℕ) → j < k → get_or q.order j 0 ≡ get_or q.order k 0 → Dec (k ≡ i) → k < i + 1 → ⊥
-        go j k g d (yes z) l = false≢true (sym e ∙ has_at q.order i (omega (arith, long)) j (get_or q.order i 0) (omega arith) (d ∙ ap (λ (x : ℕ). get_or q.order x 0) z))
-        go j k g d (no z) l = p.apart j k g (omega arith) d
+  -- of the first n numbers, as the code asks it
+  pub order_asked : length q.order ≡ max_variables → q.n ≤ max_variables → permutes (length (order_of q)) (order_of q) ≡ order_ok q
+  unfolding order_ok
+  order_asked long few = ap (λ (n : ℕ). permutes n (order_of q)) (length-take-le q.n q.order (omega (arith, long))) ∙ gate_open (leb q.n max_variables) (permutes q.n (order_of q)) (permutes q.n (order_of q)) (le-leb q.n max_variables few) refl
 
 -- ---- 9: the atoms' tables
 

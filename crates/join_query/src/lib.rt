@@ -1,6 +1,6 @@
 // A query over tables in the pool, without an engine that answers it: its types, the numbers that refuse it, and the outcome that any answer must have.
 //
-// The number of the first check that a query fails is `joinNumber` (specs/Query.antt), and given exactly when documents 01 and 02 say (proofs/Exactly.antt). What a join
+// The number of the first check that a query fails is `join_number` (specs/Query.antt), and given exactly when documents 01 and 02 say (proofs/Exactly.antt). What a join
 // writes and answers is `outcome` (specs/Outcome.antt), a function of pool, tables, query and window alone. The code that finds the number is crates/join_checks; nothing here
 // knows how the rows are found.
 #![tactic(auto)]
@@ -19,8 +19,7 @@ pub struct Atom {
     pub maker: usize,
 }
 
-// C's `ducatbriar_query`, with its lengths beside its arrays. `atoms` below cuts one to its length, for the six places that walk it. An atom's `variables` are cut at two places, `tables` at one and
-// `order` at none: a call for these would make none plainer.
+// C's `ducatbriar_query`, with its lengths beside its arrays. `atoms` below cuts one to its length; `order`, and an atom's `variables`, are cut where they are read.
 #[repr(C)]
 #[derive(Clone, Copy)]
 pub struct Query {

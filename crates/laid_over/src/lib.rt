@@ -12,13 +12,5 @@ pub fn same_shape(s: ColumnTrie, m: ColumnTrie) -> bool
     requires { s.arity ≤ max_arity }
     ensures { result ≡ same_shape s m }
 {
-    if s.arity != m.arity {
-        return false;
-    }
-    for d in 0..s.arity {
-        if s.grade[d] != m.grade[d] {
-            return false;
-        }
-    }
-    true
+    s.arity == m.arity && s.grade[..s.arity] == m.grade[..s.arity]
 }

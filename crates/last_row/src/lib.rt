@@ -2,22 +2,13 @@
 // window that it wrote: the last row there, or the given one's words that count, in an array with zeros behind.
 #![tactic(auto)]
 
-ghost use Rattle.std.specs.Prelude.{◌≡◌, ◌+◌, ◌*◌, ◌≤◌, length, take, drop};
+ghost use Rattle.std.specs.Prelude.{◌≡◌, ◌*◌, ◌≤◌, length};
 ghost use Rattle.join_query.specs.Query.{max_variables};
 ghost use Rattle.rows_after.specs.After.{padded};
 ghost use Rattle.last_row.specs.Last.{last_read};
 
 use join_query::Query;
-
-// The n words from `base` on, zeros behind.
-fn words_at(words: &[u64], base: usize, n: usize) -> [u64; Query::MAX_VARIABLES]
-    requires { (n ≤ max_variables) × (base + n ≤ length words.now) }
-    ensures { result ≡ padded (take n (drop base words.now)) }
-{
-    let mut row = [0u64; Query::MAX_VARIABLES];
-    row[..n].copy_from_slice(&words[base..base + n]);
-    row
-}
+use join_window::row_at;
 
 // The last of the rows in the window; where there are none, the n words of the row that the call goes on after, else zeros.
 pub fn last_row(
@@ -30,10 +21,10 @@ pub fn last_row(
     ensures { result ≡ padded (last_read window.now n rows after) }
 {
     if rows != 0 {
-        return words_at(window, (rows - 1) * n, n);
+        return row_at(window, (rows - 1) * n, n);
     }
     match after {
-        Some(row) => words_at(&row, 0, n),
+        Some(row) => row_at(&row, 0, n),
         None => [0u64; Query::MAX_VARIABLES],
     }
 }

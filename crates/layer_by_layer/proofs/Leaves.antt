@@ -55,7 +55,7 @@ module _ {a : ℕ} {rows : List Row} {r : Row} (w : Width a rows) (lr : length r
               ∙ ap₂ {C = Layer} (λ x z. record { keys = x; intervals = z }) (sym (insert_key a rows r w lr d h unstored)) (sym (insert_first a rows r w lr d h (g.old f).1 (g.old f).2))
 
       -- one layer further the parent is new
-      pub leaves_deeper : Leaves a rows r (d + 1) at at true
+      pub leaves_deeper : Leaves a rows r (d + 1) at 0 true
       leaves_deeper =
           record {
             place = e ∙ ap (rank_of rows r) (sym (add-one d));

@@ -27,7 +27,8 @@ fn digits(n: u64) -> usize
 }
 
 impl Writer<'_> {
-    // A number's digits, where there is room for them.
+    // A number's digits, where there is room for them. By hand: for the library's `Display` the writer had to be a `fmt::Write`, whose calls answer with an error that this one
+    // never has, and would be handed on by each method here.
     fn digits(&mut self, n: u64)
         requires { self.old.end + length (decimal n) ≤ length self.old.text.now }
         ensures { Wrote self.old self.new (decimal n) }

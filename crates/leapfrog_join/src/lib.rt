@@ -18,7 +18,8 @@ use query::MAX_ATOMS;
 use ring_sort::sort_ring;
 use seek::SeekStrategy;
 
-// What a leapfrog's seek answers: besides, whether it hit: it found a common key, and that key is its target.
+// What a leapfrog's seek answers: besides, whether it hit: it found a common key, and that key is its target. That could be told from the rest, and stands here
+// since document 02 has the leapfrog's own seek say it (`RanFor`). A join seeks by crates/whole_seek, and asks for no hit.
 #[derive(Clone, Copy)]
 pub struct SearchedFor {
     pub searched: Searched,

@@ -23,7 +23,8 @@ use query::MAX_ATOMS;
 use seek::{Probed, SeekStrategy, probe};
 
 // How a search ends: with the key on which all stand, p being the place from which `leapfrog_next` or `leapfrog_seek` goes on, or with none, p being the place of
-// the atom that has no key left, from where nothing goes on.
+// the atom that has no key left, from where nothing goes on. It is no Result: to find none is no error, and both cases have a place, with two meanings. Where a run has no keys
+// to begin with nothing is searched, and the place says nothing (crates/join_depths).
 #[derive(Clone, Copy)]
 pub enum Landed {
     Key { key: u64, p: usize },

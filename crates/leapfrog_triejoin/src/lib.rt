@@ -1,7 +1,7 @@
 // The leapfrog triejoin of tables in the pool: the port of kermit-algos/src/sorted/leapfrog_triejoin.rs of the Rust, Algorithms 5 and 6 of Veldhuizen 2014.
 //
 // The public call is `join`. Its answer and every word of the window are those that specs/Outcome.antt gives, for any pool, tables, query and window,
-// under each strategy: nothing is asked of them. The rows are exactly those that the query means (crates/demand_3, `demand-3`). The query's types and
+// under each strategy: nothing is asked of them. The rows are exactly those that the query means (crates/demand_3). The query's types and
 // its outcome are crates/join_query's, its checks crates/join_checks's, its descent crates/descent's. The Rust's emit closure is the window, its trie
 // iterators are places kept by columns, and what would panic there is refused.
 #![tactic(auto)]
@@ -11,10 +11,12 @@ ghost use Rattle.leapfrog_triejoin.specs.Outcome.{Joins};
 use descent::descend;
 use join_checks::check;
 use join_openings::Join;
-use join_plan::{ENDS, PLAN_WORDS, make_ends, make_plan};
+use join_plan::{DepthPlan, make_ends, make_plan};
 use join_query::{Query, Tables};
+use join_window::Window;
 use refusal::Refusal;
 use seek::SeekStrategy;
+use stretches::{Leap, RUN_ENDS};
 
 // C's `ducatbriar_joined`: `number` is 0 where nothing refuses, and the rows count also beside 12.
 #[repr(C)]
@@ -44,20 +46,24 @@ pub fn join(
             seeks: 0,
         };
     }
-    let mut plan = [0usize; PLAN_WORDS];
+    let mut plan = [DepthPlan::empty(); Query::MAX_VARIABLES];
     make_plan(&mut plan, tables, query);
-    let mut ends = [0usize; ENDS];
+    let mut ends = [0usize; RUN_ENDS];
     make_ends(&mut ends, tables, query);
-    let join = Join {
+    let leap = Leap {
         pool,
-        plan: &plan,
         ends: &ends,
-        n: query.n,
         strategy,
+    };
+    let join = Join {
+        leap,
+        plan: &plan,
+        n: query.n,
     };
     let at = [0usize; Query::MAX_ATOMS];
     let row = [0u64; Query::MAX_VARIABLES];
-    let written = descend(&join, window, 0, at, at, row, 0, 0);
+    let mut written = Window::new(window, query.n);
+    let seeks = descend(&join, &mut written, 0, at, at, row, 0);
     Joined {
         number: if written.full {
             Refusal::Full.number()
@@ -65,6 +71,6 @@ pub fn join(
             0
         },
         rows: written.rows,
-        seeks: written.seeks,
+        seeks,
     }
 }

@@ -15,6 +15,18 @@ pub enum Side {
     Maker,
 }
 
+impl Side {
+    // Of what both have, that of one of them.
+    pub fn of<T: Copy>(self, school: T, maker: T) -> T
+        ensures { result ≡ of_side self school maker }
+    {
+        match self {
+            Side::School => school,
+            Side::Maker => maker,
+        }
+    }
+}
+
 // A school's table laid over a maker's, each in a lent pool; both may lie in one.
 #[derive(Clone, Copy)]
 pub struct Laid<'a> {
@@ -30,10 +42,10 @@ impl<'a> Laid<'a> {
         ensures pool { result.0.now ≡ of_side side self.now.school_pool.now self.now.maker_pool.now }
         ensures table { result.1 ≡ of_side side self.now.school self.now.maker }
     {
-        match side {
-            Side::School => (self.school_pool, self.school),
-            Side::Maker => (self.maker_pool, self.maker),
-        }
+        (
+            side.of(self.school_pool, self.maker_pool),
+            side.of(self.school, self.maker),
+        )
     }
 
     // Damage, the school's looked at first; then whether the two are of one shape.
@@ -41,10 +53,10 @@ impl<'a> Laid<'a> {
     pub fn check(&self) -> Result<(), Refusal>
         ensures { given result ≡ tables_number self.now.school_pool.now self.now.school self.now.maker_pool.now self.now.maker }
     {
-        if !column_trie::undamaged(self.school_pool, self.school) {
+        if !sound_table::undamaged(self.school_pool, self.school) {
             return Err(Refusal::Damaged);
         }
-        if !column_trie::undamaged(self.maker_pool, self.maker) {
+        if !sound_table::undamaged(self.maker_pool, self.maker) {
             return Err(Refusal::Damaged);
         }
         if !laid_over::same_shape(self.school, self.maker) {

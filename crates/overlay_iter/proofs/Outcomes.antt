@@ -12,8 +12,9 @@ use Rattle.column_trie_place.proofs.Rests.{answers}
 use Rattle.column_trie_iter.specs.Cursor.{key_of, open_of}
 use Rattle.column_trie_iter.specs.declared.KeyAnswer.{KeyAnswer}
 use Rattle.overlay_checks.specs.declared.Side.TheVariants.{School, Maker}
-use Rattle.overlay_place.specs.Pairs.{leads, pair_at_root, pair_refusal}
-use Rattle.overlay_place.specs.declared.LaidIter.{LaidIter}
+use Rattle.laid_iter.specs.Cursors.{pair_at_root}
+use Rattle.overlay_place.specs.Pairs.{leads, pair_refusal}
+use Rattle.laid_iter.specs.declared.LaidIter.{LaidIter}
 use Rattle.overlay_iter.specs.Calls.{by_walker, one_opened, both_opened, first_opened}
 use Rattle.overlay_iter.specs.declared.LaidOpenAnswer.{LaidOpenAnswer}
 

@@ -15,8 +15,9 @@ use Rattle.column_trie_iter.specs.declared.OpenAnswer.{OpenAnswer}
 use Rattle.column_trie_iter.specs.declared.UpAnswer.{UpAnswer}
 use Rattle.overlay_checks.specs.declared.Side.{Side}
 use Rattle.overlay_checks.specs.declared.Side.TheVariants.{School, Maker}
-use Rattle.overlay_place.specs.Pairs.{pair, moved, leads, least, pair_at_root, pair_refusal}
-use Rattle.overlay_place.specs.declared.LaidIter.{LaidIter}
+use Rattle.laid_iter.specs.Cursors.{pair, moved, pair_at_root}
+use Rattle.overlay_place.specs.Pairs.{leads, least, pair_refusal}
+use Rattle.laid_iter.specs.declared.LaidIter.{LaidIter}
 use Rattle.overlay_iter.specs.declared.LaidNextAnswer.{LaidNextAnswer}
 use Rattle.overlay_iter.specs.declared.LaidSeekAnswer.{LaidSeekAnswer}
 use Rattle.overlay_iter.specs.declared.LaidOpenAnswer.{LaidOpenAnswer}

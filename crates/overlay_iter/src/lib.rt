@@ -1,6 +1,6 @@
 // The calls of a cursor over a table laid over another: a pair of cursors by value, one on each table.
 //
-// Pools and headers are passed along and only read; both tables may lie in one pool. Each call begins with overlay_place's `LaidIter::check`, and its answer
+// Pools and headers are passed along and only read; both tables may lie in one pool. Each call begins with overlay_place's `check`, and its answer
 // is the one that specs/Calls.antt gives, for any pools, headers and pair: nothing is asked of them. Below depth 1 a call is the plain cursor's, on the table
 // of the key's owner (`LaidIter::walker`); among the first keys it is made of both.
 //
@@ -16,8 +16,8 @@ ghost use Rattle.overlay_iter.specs.Calls.{laid_key_of, laid_end_of, pass_if, bo
 use column_trie::ColumnTrie;
 use column_trie_iter::{EndAnswer, KeyAnswer};
 use column_trie_place::ColumnTrieIter;
+use laid_iter::LaidIter;
 use overlay_checks::{Laid, Side};
-use overlay_place::LaidIter;
 use seek::SeekStrategy;
 
 // Of each answer `number` is the refusal's, 0 for none. Where `found` is false the key is 0. C is handed these structs by value (include/ducatbriar.h), so a
@@ -74,7 +74,7 @@ pub fn key(
         maker_pool,
         maker,
     };
-    if let Err(refused) = iter.check(&laid) {
+    if let Err(refused) = overlay_place::check(&laid, iter) {
         return KeyAnswer {
             number: refused.number(),
             found: false,
@@ -133,7 +133,7 @@ pub fn next(
         maker_pool,
         maker,
     };
-    if let Err(refused) = iter.check(&laid) {
+    if let Err(refused) = overlay_place::check(&laid, iter) {
         return LaidNextAnswer {
             number: refused.number(),
             found: false,
@@ -206,7 +206,7 @@ pub fn seek(
         maker_pool,
         maker,
     };
-    if let Err(refused) = iter.check(&laid) {
+    if let Err(refused) = overlay_place::check(&laid, iter) {
         return LaidSeekAnswer {
             number: refused.number(),
             found: false,
@@ -264,7 +264,7 @@ pub fn open(
         maker_pool,
         maker,
     };
-    if let Err(refused) = iter.check(&laid) {
+    if let Err(refused) = overlay_place::check(&laid, iter) {
         return LaidOpenAnswer {
             number: refused.number(),
             opened: false,
@@ -332,7 +332,7 @@ pub fn up(
         maker_pool,
         maker,
     };
-    if let Err(refused) = iter.check(&laid) {
+    if let Err(refused) = overlay_place::check(&laid, iter) {
         return LaidUpAnswer {
             number: refused.number(),
             risen: false,

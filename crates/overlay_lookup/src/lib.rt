@@ -9,10 +9,11 @@ ghost use Rattle.std.specs.Prelude.{◌≡◌, ◌<◌};
 ghost use Rattle.refusal.specs.Number.{given};
 ghost use Rattle.overlay_lookup.specs.Lookup.{lookup_number, found_in, no_run, looked_up, run_in};
 
-use column_trie::{ColumnTrie, Sound};
+use column_trie::ColumnTrie;
 use overlay_checks::Laid;
 use refusal::Refusal;
 use seek::SeekStrategy;
+use sound_table::Sound;
 
 // Where the keys under a first key lie in a table's pool: `len` words from `from` on.
 #[derive(Clone, Copy)]
@@ -62,11 +63,11 @@ fn found_in(sound: &Sound, key: u64) -> Option<Run>
     requires { 1 < sound.now.table.arity }
     ensures { result ≡ found_in sound.now.pool.now sound.now.table key }
 {
-    let s = seek::partition_point(SeekStrategy::Binary, sound.layer_keys(0), key);
+    let s = seek::partition_point(SeekStrategy::Binary, sound.layer(0).keys, key);
     if !s.hit {
         return None;
     }
-    let g = sound.group_of(1, s.offset)?;
+    let g = sound.layer(1).group_of(s.offset)?;
     Some(Run {
         from: column_trie::layer_at(sound.table, 1) + g.from,
         len: g.to - g.from,

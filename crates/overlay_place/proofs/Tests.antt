@@ -13,8 +13,9 @@ use Rattle.column_trie_place.specs.declared.ColumnTrieIter.{ColumnTrieIter}
 use Rattle.column_trie_iter.specs.Cursor.{key_of, up_of}
 use Rattle.column_trie_iter.specs.declared.KeyAnswer.{KeyAnswer}
 use Rattle.overlay_checks.specs.Tables.{tables_number}
-use Rattle.overlay_place.specs.Pairs.{ups, climbed, started, passed_below, leads, least, abreast, owner_walks, firsts, below_root, pair_at_root, pair_stands, pair_refusal}
-use Rattle.overlay_place.specs.declared.LaidIter.{LaidIter}
+use Rattle.laid_iter.specs.Cursors.{pair_at_root}
+use Rattle.overlay_place.specs.Pairs.{ups, climbed, started, passed_below, leads, least, abreast, owner_walks, firsts, below_root, pair_stands, pair_refusal}
+use Rattle.laid_iter.specs.declared.LaidIter.{LaidIter}
 
 -- ---- up to depth 1
 

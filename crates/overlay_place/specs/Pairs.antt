@@ -1,32 +1,16 @@
 -- Public: a cursor over a table laid over another, first part: which pairs of cursors are states, and what every call asks first, for any pools, headers and
 -- pair. It is a computed test; that it decides exactly the states is a law (the crate overlay_walk).
-use Rattle.std.specs.Prelude.{ℕ, zero, suc, ◌-◌, Option, Some, None, Bool, not, ◌&&◌, ◌||◌, List, eqb, ltb, leb}
+use Rattle.std.specs.Prelude.{ℕ, zero, suc, ◌-◌, Bool, not, ◌&&◌, ◌||◌, List, eqb, ltb, leb}
 use Rattle.relation.specs.Order.{pick}
 use Rattle.column_trie.specs.Table.{data_len_at}
 use Rattle.column_trie.specs.declared.ColumnTrie.{ColumnTrie}
-use Rattle.column_trie_place.specs.Checks.{cursor, at_root, refusal}
+use Rattle.column_trie_place.specs.Checks.{cursor, refusal}
 use Rattle.column_trie_place.specs.declared.ColumnTrieIter.{ColumnTrieIter}
 use Rattle.column_trie_iter.specs.Cursor.{key_of, up_of}
 use Rattle.column_trie_iter.specs.declared.KeyAnswer.{KeyAnswer}
 use Rattle.overlay_checks.specs.Tables.{tables_number}
-use Rattle.overlay_checks.specs.declared.Side.{Side}
-use Rattle.overlay_checks.specs.declared.Side.TheVariants.{School, Maker}
-use Rattle.overlay_place.specs.declared.LaidIter.{LaidIter}
-
-abbrev pub pair : ColumnTrieIter → ColumnTrieIter → LaidIter
-pair i j = record { school = i; maker = j }
-
-abbrev pub root_pair : LaidIter
-root_pair = pair at_root at_root
-
--- one of the two walks, and the other stays
-abbrev pub moved : Side → LaidIter → ColumnTrieIter → LaidIter
-moved School it i = pair i it.maker
-moved Maker it i = pair it.school i
-
--- the one below depth 1
-abbrev pub walker : LaidIter → Option Side
-walker it = pick (ltb 1 it.school.depth) (Some School) (pick (ltb 1 it.maker.depth) (Some Maker) None)
+use Rattle.laid_iter.specs.Cursors.{pair, pair_at_root}
+use Rattle.laid_iter.specs.declared.LaidIter.{LaidIter}
 
 -- ---- one of the two
 
@@ -75,9 +59,6 @@ below_root sp s mp m it =
     let a = key_of sp s f.school in
     let b = key_of mp m f.maker in
     owner_walks it (leads a b) && (not (least a b).found || abreast sp s mp m f (least a b).key)
-
-abbrev pub pair_at_root : LaidIter → Bool
-pair_at_root it = eqb it.school.depth 0 && eqb it.maker.depth 0
 
 -- the test: each is a state of its own table's cursor, and both are at the root or stand together below it
 unfoldable pub pair_stands : List ℕ → ColumnTrie → List ℕ → ColumnTrie → LaidIter → Bool

@@ -1,149 +1,84 @@
 // Which pairs of cursors are states of a cursor over a table laid over another (internal): what every call of such a cursor asks first.
 //
-// The pair is two cursors by value, one on each table. `LaidIter::check` makes the checks 6, 17 and 7 for any pools, headers and pair; the crate overlay_iter
+// The pair is two cursors by value, one on each table (the crate laid_iter). `check` makes the checks 6, 17 and 7 for any pools, headers and pair; the crate overlay_iter
 // has the calls. A cursor below depth 1 is taken up to the first key that it was opened from, by the plain cursor's own `up`.
 #![tactic(auto)]
 
 ghost use Rattle.std.specs.Prelude.{◌≡◌};
 ghost use Rattle.refusal.specs.Number.{given};
-ghost use Rattle.overlay_checks.specs.Tables.{of_side};
-ghost use Rattle.overlay_place.specs.Pairs.{root_pair, walker, moved, climbed, leads, least, passed_below, started, abreast, owner_walks, firsts, below_root, pair_at_root, pair_stands, pair_refusal};
+ghost use Rattle.overlay_place.specs.Pairs.{climbed, leads, least, passed_below, started, abreast, owner_walks, firsts, below_root, pair_stands, pair_refusal};
 
 use column_trie::ColumnTrie;
 use column_trie_iter::KeyAnswer;
 use column_trie_place::ColumnTrieIter;
-use overlay_checks::{Laid, Side};
+use laid_iter::LaidIter;
+use overlay_checks::Laid;
 use refusal::Refusal;
 
-// One cursor on each table; that of a table without rows stays at the root.
-#[repr(C)]
-#[derive(Clone, Copy)]
-pub struct LaidIter {
-    pub school: ColumnTrieIter,
-    pub maker: ColumnTrieIter,
+// What every call asks first: 6 on either and 17, then 7 for a pair that is no state.
+#[tactic(auto, unfolding(crate::specs::Pairs::pair_refusal))]
+pub fn check(laid: &Laid, iter: LaidIter) -> Result<(), Refusal>
+    ensures { given result ≡ pair_refusal laid.now.school_pool.now laid.now.school laid.now.maker_pool.now laid.now.maker iter }
+{
+    laid.check()?;
+    if !stands(laid, iter) {
+        return Err(Refusal::BadCursor);
+    }
+    Ok(())
 }
 
-impl LaidIter {
-    pub fn new() -> Self
-        ensures { result ≡ root_pair }
-    {
-        Self {
-            school: ColumnTrieIter::new(),
-            maker: ColumnTrieIter::new(),
-        }
-    }
+// Whether the pair is a state: each of the two stands, and they stand together.
+#[tactic(auto, unfolding(crate::specs::Pairs::pair_stands))]
+fn stands(laid: &Laid, iter: LaidIter) -> bool
+    ensures { result ≡ pair_stands laid.now.school_pool.now laid.now.school laid.now.maker_pool.now laid.now.maker iter }
+{
+    column_trie_place::place_of(laid.school_pool, laid.school, iter.school).is_ok()
+        && column_trie_place::place_of(laid.maker_pool, laid.maker, iter.maker).is_ok()
+        && (iter.at_root()
+            || started(laid.school, iter.school)
+                && started(laid.maker, iter.maker)
+                && stands_below_root(laid, iter))
+}
 
-    // The cursor on one of the two tables.
-    pub fn of(self, side: Side) -> ColumnTrieIter
-        ensures { result ≡ of_side side self.school self.maker }
-    {
-        match side {
-            Side::School => self.school,
-            Side::Maker => self.maker,
-        }
-    }
+// The test below the root.
+#[tactic(auto, unfolding(crate::specs::Pairs::below_root))]
+fn stands_below_root(laid: &Laid, iter: LaidIter) -> bool
+    ensures { result ≡ below_root laid.now.school_pool.now laid.now.school laid.now.maker_pool.now laid.now.maker iter }
+{
+    let f = firsts(laid, iter);
+    let a = column_trie_iter::key(laid.school_pool, laid.school, f.school);
+    let b = column_trie_iter::key(laid.maker_pool, laid.maker, f.maker);
+    let present = least(a, b);
+    owner_walks(iter, leads(a, b)) && (!present.found || abreast(laid, f, present.key))
+}
 
-    // One of the two walks, and the other stays.
-    pub fn moved(self, side: Side, iter: ColumnTrieIter) -> Self
-        ensures { result ≡ moved side self iter }
-    {
-        match side {
-            Side::School => Self {
-                school: iter,
-                maker: self.maker,
-            },
-            Side::Maker => Self {
-                school: self.school,
-                maker: iter,
-            },
-        }
+// The pair at depth 1 from which this one was opened.
+fn firsts(laid: &Laid, iter: LaidIter) -> LaidIter
+    ensures { result ≡ firsts laid.now.school_pool.now laid.now.school laid.now.maker_pool.now laid.now.maker iter }
+{
+    LaidIter {
+        school: climb(laid.school_pool, laid.school, iter.school),
+        maker: climb(laid.maker_pool, laid.maker, iter.maker),
     }
+}
 
-    // The one that is below depth 1 and walks alone; none where both stand at the root or among the first keys.
-    pub fn walker(self) -> Option<Side>
-        ensures { result ≡ walker self }
-    {
-        if 1 < self.school.depth {
-            return Some(Side::School);
-        }
-        if 1 < self.maker.depth {
-            return Some(Side::Maker);
-        }
-        None
+// Whether no cursor but that of the present key's owner is below depth 1.
+fn owner_walks(iter: LaidIter, school_leads: bool) -> bool
+    ensures { result ≡ owner_walks iter school_leads }
+{
+    if school_leads {
+        return iter.maker.depth <= 1;
     }
+    iter.school.depth <= 1
+}
 
-    // Whether both stand at the root.
-    pub fn at_root(self) -> bool
-        ensures { result ≡ pair_at_root self }
-    {
-        self.school.depth == 0 && self.maker.depth == 0
-    }
-
-    // What every call asks first: 6 on either and 17, then 7 for a pair that is no state.
-    #[tactic(auto, unfolding(crate::specs::Pairs::pair_refusal))]
-    pub fn check(self, laid: &Laid) -> Result<(), Refusal>
-        ensures { given result ≡ pair_refusal laid.now.school_pool.now laid.now.school laid.now.maker_pool.now laid.now.maker self }
-    {
-        laid.check()?;
-        if !self.stands(laid) {
-            return Err(Refusal::BadCursor);
-        }
-        Ok(())
-    }
-
-    // Whether the pair is a state: each of the two stands, and they stand together.
-    #[tactic(auto, unfolding(crate::specs::Pairs::pair_stands))]
-    fn stands(self, laid: &Laid) -> bool
-        ensures { result ≡ pair_stands laid.now.school_pool.now laid.now.school laid.now.maker_pool.now laid.now.maker self }
-    {
-        column_trie_place::place_of(laid.school_pool, laid.school, self.school).is_ok()
-            && column_trie_place::place_of(laid.maker_pool, laid.maker, self.maker).is_ok()
-            && (self.at_root()
-                || started(laid.school, self.school)
-                    && started(laid.maker, self.maker)
-                    && self.stands_below_root(laid))
-    }
-
-    // The test below the root.
-    #[tactic(auto, unfolding(crate::specs::Pairs::below_root))]
-    fn stands_below_root(self, laid: &Laid) -> bool
-        ensures { result ≡ below_root laid.now.school_pool.now laid.now.school laid.now.maker_pool.now laid.now.maker self }
-    {
-        let f = self.firsts(laid);
-        let a = column_trie_iter::key(laid.school_pool, laid.school, f.school);
-        let b = column_trie_iter::key(laid.maker_pool, laid.maker, f.maker);
-        let present = least(a, b);
-        self.owner_walks(leads(a, b)) && (!present.found || f.abreast(laid, present.key))
-    }
-
-    // The pair at depth 1 from which this one was opened.
-    fn firsts(self, laid: &Laid) -> Self
-        ensures { result ≡ firsts laid.now.school_pool.now laid.now.school laid.now.maker_pool.now laid.now.maker self }
-    {
-        Self {
-            school: climb(laid.school_pool, laid.school, self.school),
-            maker: climb(laid.maker_pool, laid.maker, self.maker),
-        }
-    }
-
-    // Whether no cursor but that of the present key's owner is below depth 1.
-    fn owner_walks(self, school_leads: bool) -> bool
-        ensures { result ≡ owner_walks self school_leads }
-    {
-        if school_leads {
-            return self.maker.depth <= 1;
-        }
-        self.school.depth <= 1
-    }
-
-    // Whether the two, at depth 1, each stand on their first key not below the present one.
-    #[tactic(auto, unfolding(crate::specs::Pairs::abreast))]
-    fn abreast(self, laid: &Laid, key: u64) -> bool
-        ensures { result ≡ abreast laid.now.school_pool.now laid.now.school laid.now.maker_pool.now laid.now.maker self key }
-    {
-        passed_below(laid.school_pool, laid.school, self.school, key)
-            && passed_below(laid.maker_pool, laid.maker, self.maker, key)
-    }
+// Whether the two, at depth 1, each stand on their first key not below the present one.
+#[tactic(auto, unfolding(crate::specs::Pairs::abreast))]
+fn abreast(laid: &Laid, iter: LaidIter, key: u64) -> bool
+    ensures { result ≡ abreast laid.now.school_pool.now laid.now.school laid.now.maker_pool.now laid.now.maker iter key }
+{
+    passed_below(laid.school_pool, laid.school, iter.school, key)
+        && passed_below(laid.maker_pool, laid.maker, iter.maker, key)
 }
 
 // Up to depth 1, from below it.

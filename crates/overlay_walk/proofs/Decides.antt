@@ -31,8 +31,9 @@ use Rattle.overlay.specs.Merge.{merge}
 use Rattle.overlay.proofs.Merge.{merge_left, merge_right, merge_ascends}
 use Rattle.overlay_checks.specs.Tables.{tables_number}
 use Rattle.overlay_checks.proofs.Tables.{number_clear}
-use Rattle.overlay_place.specs.Pairs.{climbed, started, passed_below, leads, least, abreast, owner_walks, firsts, below_root, pair_at_root, pair_stands}
-use Rattle.overlay_place.specs.declared.LaidIter.{LaidIter}
+use Rattle.laid_iter.specs.Cursors.{pair_at_root}
+use Rattle.overlay_place.specs.Pairs.{climbed, started, passed_below, leads, least, abreast, owner_walks, firsts, below_root, pair_stands}
+use Rattle.laid_iter.specs.declared.LaidIter.{LaidIter}
 use Rattle.overlay_walk.specs.Pair.{pair, on, stands_at, Above, StandsFor, at_top, at_first, in_school, in_maker}
 use Rattle.overlay_walk.specs.Walk.{LaidStands}
 use Rattle.overlay_walk.proofs.Pair as pairs

@@ -19,7 +19,7 @@ use Rattle.trie_iterator.specs.TrieIterator.{State}
 use Rattle.overlay_checks.specs.Tables.{tables_number}
 use Rattle.overlay_checks.proofs.Tables.{clear_number}
 use Rattle.overlay_place.specs.Pairs.{pair_stands, pair_refusal}
-use Rattle.overlay_place.specs.declared.LaidIter.{LaidIter}
+use Rattle.laid_iter.specs.declared.LaidIter.{LaidIter}
 use Rattle.overlay_walk.specs.Walk.{LaidStands}
 use Rattle.overlay_walk.proofs.Decides.{the_test_decides_exactly_the_states}
 

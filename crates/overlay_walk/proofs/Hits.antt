@@ -23,7 +23,7 @@ use Rattle.overlay.proofs.Merge.{in_merge, merge_left, merge_right}
 use Rattle.overlay_checks.specs.Tables.{tables_number}
 use Rattle.overlay_checks.specs.declared.Side.TheVariants.{School, Maker}
 use Rattle.overlay_place.specs.Pairs.{pair_refusal}
-use Rattle.overlay_place.specs.declared.LaidIter.{LaidIter}
+use Rattle.laid_iter.specs.declared.LaidIter.{LaidIter}
 use Rattle.overlay_iter.specs.Calls.{laid_unsought, one_sought, both_sought, laid_sought_of}
 use Rattle.overlay_iter.specs.declared.LaidSeekAnswer.{LaidSeekAnswer}
 use Rattle.overlay_iter.proofs.Outcomes.{when_school, when_maker, when_both}

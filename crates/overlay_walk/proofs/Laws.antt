@@ -14,8 +14,8 @@ use Rattle.trie_iterator.proofs.Held.{undamaged_layered}
 use Rattle.overlay_checks.specs.Tables.{tables_number}
 use Rattle.overlay_checks.proofs.Tables.{number_clear}
 use Rattle.overlay.specs.Laid.{laid}
-use Rattle.overlay_place.specs.Pairs.{root_pair}
-use Rattle.overlay_place.specs.declared.LaidIter.{LaidIter}
+use Rattle.laid_iter.specs.Cursors.{root_pair}
+use Rattle.laid_iter.specs.declared.LaidIter.{LaidIter}
 use Rattle.overlay_walk.specs.Pair.{pair, at_top}
 use Rattle.overlay_walk.specs.Walk.{laid_heard, laid_moved, laid_heard_all, laid_moved_all, LaidStands, LaidFollows}
 use Rattle.overlay_walk.proofs.Walking.{Goes, key_goes, end_goes, next_goes, seek_goes, open_goes, up_goes}

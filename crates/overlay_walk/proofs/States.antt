@@ -26,8 +26,9 @@ use Rattle.trie_iterator.specs.Cursor.{Layered, Stands, at_the_root}
 use Rattle.trie_iterator.proofs.Held.{first_keys}
 use Rattle.trie_iterator.proofs.Standing.{clear, key_is}
 use Rattle.overlay.specs.Laid.{owns, laid}
-use Rattle.overlay_place.specs.Pairs.{climbed, started, passed_below, leads, least, abreast, owner_walks, firsts, below_root, pair_at_root, pair_stands}
-use Rattle.overlay_place.specs.declared.LaidIter.{LaidIter}
+use Rattle.laid_iter.specs.Cursors.{pair_at_root}
+use Rattle.overlay_place.specs.Pairs.{climbed, started, passed_below, leads, least, abreast, owner_walks, firsts, below_root, pair_stands}
+use Rattle.laid_iter.specs.declared.LaidIter.{LaidIter}
 use Rattle.overlay_place.proofs.Tests.{passed_none, abreast_by, below_ends, below_keys, stands_at_root, stands_below_lem, or_here}
 use Rattle.overlay_walk.specs.Pair.{stands_at, Above, one, more, StandsFor, at_top, at_first, in_school, in_maker, on}
 use Rattle.overlay_walk.specs.Walk.{LaidStands}

@@ -27,8 +27,9 @@ use Rattle.overlay.specs.Laid.{owns, laid}
 use Rattle.overlay.proofs.Merge.{merge_from}
 use Rattle.overlay_checks.specs.Tables.{tables_number}
 use Rattle.overlay_checks.specs.declared.Side.TheVariants.{School, Maker}
-use Rattle.overlay_place.specs.Pairs.{pair, leads, least, pair_at_root, pair_refusal}
-use Rattle.overlay_place.specs.declared.LaidIter.{LaidIter}
+use Rattle.laid_iter.specs.Cursors.{pair, pair_at_root}
+use Rattle.overlay_place.specs.Pairs.{leads, least, pair_refusal}
+use Rattle.laid_iter.specs.declared.LaidIter.{LaidIter}
 use Rattle.overlay_place.proofs.Tests.{unrefused}
 use Rattle.overlay_iter.specs.Calls.{pass_if, next_at, next_pair, end_by, laid_key_of, laid_end_of, laid_unmoved, one_next, both_next, laid_next_of, laid_unsought, one_sought, both_sought, laid_sought_of, laid_unopened, one_opened, first_opened, laid_open_of, laid_unrisen, one_risen, both_risen, laid_up_of}
 use Rattle.overlay_iter.proofs.Outcomes.{when_school, when_maker, when_both, opens_both, opens_school, opens_maker}

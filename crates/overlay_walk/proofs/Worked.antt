@@ -15,7 +15,8 @@ use Rattle.column_trie.specs.declared.ColumnTrie.{ColumnTrie}
 use Rattle.column_trie_place.specs.Checks.{cursor, child, stands, stands_below, refusal, remaining, owns}
 use Rattle.column_trie_place.specs.declared.ColumnTrieIter.{ColumnTrieIter}
 use Rattle.column_trie_iter.specs.Cursor.{key_of, up_of, rises_in}
-use Rattle.overlay_place.specs.Pairs.{pair, ups, climbed, passed_below, abreast, below_root, pair_stands}
+use Rattle.laid_iter.specs.Cursors.{pair}
+use Rattle.overlay_place.specs.Pairs.{ups, climbed, passed_below, abreast, below_root, pair_stands}
 
 -- tables of arity 2 and capacity 3, one behind the other: the school's, the maker's, the school's rows again, and one without rows
 abbrev pool : List ℕ

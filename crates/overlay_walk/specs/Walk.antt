@@ -6,7 +6,7 @@ use Rattle.column_trie_place.specs.Checks.{unless}
 use Rattle.trie_iterator.specs.TrieIterator.{State, Call, Key, Next, AtEnd, Open, Up, Seek, Answer, shows, none, says, refused, answers, follow}
 use Rattle.trie_iterator.specs.Cursor.{of_key, of_end, Stands}
 use Rattle.overlay.specs.Laid.{laid}
-use Rattle.overlay_place.specs.declared.LaidIter.{LaidIter}
+use Rattle.laid_iter.specs.declared.LaidIter.{LaidIter}
 use Rattle.overlay_iter.specs.Calls.{laid_key_of, laid_end_of, laid_next_of, laid_sought_of, laid_open_of, laid_up_of}
 use Rattle.overlay_iter.specs.declared.LaidNextAnswer.{LaidNextAnswer}
 use Rattle.overlay_iter.specs.declared.LaidSeekAnswer.{LaidSeekAnswer}

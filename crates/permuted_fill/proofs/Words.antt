@@ -15,7 +15,8 @@ use Rattle.column_trie.specs.declared.ColumnTrie.{ColumnTrie}
 use Rattle.column_trie.proofs.Kept.{stored_kept}
 use Rattle.column_trie.proofs.Stored.{header_keys}
 use Rattle.from_sorted.specs.Push.{Filling, Pushes}
-use Rattle.from_sorted.proofs.Fill.{Filled, fills_none}
+use Rattle.from_sorted.specs.Push.{Filled}
+use Rattle.from_sorted.proofs.Fill.{fills_none}
 
 in_front : (n : ℕ) (rows : List Row) {q : Row} → q ∈ take n rows → q ∈ rows
 in_front zero rows m = absurd (not_in_nil m)

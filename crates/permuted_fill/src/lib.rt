@@ -11,7 +11,7 @@ ghost use Rattle.permuted_rows.specs.Seen.{rows_seen};
 ghost use Rattle.permuted_fill.specs.Ranks.{Ranked, RankedIn, Laying};
 
 use column_trie::{ColumnTrie, layer_at};
-use from_sorted::{Lengths, common_prefix_len};
+use from_sorted::Lengths;
 use number_sort::sort_numbers;
 use permuted_rows::Permuted;
 use row_words::pack_rows;
@@ -43,17 +43,15 @@ pub fn lay_rows(rows: &Permuted, into: &mut [u64], empty: ColumnTrie) -> ColumnT
     if n == 0 {
         return empty;
     }
-    let arity = empty.arity;
     let mut lengths = Lengths::of(empty);
-    let at = layer_at(empty, arity - 1);
+    let at = layer_at(empty, empty.arity - 1);
     let first = into[at];
     let mut last = rows.row(first);
     lengths.append_row(into, empty, &last, 0, 0);
     for j in 1..n {
         let w = into[at + j];
         let row = rows.row(w);
-        let d = common_prefix_len(&last, &row, arity);
-        lengths.append_row(into, empty, &row, d, d + 1);
+        lengths.append_next(into, empty, &last, &row);
         last = row;
     }
     lengths.filled(empty)

@@ -1,2 +1,3 @@
+mod Fields
 pub mod Rows
 mod Copies

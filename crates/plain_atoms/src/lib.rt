@@ -20,7 +20,8 @@ pub fn column(a: Atom, v: usize) -> Option<usize>
     a.variables[..a.len].iter().position(|&w| w == v)
 }
 
-// The number of the first atom that v binds a column of, and which column that is.
+// The number of the first atom that v binds a column of, and which column that is. A pair: with a struct, of four lines, the plain engine had more than the 120 that are asked
+// (docs/DECISIONS.md 67).
 pub fn holder(query: Query, v: usize) -> (usize, usize)
     requires { VariableOf query v }
     ensures { First query v result.0 × (result.1 ≡ column v (vars_of (atom_at query result.0))) }

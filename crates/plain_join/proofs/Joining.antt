@@ -17,16 +17,20 @@ use Rattle.join_query.specs.declared.Query.{Query}
 use Rattle.join_query.specs.declared.Tables.{Tables}
 use Rattle.join_query.proofs.Accepted.{sized, passes}
 use Rattle.join_query.proofs.Outcome.{outcome_refused, outcome_listed}
-use Rattle.join_window.specs.Window.{written}
+use Rattle.join_window.specs.Window.{written, progress, Begun}
+use Rattle.join_window.specs.declared.Window.{Window}
+use Rattle.join_window.proofs.Windows.{begun_progress}
 use Rattle.plain.specs.Plain.{plainly}
 use Rattle.plain.proofs.Plain.{plainly_is}
 use Rattle.plain_join.specs.Outcome.{PlainJoins}
 
 module _ {pool : List ℕ} {ts : Tables} {q : Query} {len : ℕ} (z : Accepted pool ts q len) where
   -- the search from the root leaves the listing
-  pub joined : (w : List ℕ) {s : Progress} → s ≡ emits q.n (written w 0 false) (plainly q.n (drop (q.n - q.n) (order_of q)) (atoms_of pool ts q) (replicate max_variables 0)) → s ≡ listed pool ts q w
-  joined w d =
+  pub joined : {n : ℕ} {w₀ : Window} {s : Progress} → Begun n w₀ → s ≡ emits q.n (progress w₀) (plainly q.n (drop (q.n - q.n) (order_of q)) (atoms_of pool ts q) (replicate max_variables 0)) → s ≡ listed pool ts q w₀.words.now
+  joined {w₀ = w₀} b d =
+      let w = w₀.words.now in
       d
+      ∙ ap (λ (s : Progress). emits q.n s (plainly q.n (drop (q.n - q.n) (order_of q)) (atoms_of pool ts q) (replicate max_variables 0))) (begun_progress b)
       ∙ ap (λ (k : ℕ). emits q.n (written w 0 false) (plainly q.n (drop k (order_of q)) (atoms_of pool ts q) (replicate max_variables 0))) (let e : q.n - q.n ≡ 0 = omega arith in e)
       ∙ ap (emits q.n (written w 0 false)) (plainly_is (passes z) (replicate max_variables 0) (omega (arith, (sized z).few)))
       ∙ emits_windowed w q.n (listing q.n (order_of q) (atoms_of pool ts q)) (listing_listing (passes z)).wide

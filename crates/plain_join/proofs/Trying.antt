@@ -1,31 +1,30 @@
 -- The loop over the keys to try for one variable. Idea: to emit the rows of the keys left, from where the window stands, ends where the whole search ends; a key's call takes
 -- the first of them away, and a key that fails a test has no rows.
-use Prim.Native.Nat.{ℕ, suc, ◌*◌, ◌-◌, ◌≤◌, ◌<◌}
+use Prim.Native.Nat.{ℕ, suc, ◌-◌, ◌≤◌, ◌<◌}
 use native.Mathlib.Omega.{arith}
-use native.Mathlib.Nat.{le-mul_of_pos_right}
 use mathlib.Core.Path.{◌≡◌, refl, sym, subst, ap, ◌∙◌}
 use mathlib.Core.Bool.{Bool, true, false}
 use mathlib.Core.List.{List, [], ◌∷◌, ◌++◌, flat_map}
 use lib.ListN.{length, get_or, set, take, drop, length-set, drop_of_length-le}
 use lib.Seq.{set-set, drop-cons, split_at, get_or-take}
 use Rattle.relation.specs.Order.{Row, pick}
-use Rattle.relation.specs.Lists.{◌∈◌, hd, not_in_nil, Ascends}
-use Rattle.relation.specs.Rows.{Width}
+use Rattle.relation.specs.Lists.{◌∈◌, hd, Ascends}
 use Rattle.relation.specs.Runs.{from}
 use Rattle.relation.proofs.Lists.{get_or_in}
 use Rattle.relation.proofs.Runs.{in_from, from_ascends, from_least}
 use Rattle.query.specs.Meaning as meaning
 use Rattle.query.specs.Window.{Progress, emit, emits}
-use Rattle.query.proofs.Window.{emits_append, emits_full, emits_length, emits_fits}
+use Rattle.query.proofs.Window.{emits_append, emits_full}
 use Rattle.overlay.proofs.Cutting.{from_zero, from_later, from_past}
 use Rattle.join_query.specs.Query.{max_variables, order_of, atoms_of, Accepted}
 use Rattle.join_query.specs.declared.Query.{Query}
 use Rattle.join_query.specs.declared.Tables.{Tables}
 use Rattle.join_query.proofs.Accepted.{sized, passes}
-use Rattle.join_window.specs.Window.{written, Fits}
-use Rattle.join_window.specs.declared.Written.{Written}
+use Rattle.join_window.specs.Window.{progress, Open, Kept, Wrote}
+use Rattle.join_window.specs.declared.Window.{Window}
+use Rattle.join_window.proofs.Windows.{kept_on, still_open}
 use Rattle.plain.specs.Plain.{tried, all_hold, plainly}
-use Rattle.plain.proofs.Plain.{keeps, tried_ascend}
+use Rattle.plain.proofs.Plain.{tried_ascend}
 use Rattle.plain.proofs.Rest.{plainly_before}
 use Rattle.plain_keys.specs.Keys.{head_of}
 use Rattle.std.specs.Prelude.{Option, Some, None}
@@ -116,90 +115,75 @@ module _ {pool : List ℕ} {ts : Tables} {q : Query} {len : ℕ} (z : Accepted p
       (split_at (order_of q) depth 0 inside ∙ ap (λ (x : ℕ). take depth (order_of q) ++ x ∷ drop (suc depth) (order_of q)) variable_is ∙ ap (λ (m : List ℕ). take depth (order_of q) ++ v ∷ m) behind)
       found
 
-  module _ (w₀ : List ℕ) (first : ℕ) where
+  module _ (w₀ : Window) where
     -- the keys left lead to the end, and the row has the words given
-    pub record Trying (window : List ℕ) (row : Row) (next : Option ℕ) (so : Written) : Type 0 where
-      pub ends : emits q.n (written window so.rows so.full) (flat_map f (todo ks next)) ≡ emits q.n (written w₀ first false) (plainly q.n (drop depth (order_of q)) atoms found)
-      pub room : so.full ≡ false
-      pub window_long : length window ≡ length w₀
-      pub fits : so.rows * q.n ≤ length w₀
+    pub record Trying (w : Window) (row : Row) (next : Option ℕ) : Type 0 where
+      pub ends : emits q.n (progress w) (flat_map f (todo ks next)) ≡ emits q.n (progress w₀) (plainly q.n (drop depth (order_of q)) atoms found)
+      pub ready : Open q.n w
+      pub kept : Kept w₀ w
       pub same : (x : ℕ) → set row v x ≡ set found v x
       pub row_long : length row ≡ max_variables
       pub among : (k : ℕ) → next ≡ Some k → k ∈ ks
 
-    pub trying_same : {w window : List ℕ} {s so : Written} {next : Option ℕ} {row : Row} → w ≡ window → s ≡ so → Trying w row next s → Trying window row next so
-    trying_same {w} {window} {s} {so} {next} {row} d e t = subst (λ (x : List ℕ). Trying x row next so) d (subst (Trying w row next) e t)
+    pub trying_same : {w w' : Window} {next : Option ℕ} {row : Row} → w ≡ w' → Trying w row next → Trying w' row next
+    trying_same {next = next} {row} e t = subst (λ (x : Window). Trying x row next) e t
 
-    pub trying_start : {next : Option ℕ} → next ≡ head_of (from 0 (tried (get_or q.order (q.n - left) 0) found (atoms_of pool ts q))) → length found ≡ max_variables → Fits q.n (length w₀) first → Trying w₀ found next (record { rows = first; full = false })
+    pub trying_start : {next : Option ℕ} → next ≡ head_of (from 0 (tried (get_or q.order (q.n - left) 0) found (atoms_of pool ts q))) → length found ≡ max_variables → Open q.n w₀ → Trying w₀ found next
     trying_start {next} e o g = record {
-      ends = ap (λ (m : List ℕ). emits q.n (written w₀ first false) (flat_map f m)) (todo_is rise 0 e ∙ from_zero ks) ∙ ap (emits q.n (written w₀ first false)) (sym rows_are);
-      room = refl;
-      window_long = refl;
-      fits = g.inside;
+      ends = ap (λ (m : List ℕ). emits q.n (progress w₀) (flat_map f m)) (todo_is rise 0 e ∙ from_zero ks) ∙ ap (emits q.n (progress w₀)) (sym rows_are);
+      ready = g;
+      kept = record { same = refl; rows_of = refl };
       same = λ x. refl;
       row_long = o;
       among = next_in rise 0 e;
     }
 
-    module _ {window : List ℕ} {row : Row} {next : Option ℕ} {so : Written} (t : Trying window row next so) where
-      pub trying_fits : Fits q.n (length window) so.rows
-      trying_fits = record {
-        inside = omega (arith, t.fits, t.window_long);
-        few = omega (arith, t.fits, t.window_long, le-mul_of_pos_right so.rows (let p : 0 < q.n = omega arith in p));
-      }
-
+    module _ {w : Window} {row : Row} {next : Option ℕ} (t : Trying w row next) where
       -- no key is left
-      pub trying_done : next ≡ None → written window so.rows so.full ≡ emits q.n (written w₀ first false) (plainly q.n (drop (q.n - left) (order_of q)) (atoms_of pool ts q) found)
+      pub trying_done : next ≡ None → Wrote w₀ w (emits q.n (progress w₀) (plainly q.n (drop (q.n - left) (order_of q)) (atoms_of pool ts q) found))
       unfolding flat_map emits
-      trying_done e = sym (ap (λ (x : Option ℕ). emits q.n (written window so.rows so.full) (flat_map f (todo ks x))) e) ∙ t.ends
+      trying_done e = record { kept = t.kept; stands = sym (ap (λ (x : Option ℕ). emits q.n (progress w) (flat_map f (todo ks x))) e) ∙ t.ends }
 
       module _ {key : ℕ} (e : next ≡ Some key) where
-        key_first : emits q.n (emits q.n (written window so.rows false) (f key)) (flat_map f (from (suc key) ks)) ≡ emits q.n (written w₀ first false) (plainly q.n (drop depth (order_of q)) atoms found)
+        key_first : emits q.n (emits q.n (progress w) (f key)) (flat_map f (from (suc key) ks)) ≡ emits q.n (progress w₀) (plainly q.n (drop depth (order_of q)) atoms found)
         unfolding flat_map
         key_first =
-            sym (emits_append q.n (written window so.rows false) (f key) (flat_map f (from (suc key) ks)))
-            ∙ sym (ap (λ (x : Option ℕ). emits q.n (written window so.rows false) (flat_map f (todo ks x))) e)
-            ∙ sym (ap (λ (b : Bool). emits q.n (written window so.rows b) (flat_map f (todo ks next))) t.room)
+            sym (emits_append q.n (progress w) (f key) (flat_map f (from (suc key) ks)))
+            ∙ sym (ap (λ (x : Option ℕ). emits q.n (progress w) (flat_map f (todo ks x))) e)
             ∙ t.ends
 
         -- the rows of the next key, where it passes the tests and where it does not
-        pub under_key : {s : Progress} → all_hold v (set row v key) atoms ≡ true → s ≡ emits q.n (written window so.rows false) (plainly q.n vs atoms (set row v key)) → s ≡ emits q.n (written window so.rows false) (rows_under q.n (atoms_of pool ts q) (get_or q.order (q.n - left) 0) (drop (q.n - (left - 1)) (order_of q)) found key)
+        pub under_key : {s : Progress} → all_hold v (set row v key) atoms ≡ true → s ≡ emits q.n (progress w) (plainly q.n vs atoms (set row v key)) → s ≡ emits q.n (progress w) (rows_under q.n (atoms_of pool ts q) (get_or q.order (q.n - left) 0) (drop (q.n - (left - 1)) (order_of q)) found key)
         under_key a p =
             p
-            ∙ ap (λ (r : Row). emits q.n (written window so.rows false) (plainly q.n vs atoms r)) (t.same key)
-            ∙ ap (λ (b : Bool). emits q.n (written window so.rows false) (pick b (plainly q.n vs atoms (set found v key)) [])) (sym (ap (λ (r : Row). all_hold v r atoms) (sym (t.same key)) ∙ a))
+            ∙ ap (λ (r : Row). emits q.n (progress w) (plainly q.n vs atoms r)) (t.same key)
+            ∙ ap (λ (b : Bool). emits q.n (progress w) (pick b (plainly q.n vs atoms (set found v key)) [])) (sym (ap (λ (r : Row). all_hold v r atoms) (sym (t.same key)) ∙ a))
 
-        pub under_none : all_hold v (set row v key) atoms ≡ false → written window so.rows so.full ≡ emits q.n (written window so.rows false) (rows_under q.n (atoms_of pool ts q) (get_or q.order (q.n - left) 0) (drop (q.n - (left - 1)) (order_of q)) found key)
+        pub under_none : all_hold v (set row v key) atoms ≡ false → progress w ≡ emits q.n (progress w) (rows_under q.n (atoms_of pool ts q) (get_or q.order (q.n - left) 0) (drop (q.n - (left - 1)) (order_of q)) found key)
         unfolding emits
-        under_none a =
-            ap (written window so.rows) t.room
-            ∙ ap (λ (b : Bool). emits q.n (written window so.rows false) (pick b (plainly q.n vs atoms (set found v key)) [])) (sym (ap (λ (r : Row). all_hold v r atoms) (sym (t.same key)) ∙ a))
-
-        wide : (b : Bool) → Width q.n (pick b (plainly q.n vs atoms (set found v key)) [])
-        wide true r m = (keeps q.n atoms vs (set found v key) (omega (arith, ap (length {A = ℕ}) (t.same key), length-set row v key, t.row_long, (sized z).few)) m).0
-        wide false r m = absurd (not_in_nil m)
+        under_none a = ap (λ (b : Bool). emits q.n (progress w) (pick b (plainly q.n vs atoms (set found v key)) [])) (sym (ap (λ (r : Row). all_hold v r atoms) (sym (t.same key)) ∙ a))
 
         -- fewer keys are left
         pub trying_less : {then : Option ℕ} → then ≡ head_of (from (suc key) (tried (get_or q.order (q.n - left) 0) found (atoms_of pool ts q))) → length (todo ks then) < length (todo ks next)
         trying_less {then} c = omega (arith, ap (length {A = ℕ}) (todo_is rise (suc key) c), ap (λ (x : Option ℕ). length (todo ks x)) e)
 
-        module _ {w : List ℕ} {more : Written} (p : written w more.rows more.full ≡ emits q.n (written window so.rows false) (rows_under q.n (atoms_of pool ts q) (get_or q.order (q.n - left) 0) (drop (q.n - (left - 1)) (order_of q)) found key)) where
+        module _ {w' : Window} (k : Kept w w') (p : progress w' ≡ emits q.n (progress w) (rows_under q.n (atoms_of pool ts q) (get_or q.order (q.n - left) 0) (drop (q.n - (left - 1)) (order_of q)) found key)) where
           -- no room is left
-          pub trying_full : more.full ≡ true → written w more.rows more.full ≡ emits q.n (written w₀ first false) (plainly q.n (drop (q.n - left) (order_of q)) (atoms_of pool ts q) found)
-          trying_full u = sym (emits_full q.n (written w more.rows more.full) (flat_map f (from (suc key) ks)) u) ∙ ap (λ (s : Progress). emits q.n s (flat_map f (from (suc key) ks))) p ∙ key_first
+          pub trying_full : w'.full ≡ true → Wrote w₀ w' (emits q.n (progress w₀) (plainly q.n (drop (q.n - left) (order_of q)) (atoms_of pool ts q) found))
+          trying_full u = record {
+            kept = kept_on t.kept k;
+            stands = sym (emits_full q.n (progress w') (flat_map f (from (suc key) ks)) u) ∙ ap (λ (s : Progress). emits q.n s (flat_map f (from (suc key) ks))) p ∙ key_first;
+          }
 
-          pub trying_next : more.full ≡ false → {then : Option ℕ} → then ≡ head_of (from (suc key) (tried (get_or q.order (q.n - left) 0) found (atoms_of pool ts q))) → Trying w (set row (get_or q.order (q.n - left) 0) key) then more
-          trying_next u {then} c =
-              let b = all_hold v (set found v key) atoms in
-              record {
-                ends =
-                    ap (λ (m : List ℕ). emits q.n (written w more.rows more.full) (flat_map f m)) (todo_is rise (suc key) c)
-                    ∙ ap (λ (s : Progress). emits q.n s (flat_map f (from (suc key) ks))) p
-                    ∙ key_first;
-                room = u;
-                window_long = ap (λ (s : Progress). length s.words) p ∙ emits_length q.n (f key) (written window so.rows false) (wide b) ∙ t.window_long;
-                fits = omega (arith, ap (λ (s : Progress). s.count * q.n) p, emits_fits q.n (f key) (written window so.rows false) (wide b) (omega (arith, t.fits, t.window_long)), t.window_long);
-                same = λ x. set-set row v key x ∙ t.same x;
-                row_long = length-set row v key ∙ t.row_long;
-                among = next_in rise (suc key) c;
-              }
+          pub trying_next : w'.full ≡ false → {then : Option ℕ} → then ≡ head_of (from (suc key) (tried (get_or q.order (q.n - left) 0) found (atoms_of pool ts q))) → Trying w' (set row (get_or q.order (q.n - left) 0) key) then
+          trying_next u {then} c = record {
+            ends =
+                ap (λ (m : List ℕ). emits q.n (progress w') (flat_map f m)) (todo_is rise (suc key) c)
+                ∙ ap (λ (s : Progress). emits q.n s (flat_map f (from (suc key) ks))) p
+                ∙ key_first;
+            ready = still_open t.ready k (omega arith) u;
+            kept = kept_on t.kept k;
+            same = λ x. set-set row v key x ∙ t.same x;
+            row_long = length-set row v key ∙ t.row_long;
+            among = next_in rise (suc key) c;
+          }

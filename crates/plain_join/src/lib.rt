@@ -11,45 +11,44 @@
 // those of the leapfrog triejoin (crates/engines). The keys and the tests are crates/plain_atoms and crates/plain_keys.
 #![tactic(auto)]
 
-ghost use Rattle.std.specs.Prelude.{◌≡◌, false, ◌≤◌, ◌-◌, length, drop};
+ghost use Rattle.std.specs.Prelude.{◌≤◌, ◌-◌, drop};
 ghost use Rattle.query.specs.Window.{emits};
 ghost use Rattle.join_query.specs.Query.{order_of, atoms_of};
-ghost use Rattle.join_window.specs.Window.{written, Fits};
+ghost use Rattle.join_window.specs.Window.{progress, Open, Wrote};
 ghost use Rattle.plain.specs.Plain.{plainly};
 ghost use Rattle.plain_join.specs.Outcome.{PlainJoins};
 
 use join_checks::check;
 use join_query::{Query, Tables};
-use join_window::{Written, emit};
+use join_window::Window;
 use plain_atoms::{Asked, all_hold, holder};
 use plain_keys::{Row, next_key};
 use refusal::Refusal;
 
-// Writes the rows that complete `found` by words for the last `left` variables of the order, behind the first `rows` rows of the window, until it is full.
-fn search(asked: Asked, left: usize, mut found: Row, window: &mut [u64], rows: usize) -> Written
-    requires { (left ≤ asked.query.n) × Fits asked.query.n (length window.old) rows }
-    ensures { let q = asked.entry.query in written window.new result.rows result.full ≡ emits q.n (written window.old rows false) (plainly q.n (drop (q.n - left) (order_of q)) (atoms_of asked.entry.pool.now asked.entry.tables q) found) }
+// Writes the rows that complete `found` by words for the last `left` variables of the order, behind those that the window holds, until it is full.
+fn search(asked: Asked, left: usize, mut found: Row, window: &mut Window)
+    requires left { left ≤ asked.query.n }
+    requires ready { Open asked.query.n window.old }
+    ensures { let q = asked.entry.query in Wrote window.old window.new (emits q.n (progress window.old) (plainly q.n (drop (q.n - left) (order_of q)) (atoms_of asked.entry.pool.now asked.entry.tables q) found)) }
 {
     if left == 0 {
-        return emit(window, &found, asked.query.n, rows);
+        return window.emit(&found);
     }
     let v = asked.query.order[asked.query.n - left];
     let (first, c) = holder(asked.query, v);
     let a = asked.query.atoms[first];
     found[v] = 0; // so that the least key of all is tried first
     let mut next = next_key(asked.pool, asked.tables, a, found, c, false);
-    let mut written = Written { rows, full: false };
     while let Some(key) = next {
         found[v] = key;
         if all_hold(asked, found, v, first + 1) {
-            written = search(asked, left - 1, found, window, written.rows);
-            if written.full {
-                return written;
+            search(asked, left - 1, found, window);
+            if window.full {
+                return;
             }
         }
         next = next_key(asked.pool, asked.tables, a, found, c, true);
     }
-    written
 }
 
 // C's struct, so a number stands where Rust has a Result.
@@ -74,8 +73,9 @@ pub fn plain_join(pool: &[u64], tables: Tables, query: Query, window: &mut [u64]
         tables,
         query,
     };
-    let end = search(asked, query.n, [0; Query::MAX_VARIABLES], window, 0);
-    let number = if end.full { Refusal::Full.number() } else { 0 };
-    let rows = end.rows;
+    let mut out = Window::new(window, query.n);
+    search(asked, query.n, [0; Query::MAX_VARIABLES], &mut out);
+    let rows = out.rows;
+    let number = if out.full { Refusal::Full.number() } else { 0 };
     PlainJoined { number, rows }
 }

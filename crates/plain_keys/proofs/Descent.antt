@@ -1,6 +1,6 @@
 -- The descent through a table's layers, word by word: where interval i of layer d stands for the words p, its group holds the keys that follow p, and the place of a
 -- key in the layer is the number of the interval below that stands for one word more.
-use Prim.Native.Nat.{ℕ, zero, suc, ◌+◌, ◌-◌, ◌≤◌, ◌<◌}
+use Prim.Native.Nat.{ℕ, zero, suc, ◌+◌, ◌-◌, ◌^◌, ◌≤◌, ◌<◌}
 use native.Mathlib.Omega.{arith}
 use native.Mathlib.Decide.{dec_lt}
 use native.Mathlib.Numerals.{add-one}
@@ -79,11 +79,11 @@ module _ {pool : List ℕ} {t : ColumnTrie} (o : Whole t) (u : Undamaged pool t)
     many = sym (keys_long pool fits) ∙ ap (λ (l : Layer). length l.keys) here
 
     module _ (i : ℕ) (k : i < length (prefixes d rows)) where
-      starts : get_or (layer_in pool t d).intervals i (data_len_at t d) ≡ get_or lay.intervals i 0
-      starts = ap (λ (l : Layer). get_or l.intervals i (data_len_at t d)) here ∙ get_or_any lay.intervals i (data_len_at t d) 0 (omega (arith, intervals_many wide d b))
+      starts : group_at (layer_in pool t d) i ≡ get_or lay.intervals i 0
+      starts = ap (λ (l : Layer). group_at l i) here ∙ get_or_any lay.intervals i (length lay.keys) 0 (omega (arith, intervals_many wide d b))
 
-      stops : get_or (layer_in pool t d).intervals (i + 1) (data_len_at t d) ≡ get_or lay.intervals (suc i) (length lay.keys)
-      stops = ap (λ (l : Layer). get_or l.intervals (i + 1) (data_len_at t d)) here ∙ ap (λ (n : ℕ). get_or lay.intervals n (data_len_at t d)) (add-one i) ∙ ap (get_or lay.intervals (suc i)) many
+      stops : group_at (layer_in pool t d) (i + 1) ≡ get_or lay.intervals (suc i) (length lay.keys)
+      stops = ap (λ (l : Layer). group_at l (i + 1)) here ∙ ap (λ (n : ℕ). get_or lay.intervals n (length lay.keys)) (add-one i)
 
     module _ {i : ℕ} {p : Row} (a : At pool t d i p) where
       abbrev keys : List ℕ
@@ -95,44 +95,44 @@ module _ {pool : List ℕ} {t : ColumnTrie} (o : Whole t) (u : Undamaged pool t)
       few : length keys ≤ length pool
       few = omega (arith, ap (length {A = ℕ}) there, many, fits)
 
-      some_under : 0 < length rows → Under keys rows p (group_at pool t d i) (group_at pool t d (i + 1))
+      some_under : 0 < length rows → Under keys rows p (group_at (layer_in pool t d) i) (group_at (layer_in pool t d) (i + 1))
       some_under n =
           let k = a.inside n in
           let f = starts i k in
           let g = stops i k in
-          let r : slice (group_at pool t d i) (group_at pool t d (i + 1)) keys ≡ keys_under p rows =
-          ap (λ (x : ℕ). slice x (group_at pool t d (i + 1)) keys) f
+          let r : slice (group_at (layer_in pool t d) i) (group_at (layer_in pool t d) (i + 1)) keys ≡ keys_under p rows =
+          ap (λ (x : ℕ). slice x (group_at (layer_in pool t d) (i + 1)) keys) f
           ∙ ap (λ (x : ℕ). slice (get_or lay.intervals i 0) x keys) g
           ∙ ap (slice (get_or lay.intervals i 0) (get_or lay.intervals (suc i) (length lay.keys))) there
           ∙ group_under wide d b i k
           ∙ ap (λ (x : Row). keys_under x rows) (a.under n) in
           under_slice (omega (arith, f, g, group_rises wide d b i k)) (omega (arith, g, group_end wide d b i k, ap (length {A = ℕ}) there)) r
 
-      no_rows : length rows ≡ 0 → (group_at pool t d i ≡ group_at pool t d (i + 1)) × (group_at pool t d (i + 1) ≡ 0)
+      no_rows : length rows ≡ 0 → (group_at (layer_in pool t d) i ≡ group_at (layer_in pool t d) (i + 1)) × (group_at (layer_in pool t d) (i + 1) ≡ 0)
       no_rows z =
           let x : length lay.intervals ≡ 0 = omega (arith, intervals_many wide d b, length_prefixes d rows) in
-          let y : data_len_at t d ≡ 0 = omega (arith, many, keys_many wide d b, length_prefixes (suc d) rows) in
-          let past : (j : ℕ) → group_at pool t d j ≡ data_len_at t d = λ j. ap (λ (l : Layer). get_or l.intervals j (data_len_at t d)) here ∙ get_or-eq_default lay.intervals (data_len_at t d) {n = j} (omega arith) in
+          let y : length lay.keys ≡ 0 = omega (arith, keys_many wide d b, length_prefixes (suc d) rows) in
+          let past : (j : ℕ) → group_at (layer_in pool t d) j ≡ length lay.keys = λ j. ap (λ (l : Layer). group_at l j) here ∙ get_or-eq_default lay.intervals (length lay.keys) {n = j} (omega arith) in
           (past i ∙ sym (past (i + 1)), past (i + 1) ∙ y)
 
-      none : length rows ≡ 0 → Under keys rows p (group_at pool t d i) (group_at pool t d (i + 1))
+      none : length rows ≡ 0 → Under keys rows p (group_at (layer_in pool t d) i) (group_at (layer_in pool t d) (i + 1))
       none z =
           let w = no_rows z in
-          let s : slice (group_at pool t d i) (group_at pool t d (i + 1)) keys ≡ [] = ap (λ (x : ℕ). slice x (group_at pool t d (i + 1)) keys) w.0 ∙ slice_empty (group_at pool t d (i + 1)) keys in
+          let s : slice (group_at (layer_in pool t d) i) (group_at (layer_in pool t d) (i + 1)) keys ≡ [] = ap (λ (x : ℕ). slice x (group_at (layer_in pool t d) (i + 1)) keys) w.0 ∙ slice_empty (group_at (layer_in pool t d) (i + 1)) keys in
           under_slice (omega (arith, w.0)) (omega (arith, w.1)) (s ∙ sym (keys_none p rows (omega (arith, length_prefixes (suc (length p)) rows))))
 
-      pub at_under : Under (layer_in pool t d).keys (rows_in pool t) p (group_at pool t d i) (group_at pool t d (i + 1))
+      pub at_under : Under (layer_in pool t d).keys (rows_in pool t) p (group_at (layer_in pool t d) i) (group_at (layer_in pool t d) (i + 1))
       at_under = go (dec_lt 0 (length rows))
         where
-          go : Dec (0 < length rows) → Under keys rows p (group_at pool t d i) (group_at pool t d (i + 1))
+          go : Dec (0 < length rows) → Under keys rows p (group_at (layer_in pool t d) i) (group_at (layer_in pool t d) (i + 1))
           go (yes n) = some_under n
           go (no n) = none (omega arith)
 
-      pub at_grouped : i ≤ length pool → Grouped pool t d i
-      at_grouped h = record { sound = u; column = b; few = h; forward = at_under.forward; inside = at_under.inside }
+      pub at_grouped : i < 2 ^ 63 → Grouped (layer_in pool t d) i
+      at_grouped h = record { few = h; forward = at_under.forward; inside = at_under.inside }
 
       -- the place of one of these keys is the interval that stands for one word more
-      at_child : (at : ℕ) → group_at pool t d i ≤ at → at < group_at pool t d (i + 1) → At pool t (d + 1) at (p ++ get_or (layer_in pool t d).keys at 0 ∷ []) × (at ≤ length pool)
+      at_child : (at : ℕ) → group_at (layer_in pool t d) i ≤ at → at < group_at (layer_in pool t d) (i + 1) → At pool t (d + 1) at (p ++ get_or (layer_in pool t d).keys at 0 ∷ []) × (at ≤ length pool)
       at_child at lo hi = (go (dec_lt 0 (length rows)), omega (arith, few, at_under.inside))
         where
           long : length (p ++ get_or keys at 0 ∷ []) ≡ d + 1
@@ -152,12 +152,12 @@ module _ {pool : List ℕ} {t : ColumnTrie} (o : Whole t) (u : Undamaged pool t)
           go (no n) = absurd (omega (arith, (no_rows (omega arith)).0))
 
       -- so each key of the group, by its place there
-      pub at_key : (k : ℕ) → k < length (group_keys pool t d i) → At pool t (d + 1) (group_at pool t d i + k) (p ++ get_or (group_keys pool t d i) k 0 ∷ []) × (group_at pool t d i + k ≤ length pool)
+      pub at_key : (k : ℕ) → k < length (group_keys (layer_in pool t d) i) → At pool t (d + 1) (group_at (layer_in pool t d) i + k) (p ++ get_or (group_keys (layer_in pool t d) i) k 0 ∷ []) × (group_at (layer_in pool t d) i + k ≤ length pool)
       at_key k h =
-          let from = group_at pool t d i in
-          let n = group_at pool t d (i + 1) - from in
+          let from = group_at (layer_in pool t d) i in
+          let n = group_at (layer_in pool t d) (i + 1) - from in
           let l = length-take n (drop from keys) in
           let f = at_under.forward in
-          let e : get_or (group_keys pool t d i) k 0 ≡ get_or keys (from + k) 0 = get_or-take n (drop from keys) k 0 (omega arith) ∙ get_or-drop from keys k 0 in
+          let e : get_or (group_keys (layer_in pool t d) i) k 0 ≡ get_or keys (from + k) 0 = get_or-take n (drop from keys) k 0 (omega arith) ∙ get_or-drop from keys k 0 in
           let c = at_child (from + k) (omega arith) (omega arith) in
           (subst (λ (x : ℕ). At pool t (d + 1) (from + k) (p ++ x ∷ [])) (sym e) c.0, c.1)

@@ -1,9 +1,9 @@
 -- Internal: contracts of the search for keys: the group of an interval, the first key of a run, and what a search may rely on.
-use Rattle.std.specs.Prelude.{ℕ, suc, ◌+◌, ◌-◌, ◌≤◌, ◌<◌, ◌≡◌, Bool, true, List, [], ◌∷◌, length, get_or, take, drop, Option, Some, None}
+use Rattle.std.specs.Prelude.{ℕ, suc, ◌+◌, ◌-◌, ◌^◌, ◌≤◌, ◌<◌, ◌≡◌, Bool, true, List, [], ◌∷◌, length, get_or, take, drop, Option, Some, None}
 use Rattle.relation.specs.Order.{Row, pick}
+use Rattle.relation.specs.Layers.{Layer}
 use Rattle.query.specs.Meaning.{part}
-use Rattle.column_trie.specs.Table.{layer_in, data_len_at, Undamaged}
-use Rattle.column_trie.specs.declared.ColumnTrie.{ColumnTrie}
+use Rattle.column_trie.specs.Table.{Undamaged}
 use Rattle.laid_over.specs.Shape.{SameShape}
 use Rattle.join_query.specs.Query.{max_tables, max_variables, table_at, var_at}
 use Rattle.join_query.specs.declared.Atom.{Atom}
@@ -13,21 +13,19 @@ use Rattle.join_query.specs.declared.Tables.{Tables}
 abbrev pub bound : Bool → ℕ → ℕ
 bound past key = pick past (suc key) key
 
--- where the group of interval i of layer d begins among the layer's keys; it ends where the next one's does
-abbrev pub group_at : List ℕ → ColumnTrie → ℕ → ℕ → ℕ
-group_at pool t d i = get_or (layer_in pool t d).intervals i (data_len_at t d)
+-- where the group of interval i begins among the layer's keys; it ends where the next one's does
+abbrev pub group_at : Layer → ℕ → ℕ
+group_at l i = get_or l.intervals i (length l.keys)
 
 -- its keys
-abbrev pub group_keys : List ℕ → ColumnTrie → ℕ → ℕ → List ℕ
-group_keys pool t d i = take (group_at pool t d (i + 1) - group_at pool t d i) (drop (group_at pool t d i) (layer_in pool t d).keys)
+abbrev pub group_keys : Layer → ℕ → List ℕ
+group_keys l i = take (group_at l (i + 1) - group_at l i) (drop (group_at l i) l.keys)
 
--- a group that lies among the layer's keys, in a table that lies undamaged in the pool
-pub record Grouped (pool : List ℕ) (t : ColumnTrie) (d i : ℕ) : Type 0 where
-  pub sound : Undamaged pool t
-  pub column : d < t.arity
-  pub few : i ≤ length pool
-  pub forward : group_at pool t d i ≤ group_at pool t d (i + 1)
-  pub inside : group_at pool t d (i + 1) ≤ length (layer_in pool t d).keys
+-- a group that lies among the layer's keys
+pub record Grouped (l : Layer) (i : ℕ) : Type 0 where
+  pub few : i < 2 ^ 63
+  pub forward : group_at l i ≤ group_at l (i + 1)
+  pub inside : group_at l (i + 1) ≤ length l.keys
 
 -- the first key of a run, if it has one
 unfoldable pub head_of : List ℕ → Option ℕ

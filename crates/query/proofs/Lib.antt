@@ -12,4 +12,5 @@ pub mod Holders
 pub mod Under
 pub mod Engine
 pub mod Checks
+pub mod Permuting
 pub mod Worked

@@ -1,5 +1,6 @@
 // Recorded walks: rows that were built, and moves of a cursor with its answers, the same under every strategy.
 use crate::tables::table_of;
+use cases::STRATEGIES;
 use cases::script::{Script, is_told};
 use column_trie::ColumnTrie;
 use column_trie_iter::SeekAnswer;
@@ -8,7 +9,7 @@ use seek::SeekStrategy;
 
 const POOL: usize = 512;
 
-// Which move it is, by its number.
+// Which move it is.
 #[derive(Clone, Copy)]
 enum Move {
     Next,
@@ -18,6 +19,7 @@ enum Move {
 }
 
 // Of a move: the answer, yes or no; then whether there is a key, the key, and whether it is the end.
+// Words and no Option or flags: the text may have any, and one that no answer is like is compared and wrong, so that the program prints what it always has.
 #[derive(Clone, Copy)]
 struct Told {
     which: Move,
@@ -76,65 +78,63 @@ fn is_sought(
     is_told(sought.number, sought.found, told.yes) && sought.hit == hit && probed
 }
 
-// The move that is told: where it leads, with whether its answer is the recorded one. A next's key is the one that is shown then.
-fn step(
-    script: &mut Script,
-    pool: &[u64],
+// A table that is walked under a strategy.
+#[derive(Drop)]
+struct Walk<'a> {
+    pool: &'a [u64],
     table: ColumnTrie,
-    iter: ColumnTrieIter,
     strategy: SeekStrategy,
-    told: Told,
-) -> ColumnTrieIter {
-    match told.which {
-        Move::Next => {
-            let answer = column_trie_iter::next(pool, table, iter);
-            script.compare(is_key(answer.number, answer.found, answer.key, told.yes, told.key));
-            answer.iter
-        }
-        Move::Open => {
-            let answer = column_trie_iter::open(pool, table, iter);
-            script.told(answer.number, answer.opened, told.yes);
-            answer.iter
-        }
-        Move::Up => {
-            let answer = column_trie_iter::up(pool, table, iter);
-            script.told(answer.number, answer.risen, told.yes);
-            answer.iter
-        }
-        Move::Seek { target, probes } => {
-            let sought = column_trie_iter::seek(pool, table, iter, strategy, target);
-            script.compare(is_sought(sought, strategy, target, probes, told));
-            sought.iter
+}
+
+impl<'a> Walk<'a> {
+    // The move that is told: where it leads, with whether its answer is the recorded one. A next's key is the one that is shown then.
+    fn step(&self, script: &mut Script, iter: ColumnTrieIter, told: Told) -> ColumnTrieIter {
+        match told.which {
+            Move::Next => {
+                let answer = column_trie_iter::next(self.pool, self.table, iter);
+                script.compare(is_key(answer.number, answer.found, answer.key, told.yes, told.key));
+                answer.iter
+            }
+            Move::Open => {
+                let answer = column_trie_iter::open(self.pool, self.table, iter);
+                script.told(answer.number, answer.opened, told.yes);
+                answer.iter
+            }
+            Move::Up => {
+                let answer = column_trie_iter::up(self.pool, self.table, iter);
+                script.told(answer.number, answer.risen, told.yes);
+                answer.iter
+            }
+            Move::Seek { target, probes } => {
+                let strategy = self.strategy;
+                let sought = column_trie_iter::seek(self.pool, self.table, iter, strategy, target);
+                script.compare(is_sought(sought, strategy, target, probes, told));
+                sought.iter
+            }
         }
     }
-}
 
-// One move, and where the cursor is then: its key, and whether it is at the end.
-fn one(
-    script: &mut Script,
-    pool: &[u64],
-    table: ColumnTrie,
-    before: ColumnTrieIter,
-    strategy: SeekStrategy,
-) -> ColumnTrieIter {
-    let told = told_at(script);
-    let iter = step(script, pool, table, before, strategy, told);
-    let key = column_trie_iter::key(pool, table, iter);
-    let end = column_trie_iter::at_end(pool, table, iter);
-    script.compare(is_key(key.number, key.found, key.key, told.found, told.key));
-    script.told(end.number, end.at_end, told.end);
-    iter
-}
+    // One move, and where the cursor is then: its key, and whether it is at the end.
+    fn one(&self, script: &mut Script, before: ColumnTrieIter) -> ColumnTrieIter {
+        let told = told_at(script);
+        let iter = self.step(script, before, told);
+        let key = column_trie_iter::key(self.pool, self.table, iter);
+        let end = column_trie_iter::at_end(self.pool, self.table, iter);
+        script.compare(is_key(key.number, key.found, key.key, told.found, told.key));
+        script.told(end.number, end.at_end, told.end);
+        iter
+    }
 
-// All moves of a case, as far as the text goes.
-fn walk(script: &mut Script, pool: &[u64], table: ColumnTrie, strategy: SeekStrategy) {
-    let count = script.number();
-    let mut iter = ColumnTrieIter::new();
-    for _ in 0..count {
-        if script.is_lost() {
-            return;
+    // All moves of a case, as far as the text goes.
+    fn all(&self, script: &mut Script) {
+        let count = script.number();
+        let mut iter = ColumnTrieIter::new();
+        for _ in 0..count {
+            if script.is_lost() {
+                return;
+            }
+            iter = self.one(script, iter);
         }
-        iter = one(script, pool, table, iter, strategy);
     }
 }
 
@@ -142,12 +142,13 @@ pub fn case(script: &mut Script) {
     let mut pool = [0u64; POOL];
     let table = table_of(script, &mut pool, 0);
     let moves = *script;
-    for strategy in [
-        SeekStrategy::Linear,
-        SeekStrategy::Binary,
-        SeekStrategy::Galloping,
-    ] {
+    for strategy in STRATEGIES {
         script.back_to(&moves);
-        walk(script, &pool, table, strategy);
+        let walk = Walk {
+            pool: &pool,
+            table,
+            strategy,
+        };
+        walk.all(script);
     }
 }

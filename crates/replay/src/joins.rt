@@ -1,12 +1,14 @@
 // Recorded joins: tables, a query over them, and all its rows, the same under every strategy.
 //
 // Windows are the program's own: every size from one word over full down to one row short. What each must hold follows from the rows; one that is not whole
-// rows is refused with 16.
+// rows is refused.
 use crate::tables::table_of;
+use cases::STRATEGIES;
 use cases::script::Script;
 use column_trie::ColumnTrie;
 use join_query::{Atom, Query, Tables};
 use leapfrog_triejoin::join;
+use refusal::Refusal;
 use seek::SeekStrategy;
 
 // Words of the pool for each table.
@@ -94,25 +96,6 @@ struct Told {
     words: usize,
 }
 
-// What is told where the window is at most a row short of all.
-fn expected(all: Told, n: usize, size: usize) -> Told {
-    if n != 0 && size % n != 0 {
-        return Told {
-            number: 16,
-            rows: 0,
-            words: 0,
-        };
-    }
-    if all.words <= size || all.words < n || all.rows == 0 {
-        return all;
-    }
-    Told {
-        number: 12,
-        rows: all.rows - 1,
-        words: all.words - n,
-    }
-}
-
 // One word more than full.
 fn over(words: usize) -> usize {
     if words < WINDOW { words + 1 } else { WINDOW }
@@ -124,50 +107,57 @@ fn holds(window: &[u64; WINDOW], rows: &[u64; WINDOW], words: usize) -> bool {
     window[..held] == rows[..held] && window[held..].iter().all(|&word| word == MARK)
 }
 
-// A window of so many words.
-fn asked(
-    script: &mut Script,
-    strategy: SeekStrategy,
-    pool: &[u64],
+// A query over tables, the words of its rows, and what a join with room for them must tell.
+#[derive(Drop)]
+struct Asked<'a> {
+    pool: &'a [u64],
     tables: Tables,
     query: Query,
-    rows: &[u64; WINDOW],
-    told: Told,
-    size: usize,
-) {
-    let mut window = [MARK; WINDOW];
-    let lent = &mut window[..size.min(WINDOW)];
-    let answer = join(strategy, pool, tables, query, lent);
-    script.compare(answer.number == told.number && answer.rows == told.rows);
-    script.compare(holds(&window, rows, told.words));
+    rows: &'a [u64; WINDOW],
+    all: Told,
 }
 
-// Every window from one word over full to one row short.
-fn windows(
-    script: &mut Script,
-    strategy: SeekStrategy,
-    pool: &[u64],
-    tables: Tables,
-    query: Query,
-    rows: &[u64; WINDOW],
-    all: Told,
-) {
-    let least = expected(all, query.n, 0);
-    for below in (least.words..over(all.words)).rev() {
-        let size = below + 1;
-        let told = expected(all, query.n, size);
-        asked(script, strategy, pool, tables, query, rows, told, size);
+impl<'a> Asked<'a> {
+    // What is told where the window is at most a row short of all.
+    fn expected(&self, size: usize) -> Told {
+        let all = self.all;
+        let n = self.query.n;
+        if n != 0 && size % n != 0 {
+            return Told {
+                number: Refusal::PartRows.number(),
+                rows: 0,
+                words: 0,
+            };
+        }
+        if all.words <= size || all.words < n || all.rows == 0 {
+            return all;
+        }
+        Told {
+            number: Refusal::Full.number(),
+            rows: all.rows - 1,
+            words: all.words - n,
+        }
     }
-    asked(
-        script,
-        strategy,
-        pool,
-        tables,
-        query,
-        rows,
-        least,
-        least.words,
-    );
+
+    // A window of so many words.
+    fn window(&self, script: &mut Script, strategy: SeekStrategy, told: Told, size: usize) {
+        let mut window = [MARK; WINDOW];
+        let lent = &mut window[..size.min(WINDOW)];
+        let answer = join(strategy, self.pool, self.tables, self.query, lent);
+        script.compare(answer.number == told.number && answer.rows == told.rows);
+        script.compare(holds(&window, self.rows, told.words));
+    }
+
+    // Every window from one word over full to one row short.
+    fn windows(&self, script: &mut Script, strategy: SeekStrategy) {
+        let least = self.expected(0);
+        for below in (least.words..over(self.all.words)).rev() {
+            let size = below + 1;
+            let told = self.expected(size);
+            self.window(script, strategy, told, size);
+        }
+        self.window(script, strategy, least, least.words);
+    }
 }
 
 // Tables and a query; the rows behind their number and that of their words.
@@ -182,16 +172,18 @@ pub fn case(script: &mut Script) {
     if script.is_lost() {
         return;
     }
-    let all = Told {
-        number: 0,
-        rows: count,
-        words,
+    let asked = Asked {
+        pool: &pool,
+        tables,
+        query,
+        rows: &rows,
+        all: Told {
+            number: 0,
+            rows: count,
+            words,
+        },
     };
-    for strategy in [
-        SeekStrategy::Linear,
-        SeekStrategy::Binary,
-        SeekStrategy::Galloping,
-    ] {
-        windows(script, strategy, &pool, tables, query, &rows, all);
+    for strategy in STRATEGIES {
+        asked.windows(script, strategy);
     }
 }

@@ -9,43 +9,32 @@ mod joins;
 mod seeks;
 mod tables;
 
-use cases::file::{load, room};
+use cases::each_case;
 use cases::script::Script;
 use std::io;
 use std::rt::Files;
 
-// So many cases, as far as the text goes.
-fn each_case<F: Fn(&mut Script)>(script: &mut Script, case: F, count: u64)
-    requires { F.IsAlwaysCallable case }
+// One case, which names nothing itself: what differs is counted.
+fn one<F: Fn(&mut Script)>(script: &mut Script, case: &F) -> io::Result<()>
+    requires { F.IsAlwaysCallable case.now }
 {
-    for _ in 0..count {
-        if script.is_lost() {
-            return;
-        }
-        case(script);
-    }
+    case(script);
+    Ok(())
 }
 
 fn replay<R: Files + Print + Eprint, F: Fn(&mut Script)>(
     rt: &R,
-    name: &[u8],
+    name: &str,
     case: F,
 ) -> io::Result<()>
     requires { F.IsAlwaysCallable case }
 {
-    let mut text = room();
-    let Some(text) = load(rt, name, &mut text)? else {
-        return Ok(());
-    };
-    let mut script = Script::new(text);
-    let count = script.number();
-    each_case(&mut script, case, count);
-    script.print(rt, name, count)
+    each_case(rt, name, |script, _| one(script, &case))
 }
 
 fn main(rt: HostRuntime) -> io::Result<()> {
-    replay(&rt, b"seeks", seeks::case)?;
-    replay(&rt, b"tables", tables::case)?;
-    replay(&rt, b"cursors", cursors::case)?;
-    replay(&rt, b"joins", joins::case)
+    replay(&rt, "seeks", seeks::case)?;
+    replay(&rt, "tables", tables::case)?;
+    replay(&rt, "cursors", cursors::case)?;
+    replay(&rt, "joins", joins::case)
 }

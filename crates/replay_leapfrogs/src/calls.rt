@@ -11,10 +11,20 @@ use leapfrog_search::{Landed, Searched};
 use query::MAX_ATOMS;
 use seek::SeekStrategy;
 
-// Of a call: which it is (0 init, 1 next, 2 seek) and its target; whether a key was found, the key, the seeks, and how far each run has gone then.
+// Which call it is; any but these is no recorded one.
+#[derive(Clone, Copy, PartialEq, Eq)]
+enum Call {
+    Init,
+    Next,
+    Seek,
+    Other,
+}
+
+// Of a call: which it is and its target; whether a key was found, the key, the seeks, and how far each run has gone then. The target is not part of `Seek`, nor found and key an
+// Option: the text has each for every call, and one that it can't be is lost only once it was asked and each word compared, so that the program prints what it always has.
 #[derive(Clone, Copy)]
 struct Told {
-    kind: u64,
+    call: Call,
     target: u64,
     found: u64,
     key: u64,
@@ -22,9 +32,14 @@ struct Told {
     gone: [u64; MAX_ATOMS],
 }
 
-// The text's next call, on k runs.
+// The text's next call, on k runs: 0 init, 1 next, 2 seek.
 fn told_at(script: &mut Script, k: usize) -> Told {
-    let kind = script.number();
+    let call = match script.number() {
+        0 => Call::Init,
+        1 => Call::Next,
+        2 => Call::Seek,
+        _ => Call::Other,
+    };
     let target = script.number();
     let found = script.number();
     let key = script.number();
@@ -32,7 +47,7 @@ fn told_at(script: &mut Script, k: usize) -> Told {
     let mut gone = [0u64; MAX_ATOMS];
     script.numbers(&mut gone, k);
     Told {
-        kind,
+        call,
         target,
         found,
         key,
@@ -43,12 +58,16 @@ fn told_at(script: &mut Script, k: usize) -> Told {
 
 // Whether a call may be the first, an init.
 fn is_first(told: Told) -> bool {
-    told.kind == 0 && told.target == 0
+    told.call == Call::Init && told.target == 0
 }
 
 // Whether a call may be a later one, a next or a seek.
 fn is_later(told: Told) -> bool {
-    told.kind == 2 || told.kind == 1 && told.target == 0
+    match told.call {
+        Call::Seek => true,
+        Call::Next => told.target == 0,
+        Call::Init | Call::Other => false,
+    }
 }
 
 // ---- the comparison
@@ -65,7 +84,7 @@ fn have_gone(start: &[usize; MAX_ATOMS], at: &[usize; MAX_ATOMS], gone: [u64; MA
 
 // Whether the recorded call is a seek that came to its target.
 fn is_hit(told: Told) -> bool {
-    told.kind == 2 && told.found == 1 && told.key == told.target
+    told.call == Call::Seek && told.found == 1 && told.key == told.target
 }
 
 fn compare(
@@ -75,12 +94,12 @@ fn compare(
     start: &[usize; MAX_ATOMS],
     at: &[usize; MAX_ATOMS],
 ) {
-    let (found, key) = match answer.searched.landed {
-        Landed::Key { key, p: _ } => (1, key),
-        Landed::Nothing { p: _ } => (0, 0),
+    let key = match answer.searched.landed {
+        Landed::Key { key, p: _ } => Some(key),
+        Landed::Nothing { p: _ } => None,
     };
-    script.compare(found == told.found);
-    script.compare(key == told.key);
+    script.compare(u64::from(key.is_some()) == told.found);
+    script.compare(key.unwrap_or(0) == told.key);
     script.compare(answer.searched.seeks == told.seeks);
     script.compare(answer.hit == is_hit(told));
     script.compare(have_gone(start, at, told.gone));
@@ -99,38 +118,37 @@ fn unsought(s: Searched) -> SearchedFor
 }
 
 fn begin(
-    pool: &[u64],
+    runs: &Runs,
     at: &mut [usize; MAX_ATOMS],
-    end: &[usize; MAX_ATOMS],
     ring: &mut [usize; MAX_ATOMS],
-    k: usize,
     strategy: SeekStrategy,
 ) -> SearchedFor
     requires ring_value { ring.old ≡ in_order }
-    requires ready { Ready pool.now at.old end.now in_order k }
-    ensures { Ended pool.now at.new end.now ring.new k result.searched.landed }
+    requires ready { Ready runs.now.pool at.old runs.now.end in_order runs.now.k }
+    ensures { Ended runs.now.pool at.new runs.now.end ring.new runs.now.k result.searched.landed }
 {
-    unsought(leapfrog_init(pool, at, end, ring, k, strategy))
+    unsought(leapfrog_init(&runs.pool, at, &runs.end, ring, runs.k, strategy))
 }
 
 // A next, or else a seek.
 fn step(
-    pool: &[u64],
+    runs: &Runs,
     at: &mut [usize; MAX_ATOMS],
-    end: &[usize; MAX_ATOMS],
     ring: &[usize; MAX_ATOMS],
-    k: usize,
     p: usize,
     told: Told,
     strategy: SeekStrategy,
 ) -> SearchedFor
-    requires { Agreed pool.now at.old end.now ring.now k (key_at pool.now at.old (slice_index ring.now p)) p }
-    ensures { Ended pool.now at.new end.now ring.now k result.searched.landed }
+    requires { let r = runs.now in Agreed r.pool at.old r.end ring.now r.k (key_at r.pool at.old (slice_index ring.now p)) p }
+    ensures { let r = runs.now in Ended r.pool at.new r.end ring.now r.k result.searched.landed }
 {
-    if told.kind == 1 {
-        return unsought(leapfrog_next(pool, at, end, ring, k, p, strategy));
+    let (pool, end, k) = (&runs.pool, &runs.end, runs.k);
+    match told.call {
+        Call::Next => unsought(leapfrog_next(pool, at, end, ring, k, p, strategy)),
+        Call::Init | Call::Seek | Call::Other => {
+            leapfrog_seek(pool, at, end, ring, k, p, told.target, strategy)
+        }
     }
-    leapfrog_seek(pool, at, end, ring, k, p, told.target, strategy)
 }
 
 // So many later calls, as far as the text goes. None is recorded behind one that found no key.
@@ -159,9 +177,7 @@ fn later(
         if !is_later(told) {
             script.lose();
         }
-        let answer = step(
-            &runs.pool, &mut at, &runs.end, ring, runs.k, p, told, strategy,
-        );
+        let answer = step(runs, &mut at, ring, p, told, strategy);
         compare(script, told, answer, &runs.start, &at);
         landed = answer.searched.landed;
     }
@@ -182,7 +198,7 @@ pub fn walk(script: &mut Script, runs: &Runs, strategy: SeekStrategy)
     }
     let mut at = runs.start;
     let mut ring = [0usize, 1, 2, 3, 4, 5, 6, 7];
-    let answer = begin(&runs.pool, &mut at, &runs.end, &mut ring, runs.k, strategy);
+    let answer = begin(runs, &mut at, &mut ring, strategy);
     compare(script, told, answer, &runs.start, &at);
     later(
         script,

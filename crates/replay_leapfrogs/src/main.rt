@@ -9,9 +9,8 @@ mod runs;
 
 use crate::calls::walk;
 use crate::runs::Runs;
-use cases::file::{load, room};
 use cases::script::Script;
-use seek::SeekStrategy;
+use cases::{STRATEGIES, each_case};
 use std::io;
 
 // The next case: its runs, and the calls on them under each strategy. Runs of which no leapfrog may be asked are no recorded ones.
@@ -22,33 +21,15 @@ fn case(script: &mut Script) {
         return;
     }
     let calls = *script;
-    for strategy in [
-        SeekStrategy::Linear,
-        SeekStrategy::Binary,
-        SeekStrategy::Galloping,
-    ] {
+    for strategy in STRATEGIES {
         script.back_to(&calls);
         walk(script, &runs, strategy);
     }
 }
 
-// So many cases, as far as the text goes.
-fn each_case(script: &mut Script, count: u64) {
-    for _ in 0..count {
-        if script.is_lost() {
-            return;
-        }
-        case(script);
-    }
-}
-
 fn main(rt: HostRuntime) -> io::Result<()> {
-    let mut text = room();
-    let Some(text) = load(&rt, b"leapfrogs", &mut text)? else {
-        return Ok(());
-    };
-    let mut script = Script::new(text);
-    let count = script.number();
-    each_case(&mut script, count);
-    script.print(&rt, b"leapfrogs", count)
+    each_case(&rt, "leapfrogs", |script, _| {
+        case(script);
+        Ok(())
+    })
 }

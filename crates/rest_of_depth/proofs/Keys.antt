@@ -22,6 +22,7 @@ use Rattle.join_query.specs.Query.{order_of, atoms_of}
 use Rattle.join_query.specs.declared.Query.{Query}
 use Rattle.join_query.specs.declared.Tables.{Tables}
 use Rattle.join_query.proofs.Accepted.{tables}
+use Rattle.join_plan.specs.Plan.{Plan}
 use Rattle.join_window.specs.Window.{written}
 use Rattle.join_openings.specs.Openings.{variable_at, count_at}
 use Rattle.join_depths.specs.Depth.{Stands, Opened, IfFound, Steps}
@@ -36,7 +37,7 @@ pub if_found : (landed : Landed) {A : Type 0} → A → IfFound landed A
 if_found (Key x p) a = a
 if_found (Nothing p) a = tt
 
-module _ {pool : List ℕ} {ts : Tables} {q : Query} {plan ends : List ℕ} {n d : ℕ} {z : State} {by_atom : List ℕ} {f : ℕ → Row} {x p : ℕ} (l : KeysLeft pool ts q plan ends n d z by_atom f (Key x p)) (a : WholeAgreed pool z ends by_atom (count_at plan d) x p) where
+module _ {pool : List ℕ} {ts : Tables} {q : Query} {plan : Plan} {ends : List ℕ} {n d : ℕ} {z : State} {by_atom : List ℕ} {f : ℕ → Row} {x p : ℕ} (l : KeysLeft pool ts q plan ends n d z by_atom f (Key x p)) (a : WholeAgreed pool z ends by_atom (count_at plan d) x p) where
   abbrev atoms : List Atom
   atoms = atoms_of pool ts q
 

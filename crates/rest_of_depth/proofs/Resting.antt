@@ -1,16 +1,14 @@
 -- The loop over the keys left of a depth. Idea: to emit the rows under the keys left, from where the window stands, ends where the whole walk ends; a key's call takes the first
 -- of them away.
-use Prim.Native.Nat.{ℕ, ◌+◌, ◌*◌, ◌≤◌, ◌<◌}
+use Prim.Native.Nat.{ℕ, ◌+◌, ◌≤◌, ◌<◌}
 use native.Mathlib.Omega.{arith}
-use native.Mathlib.Nat.{le-mul_of_pos_right}
 use mathlib.Core.Path.{◌≡◌, refl, sym, subst, ap, ◌∙◌}
 use mathlib.Core.Bool.{Bool, true, false}
 use mathlib.Core.List.{List, [], ◌∷◌, flat_map}
-use lib.ListN.{length, get_or, set, length-set}
+use lib.ListN.{get_or, set}
 use Rattle.relation.specs.Order.{Row}
 use Rattle.query.specs.Window.{Progress, emits}
 use Rattle.query.specs.Descend.{standings}
-use Rattle.query.proofs.Descend.{descends_fits}
 use Rattle.query.proofs.Meet.{get_or_in}
 use Rattle.query.proofs.Window.{emits_append, emits_full}
 use Rattle.ring_sort.specs.Sorted.{key_at}
@@ -24,7 +22,8 @@ use Rattle.join_query.specs.Query.{max_variables, order_of, atoms_of}
 use Rattle.join_query.specs.declared.Query.{Query}
 use Rattle.join_query.specs.declared.Tables.{Tables}
 use Rattle.join_query.proofs.Accepted.{sized}
-use Rattle.join_window.specs.Window.{written, Fits}
+use Rattle.join_plan.specs.Plan.{Plan}
+use Rattle.join_window.specs.Window.{written}
 use Rattle.join_openings.specs.Openings.{variable_at, count_at}
 use Rattle.join_depths.specs.Depth.{Standing, AgreedAt, IfFound, Steps}
 use Rattle.join_depths.proofs.Standing.{variable_is}
@@ -54,21 +53,19 @@ module _ (n : ℕ) (rows : ℕ → List Row) where
   emits_none s e = e
 
 -- the keys of one query are left so, and the rows under them lead to the end
-pub record Goes (pool : List ℕ) (ts : Tables) (q : Query) (plan ends : List ℕ) (n d : ℕ) (f : ℕ → Row) (found : Row) (e : Progress) (z : State) (by_atom : List ℕ) (landed : Landed) (s : Progress) : Type 0 where
+pub record Goes (pool : List ℕ) (ts : Tables) (q : Query) (plan : Plan) (ends : List ℕ) (n d : ℕ) (f : ℕ → Row) (found : Row) (e : Progress) (z : State) (by_atom : List ℕ) (landed : Landed) (s : Progress) : Type 0 where
   pub left : KeysLeft pool ts q plan ends n d z by_atom f landed
   pub leads : emits n s (rows_left pool ts q n d f found (keys_at pool plan ends d z by_atom landed)) ≡ e
 
 -- ---- the loop's invariant
 
 -- z₀ and landed₀ are where it started, the rest is as it stands now
-pub record Walking (pool plan ends : List ℕ) (n d : ℕ) (z₀ : State) (ring by_atom : List ℕ) (landed₀ : Landed) (found w₀ : List ℕ) (from : ℕ) (w : List ℕ) (z : State) (landed : Landed) (rows : ℕ) : Type 0 where
+pub record Walking (pool : List ℕ) (plan : Plan) (ends : List ℕ) (n d : ℕ) (z₀ : State) (ring by_atom : List ℕ) (landed₀ : Landed) (found w₀ : List ℕ) (from : ℕ) (w : List ℕ) (z : State) (landed : Landed) (rows : ℕ) : Type 0 where
   pub agreed : AgreedAt pool z ends by_atom (count_at plan d) landed
   pub same : IfFound landed (SameAtoms by_atom ring (count_at plan d))
-  pub window : length w ≡ length w₀
-  pub fits : Fits n (length w₀) rows
   pub goes : (ts : Tables) (q : Query) (f : ℕ → Row) → KeysLeft pool ts q plan ends n d z₀ by_atom f landed₀ → Goes pool ts q plan ends n d f found (emits n (written w₀ from false) (rows_left pool ts q n d f found (keys_at pool plan ends d z₀ by_atom landed₀))) z by_atom landed (written w rows false)
 
-module _ {pool plan ends : List ℕ} {n d : ℕ} {z₀ : State} {ring by_atom : List ℕ} {landed₀ : Landed} (u : Underway pool plan ends n d z₀ ring by_atom landed₀) where
+module _ {pool : List ℕ} {plan : Plan} {ends : List ℕ} {n d : ℕ} {z₀ : State} {ring by_atom : List ℕ} {landed₀ : Landed} (u : Underway pool plan ends n d z₀ ring by_atom landed₀) where
   pub few_variables : n ≤ max_variables
   few_variables = omega (arith, (sized u.left.based.accepted).few, u.left.based.size)
 
@@ -85,8 +82,8 @@ module _ {pool plan ends : List ℕ} {n d : ℕ} {z₀ : State} {ring by_atom : 
       )
 
   module _ {found w₀ : List ℕ} {from : ℕ} where
-    pub walk_start : Fits n (length w₀) from → Walking pool plan ends n d z₀ ring by_atom landed₀ found w₀ from w₀ z₀ landed₀ from
-    walk_start h = record { agreed = u.agreed; same = u.same; window = refl; fits = h; goes = λ ts q f l. record { left = l; leads = refl } }
+    pub walk_start : Walking pool plan ends n d z₀ ring by_atom landed₀ found w₀ from w₀ z₀ landed₀ from
+    walk_start = record { agreed = u.agreed; same = u.same; goes = λ ts q f l. record { left = l; leads = refl } }
 
     module _ {w : List ℕ} {z : State} {rows : ℕ} where
       -- a key is found
@@ -110,35 +107,20 @@ module _ {pool plan ends : List ℕ} {n d : ℕ} {z₀ : State} {ring by_atom : 
         pub walk_same : SameAtoms by_atom ring (count_at plan d)
         walk_same = i.same
 
-        pub walk_fits : Fits n (length w) rows
-        walk_fits = record { inside = omega (arith, i.fits, i.window); few = omega (arith, i.fits, i.window) }
-
         module _ {w' : List ℕ} {rows' : ℕ} {full : Bool} (r : Descended pool plan ends n (d + 1) z.at z.own (set found (variable_at plan d) x) w rows w' rows' full) where
-          pub walk_full : full ≡ true → Walks pool plan ends n d z₀ by_atom landed₀ found w₀ from w' rows' true
+          pub walk_full : full ≡ true → Walks pool plan ends n d z₀ by_atom landed₀ found w₀ from w' rows' full
           walk_full t = record {
             emitted = λ ts q f l.
                 let g = i.goes ts q f l in
-                subst (λ (b : Bool). written w' rows' b ≡ emits n (written w₀ from false) (rows_left pool ts q n d f found (keys_at pool plan ends d z₀ by_atom landed₀))) t
                 (emits_last n (rows_under n (first q d) (rest q d) (standings f (atoms_of pool ts q)) found) (written w rows false) (whole_first i.agreed) (key_below g.left i.agreed found r) t ∙ g.leads);
           }
 
-          kept : length found ≡ max_variables → (length w' ≡ length w) × (rows' * n ≤ length w)
-          kept long =
-              descends_fits (r.descends u.tables u.query (gained u.query d u.words x) (key_stands mine i.agreed))
-              (omega (arith, length-set found (variable_at plan d) x, long, few_variables))
-              (omega (arith, i.fits, i.window))
-
-          pub walk_next : length found ≡ max_variables → full ≡ false → {z' : State} {landed' : Landed} → Steps pool ends by_atom (count_at plan d) z z' (key_at pool z.at (get_or by_atom 0 0)) landed' → Walking pool plan ends n d z₀ ring by_atom landed₀ found w₀ from w' z' landed' rows'
-          walk_next long t {z'} {landed'} s₀ =
+          pub walk_next : full ≡ false → {z' : State} {landed' : Landed} → Steps pool ends by_atom (count_at plan d) z z' (key_at pool z.at (get_or by_atom 0 0)) landed' → Walking pool plan ends n d z₀ ring by_atom landed₀ found w₀ from w' z' landed' rows'
+          walk_next t {z'} {landed'} s₀ =
               let s : Steps pool ends by_atom (count_at plan d) z z' x landed' = rw here at s₀ in
               record {
                 agreed = s.agreed;
                 same = if_found landed' i.same;
-                window = (kept long).0 ∙ i.window;
-                fits =
-                    let h = u.below in
-                    let c : rows' ≤ rows' * n = le-mul_of_pos_right rows' (let k : 1 ≤ n = omega arith in k) in
-                    record { inside = omega (arith, (kept long).1, i.window); few = omega (arith, c, (kept long).1, i.window) };
                 goes = λ ts q f l.
                     let g = i.goes ts q f l in
                     record {
@@ -151,7 +133,9 @@ module _ {pool plan ends : List ℕ} {n d : ℕ} {z₀ : State} {ring by_atom : 
               }
 
       -- none is left
-      pub walk_none : {landed : Landed} {p : ℕ} → landed ≡ Nothing p → Walking pool plan ends n d z₀ ring by_atom landed₀ found w₀ from w z landed rows → Walks pool plan ends n d z₀ by_atom landed₀ found w₀ from w rows false
-      walk_none {p = p} e now = record {
-        emitted = λ ts q f l. emits_none n (rows_under n (first q d) (rest q d) (standings f (atoms_of pool ts q)) found) (written w rows false) ((subst (λ (h : Landed). Walking pool plan ends n d z₀ ring by_atom landed₀ found w₀ from w z h rows) e now).goes ts q f l).leads;
+      pub walk_none : {landed : Landed} {p : ℕ} → landed ≡ Nothing p → Walking pool plan ends n d z₀ ring by_atom landed₀ found w₀ from w z landed rows → {full : Bool} → full ≡ false → Walks pool plan ends n d z₀ by_atom landed₀ found w₀ from w rows full
+      walk_none {p = p} e now t = record {
+        emitted = λ ts q f l.
+            ap (written w rows) t
+            ∙ emits_none n (rows_under n (first q d) (rest q d) (standings f (atoms_of pool ts q)) found) (written w rows false) ((subst (λ (h : Landed). Walking pool plan ends n d z₀ ring by_atom landed₀ found w₀ from w z h rows) e now).goes ts q f l).leads;
       }

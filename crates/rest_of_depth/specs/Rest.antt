@@ -15,22 +15,23 @@ use Rattle.stretches.specs.declared.State.{State}
 use Rattle.join_query.specs.Query.{order_of, atoms_of}
 use Rattle.join_query.specs.declared.Query.{Query}
 use Rattle.join_query.specs.declared.Tables.{Tables}
+use Rattle.join_plan.specs.Plan.{Plan}
 use Rattle.join_window.specs.Window.{written}
 use Rattle.join_openings.specs.Openings.{count_at}
 use Rattle.join_depths.specs.Depth.{Based, Opened, AgreedAt, IfFound, common_at}
 
 -- the keys that are left where a leapfrog landed so
-abbrev pub keys_at : List ℕ → List ℕ → List ℕ → ℕ → State → List ℕ → Landed → List ℕ
+abbrev pub keys_at : List ℕ → Plan → List ℕ → ℕ → State → List ℕ → Landed → List ℕ
 keys_at pool plan ends d z by_atom landed = left_of (wholes_in pool z ends by_atom (count_at plan d)) landed
 
 -- of one query: they are common keys of the depth, and where there is one, the atoms are opened
-pub record KeysLeft (pool : List ℕ) (ts : Tables) (q : Query) (plan ends : List ℕ) (n d : ℕ) (z : State) (by_atom : List ℕ) (f : ℕ → Row) (landed : Landed) : Type 0 where
+pub record KeysLeft (pool : List ℕ) (ts : Tables) (q : Query) (plan : Plan) (ends : List ℕ) (n d : ℕ) (z : State) (by_atom : List ℕ) (f : ℕ → Row) (landed : Landed) : Type 0 where
   pub based : Based pool ts q plan ends n d f
   pub among : (k : ℕ) → k ∈ keys_at pool plan ends d z by_atom landed → k ∈ common_at pool ts q d f
   pub opened : IfFound landed (Opened pool ts q plan ends n d z by_atom f)
 
 -- some query's keys are left so: what `walk_rest` asks. What it leaves it says of every such query
-pub record Underway (pool plan ends : List ℕ) (n d : ℕ) (z : State) (ring by_atom : List ℕ) (landed : Landed) : Type 0 where
+pub record Underway (pool : List ℕ) (plan : Plan) (ends : List ℕ) (n d : ℕ) (z : State) (ring by_atom : List ℕ) (landed : Landed) : Type 0 where
   pub below : d < n
   pub agreed : AgreedAt pool z ends by_atom (count_at plan d) landed
   pub same : IfFound landed (SameAtoms by_atom ring (count_at plan d))
@@ -48,5 +49,5 @@ abbrev pub rows_left : List ℕ → Tables → Query → ℕ → ℕ → (ℕ �
 rows_left pool ts q n d f row keys = flat_map (rows_under n (get_or (order_of q) d 0) (drop (suc d) (order_of q)) (standings f (atoms_of pool ts q)) row) keys
 
 -- they are emitted
-pub record Walks (pool plan ends : List ℕ) (n d : ℕ) (z : State) (by_atom : List ℕ) (landed : Landed) (found w₀ : List ℕ) (from : ℕ) (w : List ℕ) (rows : ℕ) (full : Bool) : Type 0 where
+pub record Walks (pool : List ℕ) (plan : Plan) (ends : List ℕ) (n d : ℕ) (z : State) (by_atom : List ℕ) (landed : Landed) (found w₀ : List ℕ) (from : ℕ) (w : List ℕ) (rows : ℕ) (full : Bool) : Type 0 where
   pub emitted : (ts : Tables) (q : Query) (f : ℕ → Row) → KeysLeft pool ts q plan ends n d z by_atom f landed → written w rows full ≡ emits n (written w₀ from false) (rows_left pool ts q n d f found (keys_at pool plan ends d z by_atom landed))

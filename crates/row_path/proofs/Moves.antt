@@ -11,11 +11,10 @@ use lib.Seq.{drop-cons, get_or-set_same, get_or-set_other}
 use Rattle.relation.specs.Layers.{Layer, layer, no_layer}
 use Rattle.relation.specs.Paths.{owner}
 use Rattle.relation.proofs.Undamaged.{Chain, undamaged_chain}
-use Rattle.column_trie.specs.Table.{layers_in, layer_in, data_len_at, Undamaged}
+use Rattle.column_trie.specs.Limits.{max_arity}
+use Rattle.column_trie.specs.Table.{layers_in, layer_in, Undamaged}
 use Rattle.column_trie.specs.declared.ColumnTrie.{ColumnTrie}
 use Rattle.column_trie.proofs.Layers.{Whole, layers_length, layers_at}
-use Rattle.column_trie.proofs.Groups.{keys_long}
-use Rattle.column_trie.proofs.Header.{InPool, layer_fits}
 use Rattle.row_path.specs.Path.{ancestor, OnPath}
 use Rattle.row_path.proofs.Owners.{owned, owner_stays, owner_goes_on}
 use Rattle.row_path.proofs.Paths.{ancestor_none, ancestor_more, under, inside, Near, near, below, under_below, sound_at}
@@ -143,7 +142,5 @@ module _ {n : ℕ} {ls : List Layer} (c : Chain n ls) {i : ℕ} (r : i < under n
         at e b g w (yes z) = m.there e (omega arith) b
 
 -- an interval as code reads it
-pub begins_is : (pool : List ℕ) {t : ColumnTrie} (o : Whole t) → InPool (length pool) t → (d k : ℕ) → d < t.arity → {from : ℕ} → from ≡ get_or (layer_in pool t d).intervals k (data_len_at t d) → from ≡ get_or (layer (layers_in pool t) d).intervals k (length (layer (layers_in pool t) d).keys)
-begins_is pool {t} o p d k h f =
-    let e : layer (layers_in pool t) d ≡ layer_in pool t d = layers_at pool t o p.few d h in
-    f ∙ ap (get_or (layer_in pool t d).intervals k) (sym (keys_long pool (layer_fits p h))) ∙ ap (λ (l : Layer). get_or l.intervals k (length l.keys)) (sym e)
+pub begins_is : (pool : List ℕ) {t : ColumnTrie} (o : Whole t) → t.arity ≤ max_arity → (d k : ℕ) → d < t.arity → {l : Layer} → l ≡ layer_in pool t d → {from : ℕ} → from ≡ get_or l.intervals k (length l.keys) → from ≡ get_or (layer (layers_in pool t) d).intervals k (length (layer (layers_in pool t) d).keys)
+begins_is pool {t} o few d k h e f = f ∙ ap (λ (l : Layer). get_or l.intervals k (length l.keys)) (e ∙ sym (layers_at pool t o few d h))

@@ -4,22 +4,23 @@
 // each place stays or goes on by one, so that the walk over all rows searches nothing.
 #![tactic(auto)]
 
-ghost use Rattle.std.specs.Prelude.{◌≡◌, true, ◌-◌, ◌<◌};
-ghost use Rattle.column_trie.specs.Table.{layers_in, undamaged};
+ghost use Rattle.std.specs.Prelude.{◌-◌, ◌<◌};
+ghost use Rattle.column_trie.specs.Table.{layers_in};
 ghost use Rattle.row_path.specs.Path.{OnPath};
 
-use column_trie::{ColumnTrie, Sound};
+use column_trie::ColumnTrie;
+use sound_table::Intact;
 
 // Turns the path of row i - 1 into that of row i, and the path of row 0 into itself: from the last layer up, a parent goes on where its children end.
-pub fn next_path(rows: &Sound, path: &mut [usize; ColumnTrie::MAX_ARITY], i: usize)
-    requires { (undamaged rows.now.pool.now rows.now.table ≡ true) × (i < rows.now.table.tuple_count) × OnPath (layers_in rows.now.pool.now rows.now.table) (i - 1) path.old }
-    ensures { OnPath (layers_in rows.now.pool.now rows.now.table) i path.new }
+pub fn next_path(rows: &Intact, path: &mut [usize; ColumnTrie::MAX_ARITY], i: usize)
+    requires { (i < rows.now.sound.table.tuple_count) × OnPath (layers_in rows.now.sound.pool.now rows.now.sound.table) (i - 1) path.old }
+    ensures { OnPath (layers_in rows.now.sound.pool.now rows.now.sound.table) i path.new }
 {
-    let arity = rows.table.arity;
+    let arity = rows.sound.table.arity;
     path[arity - 1] = i;
     for d in (1..arity).rev() {
         let next = path[d - 1] + 1;
-        let from = rows.begins(d, next);
+        let from = rows.sound.layer(d).begins(next);
         if from <= path[d] {
             path[d - 1] = next;
         }

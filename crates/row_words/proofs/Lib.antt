@@ -1,2 +1,1 @@
-mod Fields
 mod Walk

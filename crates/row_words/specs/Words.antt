@@ -5,13 +5,6 @@ use Rattle.permuted_rows.specs.Packed.{number_of, place_of}
 use Rattle.permuted_rows.specs.Seen.{StandsIn}
 use Rattle.permuted_rows.specs.declared.Permuted.{Permuted}
 
--- four numbers of 16 bits in one word
-pub record Fields (i x y z w : ℕ) : Type 0 where
-  pub number : number_of w ≡ i
-  pub first : place_of 0 w ≡ x
-  pub second : place_of 1 w ≡ y
-  pub third : place_of 2 w ≡ z
-
 -- row i's number and places fit 16 bits, and the first numbers name columns
 pub record Wordable (arity : ℕ) (columns path : List ℕ) (i : ℕ) : Type 0 where
   pub few : arity ≤ max_arity

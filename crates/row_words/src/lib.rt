@@ -3,20 +3,11 @@
 
 ghost use Rattle.std.specs.Prelude.{◌≡◌, ℕ, ◌≤◌, ◌<◌, length, get_or};
 ghost use Rattle.column_trie.specs.Limits.{max_arity};
-ghost use Rattle.row_words.specs.Words.{Fields, Wordable, Worded, AllPacked};
+ghost use Rattle.row_words.specs.Words.{Wordable, Worded, AllPacked};
 
-use column_trie::{ColumnTrie, Sound};
-use permuted_rows::Permuted;
+use column_trie::ColumnTrie;
+use permuted_rows::{Permuted, four};
 use row_path::next_path;
-
-fn four(i: usize, x: usize, y: usize, z: usize) -> u64
-    requires { (i < 65536) × (x < 65536) × (y < 65536) × (z < 65536) }
-    ensures { Fields i x y z result }
-{
-    let high = (z as u64) * 65536 + y as u64;
-    let middle = high * 65536 + x as u64;
-    middle * 65536 + i as u64
-}
 
 // Where the path has the key of new column k; 0 if there is no such column.
 fn path_place(
@@ -58,10 +49,7 @@ pub fn pack_rows(rows: &Permuted, words: &mut [u64])
 {
     let arity = rows.table.arity;
     let mut path = [0usize; ColumnTrie::MAX_ARITY];
-    let table = Sound {
-        pool: rows.pool,
-        table: rows.table,
-    };
+    let table = rows.intact();
     for k in 0..words.len() {
         next_path(&table, &mut path, k);
         words[k] = row_word(arity, rows.columns, path, k);

@@ -1,4 +1,4 @@
-// The strategy that a number from C stands for. A function and no `From<u64>`, which would have to stand in the crate seek: what the numbers mean is C's affair alone.
+// The strategy that a number from C stands for. A function and no `From<u64>`, which would have to stand in the crate seek: numbers for strategies are the affair of C and of texts of cases.
 #![tactic(auto)]
 
 ghost use Rattle.std.specs.Prelude.{◌≡◌};

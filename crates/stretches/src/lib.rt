@@ -7,7 +7,7 @@
 // one seek, however many pieces it looks through. Of a `State`, `own` goes down with `at` from depth to depth, and `left` is 0 at first.
 #![tactic(auto)]
 
-ghost use Rattle.std.specs.Prelude.{◌≡◌, true, List, ℕ, ◌≤◌, ◌<◌, length, get_or, take};
+ghost use Rattle.std.specs.Prelude.{◌≡◌, true, List, ℕ, ◌≤◌, ◌<◌, length, get_or, replicate, take};
 ghost use Rattle.relation.specs.Lists.{Ascends};
 ghost use Rattle.relation.specs.Runs.{from};
 ghost use Rattle.query.specs.Limits.{max_atoms};
@@ -26,7 +26,8 @@ use query::MAX_ATOMS;
 use seek::SeekStrategy;
 use two_runs::{Runs, first_stretch, led, seek_both};
 
-// Where the atoms of a join stand, by atom (specs/Stand.antt).
+// Where the atoms of a join stand, by atom (specs/Stand.antt). Four arrays and none of structs: crates/leapfrog_search writes `at` and only reads `end`, and
+// crates/leapfrog_join's theorem `one_search_makes_no_more_seeks_than_keys_not_yet_passed` (docs/CALLS.md) is of them as arrays. `own` and `left` go with them.
 #[derive(Drop)]
 pub struct State {
     // where the atom stands in its piece of the pool, and the piece's end
@@ -38,38 +39,52 @@ pub struct State {
     pub left: [usize; MAX_ATOMS],
 }
 
-// The length of `ends`: for each atom the end of the school's first keys and that of the maker's.
-pub const RUN_ENDS: usize = 16;
+impl State {
+    // What a depth begins with: the places and tables of the depth above, and no piece yet.
+    pub fn begin(at: [usize; MAX_ATOMS], own: [usize; MAX_ATOMS]) -> Self
+        ensures { (result.at ≡ at) × (result.own ≡ own) × (result.end ≡ replicate max_atoms 0) × (result.left ≡ replicate max_atoms 0) }
+    {
+        Self {
+            at,
+            end: [0; MAX_ATOMS],
+            own,
+            left: [0; MAX_ATOMS],
+        }
+    }
+}
+
+// The length of `ends`: for each atom the end of the school's first keys and that of the maker's. It is flat and has no pairs: a pair that `own` picks from would be an
+// array in an array, which the portable C file can't have (rust/portable refuses it).
+pub const RUN_ENDS: usize = 2 * MAX_ATOMS;
+
+// What the leapfrogs of a join read: the pool, where each atom's first keys end, and how they seek.
+#[derive(Clone, Copy)]
+pub struct Leap<'a> {
+    pub pool: &'a [u64],
+    pub ends: &'a [usize; RUN_ENDS],
+    pub strategy: SeekStrategy,
+}
 
 // Puts atom a on the first piece of its two runs from x and from y on, the one from x of table o; false where they have no key. So the first column of a
 // laid-over table is opened: x where the school's first keys start, y where the maker's do, o 0.
-pub fn take_stretch(
-    pool: &[u64],
-    state: &mut State,
-    ends: &[usize; RUN_ENDS],
-    a: usize,
-    x: usize,
-    y: usize,
-    o: usize,
-    strategy: SeekStrategy,
-) -> bool
-    requires a_lt_max_atoms { (a < max_atoms) × Sized state.old ends.now }
-    requires inside { Inside pool.now (runs_from ends.now a x y o) }
-    ensures { Takes pool.now ends.now a (run_of pool.now (runs_from ends.now a x y o)) (λ (lo : ℕ → ℕ) (school : List ℕ). Began pool.now lo school (runs_from ends.now a x y o)) state.old state.new result }
+pub fn take_stretch(leap: &Leap, state: &mut State, a: usize, x: usize, y: usize, o: usize) -> bool
+    requires a_lt_max_atoms { (a < max_atoms) × Sized state.old leap.now.ends.now }
+    requires inside { Inside leap.now.pool.now (runs_from leap.now.ends.now a x y o) }
+    ensures { Takes leap.now.pool.now leap.now.ends.now a (run_of leap.now.pool.now (runs_from leap.now.ends.now a x y o)) (λ (lo : ℕ → ℕ) (school : List ℕ). Began leap.now.pool.now lo school (runs_from leap.now.ends.now a x y o)) state.old state.new result }
 {
     let r = Runs {
         x,
-        e: ends[2 * a + o],
+        e: leap.ends[2 * a + o],
         y,
-        f: ends[2 * a + 1 - o],
+        f: leap.ends[2 * a + 1 - o],
         own: o,
     };
-    let s = led(pool, r);
+    let s = led(leap.pool, r);
     if s.x == s.e {
         state.left[a] = 0;
         return false;
     }
-    let g = first_stretch(pool, s, strategy);
+    let g = first_stretch(leap.pool, s, leap.strategy);
     state.at[a] = g.x;
     state.end[a] = g.rest.x;
     state.own[a] = g.rest.own;
@@ -78,29 +93,22 @@ pub fn take_stretch(
 }
 
 // Puts atom a, whose piece has ended, on the piece with its run's first key not below `target`; false where there is none.
-pub fn refill(
-    pool: &[u64],
-    state: &mut State,
-    ends: &[usize; RUN_ENDS],
-    a: usize,
-    target: u64,
-    strategy: SeekStrategy,
-) -> bool
-    requires a_lt_max_atoms { (a < max_atoms) × (get_or state.old.at a 0 ≡ get_or state.old.end a 0) × Sized state.old ends.now }
-    requires fact { (get_or state.old.left a 0 ≡ 0 → ⊥) × Behind pool.now (stand_of state.old ends.now a) }
-    ensures { Takes pool.now ends.now a (from target (tail_of pool.now (stand_of state.old ends.now a))) (λ (lo : ℕ → ℕ) (school : List ℕ). Laid pool.now lo school (stand_of state.old ends.now a)) state.old state.new result }
+pub fn refill(leap: &Leap, state: &mut State, a: usize, target: u64) -> bool
+    requires a_lt_max_atoms { (a < max_atoms) × (get_or state.old.at a 0 ≡ get_or state.old.end a 0) × Sized state.old leap.now.ends.now }
+    requires fact { (get_or state.old.left a 0 ≡ 0 → ⊥) × Behind leap.now.pool.now (stand_of state.old leap.now.ends.now a) }
+    ensures { Takes leap.now.pool.now leap.now.ends.now a (from target (tail_of leap.now.pool.now (stand_of state.old leap.now.ends.now a))) (λ (lo : ℕ → ℕ) (school : List ℕ). Laid leap.now.pool.now lo school (stand_of state.old leap.now.ends.now a)) state.old state.new result }
 {
     let o = state.own[a];
-    let f = ends[2 * a + 1 - o];
+    let f = leap.ends[2 * a + 1 - o];
     let r = Runs {
         x: state.end[a],
-        e: ends[2 * a + o],
+        e: leap.ends[2 * a + o],
         y: f - state.left[a],
         f,
         own: o,
     };
-    let s = seek_both(pool, r, target, strategy);
-    take_stretch(pool, state, ends, a, s.x, s.y, o, strategy)
+    let s = seek_both(leap.pool, r, target, leap.strategy);
+    take_stretch(leap, state, a, s.x, s.y, o)
 }
 
 // What the run at place p is to reach: the key of the place before it, the greatest. Where p is the only place, any key will do; 0 passes none.
@@ -138,16 +146,14 @@ fn settled(left: &[usize; MAX_ATOMS], ring: &[usize; MAX_ATOMS], landed: Landed)
 
 // From a leapfrog over the pieces that ended as s says: while the piece at its place has ended and the run goes on behind it, takes the next piece and searches on.
 fn go_on(
-    pool: &[u64],
+    leap: &Leap,
     state: &mut State,
-    ends: &[usize; RUN_ENDS],
     ring: &[usize; MAX_ATOMS],
     k: usize,
     s: Searched,
-    strategy: SeekStrategy,
 ) -> Searched
-    requires { Paused pool.now state.old ends.now ring.now k s }
-    ensures { WholeRan pool.now ends.now ring.now k state.old state.new (resumed_of pool.now state.old ends.now ring.now k s.landed s.seeks) result }
+    requires { Paused leap.now.pool.now state.old leap.now.ends.now ring.now k s }
+    ensures { WholeRan leap.now.pool.now leap.now.ends.now ring.now k state.old state.new (resumed_of leap.now.pool.now state.old leap.now.ends.now ring.now k s.landed s.seeks) result }
 {
     let mut landed = s.landed;
     let mut seeks = s.seeks;
@@ -159,84 +165,99 @@ fn go_on(
         if state.left[a] == 0 {
             return Searched { landed, seeks };
         }
-        let target = goal(pool, &state.at, &state.end, ring, k, p);
-        if !refill(pool, state, ends, a, target, strategy) {
+        let target = goal(leap.pool, &state.at, &state.end, ring, k, p);
+        if !refill(leap, state, a, target) {
             return Searched { landed, seeks };
         }
         let t = leapfrog_search(
-            pool,
+            leap.pool,
             &mut state.at,
             &state.end,
             ring,
             k,
             after(p, k),
-            strategy,
+            leap.strategy,
         );
         landed = t.landed;
         seeks += t.seeks;
     }
 }
 
+// As `go_on`, with the test of a plain join ahead of its loop: one that has ended over the whole runs pays no more than that.
+fn resume(
+    leap: &Leap,
+    state: &mut State,
+    ring: &[usize; MAX_ATOMS],
+    k: usize,
+    s: Searched,
+) -> Searched
+    requires { Paused leap.now.pool.now state.old leap.now.ends.now ring.now k s }
+    ensures { WholeRan leap.now.pool.now leap.now.ends.now ring.now k state.old state.new (resumed_of leap.now.pool.now state.old leap.now.ends.now ring.now k s.landed s.seeks) result }
+{
+    if settled(&state.left, ring, s.landed) {
+        return s;
+    }
+    go_on(leap, state, ring, k, s)
+}
+
 // Algorithm 2 over whole runs, from place `start` of an ordered ring.
 pub fn whole_search(
-    pool: &[u64],
+    leap: &Leap,
     state: &mut State,
-    ends: &[usize; RUN_ENDS],
     ring: &[usize; MAX_ATOMS],
     k: usize,
     start: usize,
-    strategy: SeekStrategy,
 ) -> Searched
-    requires whole_ready { WholeReady pool.now state.old ends.now ring.now k }
-    requires ordered { Ordered pool.now state.old.at ring.now k start × (start < k) }
-    ensures { WholeRan pool.now ends.now ring.now k state.old state.new (search_of (wholes_in pool.now state.old ends.now ring.now k) start) result }
+    requires whole_ready { WholeReady leap.now.pool.now state.old leap.now.ends.now ring.now k }
+    requires ordered { Ordered leap.now.pool.now state.old.at ring.now k start × (start < k) }
+    ensures { WholeRan leap.now.pool.now leap.now.ends.now ring.now k state.old state.new (search_of (wholes_in leap.now.pool.now state.old leap.now.ends.now ring.now k) start) result }
 {
-    let s = leapfrog_search(pool, &mut state.at, &state.end, ring, k, start, strategy);
-    go_on(pool, state, ends, ring, k, s, strategy)
+    let s = leapfrog_search(
+        leap.pool,
+        &mut state.at,
+        &state.end,
+        ring,
+        k,
+        start,
+        leap.strategy,
+    );
+    go_on(leap, state, ring, k, s)
 }
 
 // Algorithm 1 over whole runs, on a ring in atom order.
 pub fn whole_init(
-    pool: &[u64],
+    leap: &Leap,
     state: &mut State,
-    ends: &[usize; RUN_ENDS],
     ring: &mut [usize; MAX_ATOMS],
     k: usize,
-    strategy: SeekStrategy,
 ) -> Searched
-    requires whole_ready { WholeReady pool.now state.old ends.now ring.old k }
+    requires whole_ready { WholeReady leap.now.pool.now state.old leap.now.ends.now ring.old k }
     requires ascends { Ascends ◌<◌ (take k ring.old) }
-    ensures { WholeBegun pool.now ends.now k ring.old ring.new state.old state.new result }
+    ensures { WholeBegun leap.now.pool.now leap.now.ends.now k ring.old ring.new state.old state.new result }
 {
-    let s = leapfrog_init(pool, &mut state.at, &state.end, ring, k, strategy);
-    let landed = s.landed;
-    let seeks = s.seeks;
-    if settled(&state.left, ring, landed) {
-        return Searched { landed, seeks };
-    }
-    let paused = Searched { landed, seeks };
-    go_on(pool, state, ends, ring, k, paused, strategy)
+    let s = leapfrog_init(leap.pool, &mut state.at, &state.end, ring, k, leap.strategy);
+    resume(leap, state, ring, k, s)
 }
 
 // Algorithm 3 over whole runs, where all agree.
 pub fn whole_next(
-    pool: &[u64],
+    leap: &Leap,
     state: &mut State,
-    ends: &[usize; RUN_ENDS],
     ring: &[usize; MAX_ATOMS],
     k: usize,
     p: usize,
-    strategy: SeekStrategy,
 ) -> Searched
-    requires { WholeAgreed pool.now state.old ends.now ring.now k (key_at pool.now state.old.at (get_or ring.now p 0)) p }
-    ensures { WholeRan pool.now ends.now ring.now k state.old state.new (next_of (wholes_in pool.now state.old ends.now ring.now k) p) result }
+    requires { WholeAgreed leap.now.pool.now state.old leap.now.ends.now ring.now k (key_at leap.now.pool.now state.old.at (get_or ring.now p 0)) p }
+    ensures { WholeRan leap.now.pool.now leap.now.ends.now ring.now k state.old state.new (next_of (wholes_in leap.now.pool.now state.old leap.now.ends.now ring.now k) p) result }
 {
-    let s = leapfrog_next(pool, &mut state.at, &state.end, ring, k, p, strategy);
-    let landed = s.landed;
-    let seeks = s.seeks;
-    if settled(&state.left, ring, landed) {
-        return Searched { landed, seeks };
-    }
-    let paused = Searched { landed, seeks };
-    go_on(pool, state, ends, ring, k, paused, strategy)
+    let s = leapfrog_next(
+        leap.pool,
+        &mut state.at,
+        &state.end,
+        ring,
+        k,
+        p,
+        leap.strategy,
+    );
+    resume(leap, state, ring, k, s)
 }

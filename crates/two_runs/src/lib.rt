@@ -5,8 +5,8 @@
 // The run from x to e comes first, the other goes from y to f. `own` says whose the first is: 0 the school's, 1 the maker's. It is kept, never read off a
 // place: one table may be laid over itself. Where both have a key, the school's is the one that counts.
 //
-// `own` is a number and no enum since it is counted with: a run ends at ends[2 * a + own] and the other at ends[2 * a + 1 - own], and the plan has the opening
-// of the owner's table at base + TABLE_WORDS * own. An enum would be turned into this number at each of them.
+// `own` is a number and no enum since it is counted with: a run ends at ends[2 * a + own] and the other at ends[2 * a + 1 - own] (`take_stretch` and `refill` of
+// crates/stretches), and 1 - own is the other's (`turned`). An enum would be turned into this number at each of them.
 #![tactic(auto)]
 
 ghost use Rattle.std.specs.Prelude.{◌≡◌, ◌+◌, ◌≤◌, ◌<◌, length, get_or};
@@ -16,6 +16,8 @@ ghost use Rattle.two_runs.specs.Runs.{turned_of, Inside, Led, Turns, InOrder, St
 
 use seek::SeekStrategy;
 
+// `Inside` is a clause and no ghost field: it is of the pool too, and with the pool in here each of the six places that build one would prove it, of which four,
+// `turned`'s and those behind a seek or a stretch, are asked no such thing.
 #[derive(Clone, Copy)]
 pub struct Runs {
     pub x: usize,

@@ -1,2 +1,2 @@
-pub mod Raises
-pub mod Shifts
+pub mod Lists
+pub mod Lent

@@ -1,5 +1,9 @@
--- Internal: words that can be raised by one, or lowered by one.
-use Rattle.std.specs.Prelude.{ℕ, ◌-◌, ◌≤◌, ◌<◌, ◌^◌, List, get_or}
+-- Internal: a list with a free word behind it, and words that can be raised by one, or lowered by one.
+use Rattle.std.specs.Prelude.{ℕ, ◌-◌, ◌≤◌, ◌<◌, ◌^◌, List, get_or, length, take}
+
+-- the list, where the last of the words is free
+abbrev pub listed : List ℕ → List ℕ
+listed words = take (length words - 1) words
 
 -- the words from place a up to place e can be raised
 abbrev pub SmallFrom : ℕ → ℕ → List ℕ → Type 0

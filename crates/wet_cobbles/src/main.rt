@@ -44,9 +44,24 @@ fn told(rt: &impl Print, what: &str, refusal: u64) -> io::Result<()> {
 
 // ---- the tables, in one pool; over cut keys where `cut` says so
 
-// The kinds of a table without grades.
-fn plain() -> [bool; ColumnTrie::MAX_ARITY] {
-    [false; ColumnTrie::MAX_ARITY]
+// The table of these rows where the empty one says: its part of the pool, its columns and their kinds.
+fn built(
+    rt: &impl Print,
+    what: &str,
+    empty: ColumnTrie,
+    rows: &mut [u64],
+    pool: &mut [u64],
+) -> io::Result<ColumnTrie> {
+    let built = build(
+        rows,
+        pool,
+        empty.start,
+        empty.arity,
+        empty.capacity,
+        empty.grade,
+    );
+    told(rt, what, built.number)?;
+    Ok(built.table)
 }
 
 fn key(packed: u64, cut: bool) -> u64 {
@@ -56,17 +71,15 @@ fn key(packed: u64, cut: bool) -> u64 {
 // The lesson's surface.
 fn surfaces(rt: &impl Print, cut: bool, pool: &mut [u64]) -> io::Result<ColumnTrie> {
     let mut rows = [key(WET_COBBLES, cut)];
-    let built = build(&mut rows, pool, 0, 1, 8, plain());
-    told(rt, "the surfaces", built.number)?;
-    Ok(built.table)
+    let empty = ColumnTrie::empty(0, 1, 8);
+    built(rt, "the surfaces", empty, &mut rows, pool)
 }
 
 // The lesson's tyre.
 fn tyres(rt: &impl Print, cut: bool, pool: &mut [u64]) -> io::Result<ColumnTrie> {
     let mut rows = [key(ALL_SEASON, cut)];
-    let built = build(&mut rows, pool, 16, 1, 8, plain());
-    told(rt, "the tyres", built.number)?;
-    Ok(built.table)
+    let empty = ColumnTrie::empty(16, 1, 8);
+    built(rt, "the tyres", empty, &mut rows, pool)
 }
 
 // Up to which speed, in km/h, a band reaches on a surface.
@@ -74,9 +87,8 @@ fn bands(rt: &impl Print, cut: bool, pool: &mut [u64]) -> io::Result<ColumnTrie>
     let wet = key(WET_COBBLES, cut);
     let icy = key(ICY_COBBLES, cut);
     let mut rows = [wet, 20, wet, 40, wet, 60, icy, 20, icy, 40, icy, 60];
-    let built = build(&mut rows, pool, 32, 2, 8, plain());
-    told(rt, "the bands", built.number)?;
-    Ok(built.table)
+    let empty = ColumnTrie::empty(32, 2, 8);
+    built(rt, "the bands", empty, &mut rows, pool)
 }
 
 // Surface, tyre, band, friction in thousandths.
@@ -89,9 +101,8 @@ fn frictions(rt: &impl Print, cut: bool, pool: &mut [u64]) -> io::Result<ColumnT
         wet, all, 20, 520, wet, all, 40, 470, wet, all, 60, 410, wet, sum, 20, 480, wet, sum, 40,
         430, wet, sum, 60, 360, icy, all, 20, 190, icy, all, 40, 160, icy, all, 60, 130,
     ];
-    let built = build(&mut rows, pool, 64, 4, 10, plain());
-    told(rt, "the frictions", built.number)?;
-    Ok(built.table)
+    let empty = ColumnTrie::empty(64, 4, 10);
+    built(rt, "the frictions", empty, &mut rows, pool)
 }
 
 fn tables(rt: &impl Print, cut: bool, pool: &mut [u64]) -> io::Result<Tables> {
@@ -159,9 +170,8 @@ fn school_frictions(rt: &impl Print, pool: &mut [u64]) -> io::Result<ColumnTrie>
         40,
         450,
     ];
-    let built = build(&mut rows, pool, 144, 4, 8, plain());
-    told(rt, "the school's frictions", built.number)?;
-    Ok(built.table)
+    let empty = ColumnTrie::empty(144, 4, 8);
+    built(rt, "the school's frictions", empty, &mut rows, pool)
 }
 
 // As `lesson`, on any surface, and with the school's frictions, table 4, laid over the maker's, table 3.
@@ -211,10 +221,9 @@ fn school_joined(rt: &impl Print, window: &mut [u64]) -> io::Result<()> {
 // Grade, in thousandths, and stretch: level, downhill, uphill. The first column is a grade.
 fn slope(rt: &impl Print, pool: &mut [u64]) -> io::Result<ColumnTrie> {
     let mut rows = [word_of(0), 1, word_of(-60), 2, word_of(45), 3];
-    let grade = [true, false, false, false, false, false, false, false];
-    let built = build(&mut rows, pool, 0, 2, 4, grade);
-    told(rt, "the slope", built.number)?;
-    Ok(built.table)
+    let mut empty = ColumnTrie::empty(0, 2, 4);
+    empty.grade[0] = true;
+    built(rt, "the slope", empty, &mut rows, pool)
 }
 
 // Variables: grade 0, stretch 1. The first atom is the slope; the second would have a tyre's key be a grade.
@@ -281,20 +290,15 @@ impl fmt::Display for Row {
     }
 }
 
-// The friction of the first row of the band, or 0 where there is none.
-fn first_of(rows: &[[u64; ROW]], band: u64) -> u64 {
-    for row in rows {
-        if row[2] == band {
-            return row[3];
-        }
-    }
-    0
+// The friction of the first row of the band, if there is one.
+fn first_of(rows: &[[u64; ROW]], band: u64) -> Option<u64> {
+    rows.iter().find(|row| row[2] == band).map(|row| row[3])
 }
 
-// The rows, each with the friction of the first of the same band among those joined over cut keys, which these would have chosen.
+// The rows, each with the friction of the first of the same band among those joined over cut keys, which these would have chosen; 0 where there is none.
 fn table(rt: &impl Print, rows: &[[u64; ROW]], over_cut: &[[u64; ROW]]) -> io::Result<()> {
     for row in rows {
-        let chosen = first_of(over_cut, row[2]);
+        let chosen = first_of(over_cut, row[2]).unwrap_or(0);
         let note = if chosen == row[3] {
             ""
         } else {

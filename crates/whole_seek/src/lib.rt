@@ -13,26 +13,18 @@ ghost use Rattle.whole_seek.specs.Seek.{SoughtOne};
 
 use leapfrog_search::{Landed, Searched, after};
 use query::MAX_ATOMS;
-use seek::SeekStrategy;
-use stretches::{RUN_ENDS, State, refill, whole_search};
+use stretches::{Leap, State, refill, whole_search};
 use two_runs::seek_run;
 
 // Puts atom a on its run's first key not below `target`; false where there is none.
-fn seek_one(
-    pool: &[u64],
-    state: &mut State,
-    ends: &[usize; RUN_ENDS],
-    a: usize,
-    target: u64,
-    strategy: SeekStrategy,
-) -> bool
-    requires on_key { OnKey pool.now state.old.at state.old.end a × Sized state.old ends.now }
-    requires tailed { Tailed pool.now (stand_of state.old ends.now a) }
-    ensures { SoughtOne pool.now ends.now a target state.old state.new result }
+fn seek_one(leap: &Leap, state: &mut State, a: usize, target: u64) -> bool
+    requires on_key { OnKey leap.now.pool.now state.old.at state.old.end a × Sized state.old leap.now.ends.now }
+    requires tailed { Tailed leap.now.pool.now (stand_of state.old leap.now.ends.now a) }
+    ensures { SoughtOne leap.now.pool.now leap.now.ends.now a target state.old state.new result }
 {
     let x = state.at[a];
     let e = state.end[a];
-    let q = seek_run(pool, x, e, target, strategy);
+    let q = seek_run(leap.pool, x, e, target, leap.strategy);
     state.at[a] = q;
     if q < e {
         return true;
@@ -40,31 +32,29 @@ fn seek_one(
     if state.left[a] == 0 {
         return false;
     }
-    refill(pool, state, ends, a, target, strategy)
+    refill(leap, state, a, target)
 }
 
 // Algorithm 4 over whole runs, where all agree: the atom at p seeks `target`, and the search goes on from the next place.
 pub fn whole_seek(
-    pool: &[u64],
+    leap: &Leap,
     state: &mut State,
-    ends: &[usize; RUN_ENDS],
     ring: &[usize; MAX_ATOMS],
     k: usize,
     p: usize,
     target: u64,
-    strategy: SeekStrategy,
 ) -> Searched
-    requires { WholeAgreed pool.now state.old ends.now ring.now k (key_at pool.now state.old.at (get_or ring.now p 0)) p }
-    ensures { WholeRan pool.now ends.now ring.now k state.old state.new (seek_to target (wholes_in pool.now state.old ends.now ring.now k) p) result }
+    requires { WholeAgreed leap.now.pool.now state.old leap.now.ends.now ring.now k (key_at leap.now.pool.now state.old.at (get_or ring.now p 0)) p }
+    ensures { WholeRan leap.now.pool.now leap.now.ends.now ring.now k state.old state.new (seek_to target (wholes_in leap.now.pool.now state.old leap.now.ends.now ring.now k) p) result }
 {
     let a = ring[p];
-    if !seek_one(pool, state, ends, a, target, strategy) {
+    if !seek_one(leap, state, a, target) {
         return Searched {
             landed: Landed::Nothing { p },
             seeks: 1,
         };
     }
-    let s = whole_search(pool, state, ends, ring, k, after(p, k), strategy);
+    let s = whole_search(leap, state, ring, k, after(p, k));
     Searched {
         seeks: s.seeks + 1,
         ..s

@@ -2,6 +2,7 @@
 use crate::choices::within;
 use crate::headers::{eight, header};
 use crate::lists::{fill, left};
+use cases::STRATEGIES;
 use cases::script::Script;
 use column_trie::ColumnTrie;
 use join_query::{Atom, Query, Tables};
@@ -69,11 +70,7 @@ fn query(script: &mut Script) -> Query {
 // A join is asked under each strategy, each time from the case's front, since it changes the window.
 pub fn case(script: &mut Script, pool: &mut [u64], words: &mut [u64]) {
     let front = *script;
-    for strategy in [
-        SeekStrategy::Linear,
-        SeekStrategy::Binary,
-        SeekStrategy::Galloping,
-    ] {
+    for strategy in STRATEGIES {
         script.back_to(&front);
         asked(script, strategy, pool, words);
     }

@@ -16,8 +16,8 @@ mod lists;
 mod seeks;
 mod tables;
 
-use cases::file::load;
-use cases::script::{Script, print_wrong};
+use cases::each_case;
+use cases::script::Script;
 use std::io;
 use std::rt::Files;
 
@@ -31,57 +31,48 @@ fn room() -> [u64; WORDS]
     [0; WORDS]
 }
 
-// So many cases, as far as the text goes. One with a wrong answer is named, and so is one that isn't written as it must be.
-fn each_case<F: Fn(&mut Script, &mut [u64], &mut [u64])>(
+// One case, with room for its two lists. It is named where an answer is wrong, and where it isn't written as it must be.
+fn one<F: Fn(&mut Script, &mut [u64], &mut [u64])>(
     rt: &impl Print,
-    name: &[u8],
+    name: &str,
     script: &mut Script,
-    case: F,
-    count: u64,
+    case: &F,
+    number: u64,
 ) -> io::Result<()>
-    requires { F.IsAlwaysCallable case }
+    requires { F.IsAlwaysCallable case.now }
 {
     let mut pool = room();
     let mut words = room();
-    for i in 0..count {
-        if script.is_lost() {
-            return Ok(());
-        }
-        let wrong = script.wrong();
-        case(script, &mut pool, &mut words);
-        if script.wrong() != wrong || script.is_lost() {
-            print_wrong(rt, name, i + 1)?;
-        }
+    let wrong = script.wrong();
+    case(script, &mut pool, &mut words);
+    if script.wrong() != wrong || script.is_lost() {
+        println!(rt; "{name}: case {number} is wrong")?;
     }
     Ok(())
 }
 
-// The file of this name, with room for the two lists of a case.
 fn work<R: Files + Print + Eprint, F: Fn(&mut Script, &mut [u64], &mut [u64])>(
     rt: &R,
-    name: &[u8],
+    name: &str,
     case: F,
 ) -> io::Result<()>
     requires { F.IsAlwaysCallable case }
 {
-    let mut text = cases::file::room();
-    let Some(text) = load(rt, name, &mut text)? else {
-        return Ok(());
-    };
-    let mut script = Script::new(text);
-    let count = script.number();
-    each_case(rt, name, &mut script, case, count)?;
-    script.print(rt, name, count)
+    each_case(
+        rt,
+        name,
+        |script, number| one(rt, name, script, &case, number),
+    )
 }
 
 fn main(rt: HostRuntime) -> io::Result<()> {
-    work(&rt, b"seeks", seeks::case)?;
-    work(&rt, b"grades", grades::case)?;
-    work(&rt, b"empties", tables::empty)?;
-    work(&rt, b"builds", tables::build)?;
-    work(&rt, b"inserts", tables::insert)?;
-    work(&rt, b"removals", tables::remove)?;
-    work(&rt, b"listings", listings::case)?;
-    work(&rt, b"cursors", cursors::case)?;
-    work(&rt, b"joins", joins::case)
+    work(&rt, "seeks", seeks::case)?;
+    work(&rt, "grades", grades::case)?;
+    work(&rt, "empties", tables::empty)?;
+    work(&rt, "builds", tables::build)?;
+    work(&rt, "inserts", tables::insert)?;
+    work(&rt, "removals", tables::remove)?;
+    work(&rt, "listings", listings::case)?;
+    work(&rt, "cursors", cursors::case)?;
+    work(&rt, "joins", joins::case)
 }

@@ -6,12 +6,6 @@ use Rattle.bounded_depth.proofs.open_from.Goals as goal
 pub returns-in_default : goal.returns-in_default
 returns-in_default c = from_none c.args.target c.open-first.ensures.begun c.in_default.is
 
-pub overflow_mul-k : goal.overflow_mul-k
-overflow_mul-k c = omega (arith, few_variables c.requires.standing, c.requires.depth_lt_n.0)
-
-pub overflow_add-k : goal.overflow_add-k
-overflow_add-k c = omega (arith, few_variables c.requires.standing, c.requires.depth_lt_n.0)
-
 pub offset_bounds-join-depth : goal.offset_bounds-join-depth
 offset_bounds-join-depth c = omega (arith, few_variables c.requires.standing, c.requires.depth_lt_n.0)
 

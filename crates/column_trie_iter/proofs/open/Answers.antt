@@ -4,6 +4,8 @@ use mathlib.Core.Bool.{true, not}
 use native.Mathlib.Omega.{arith}
 use lib.ListN.{length}
 use Rattle.std.specs.Option.{is_some}
+use Rattle.relation.specs.Layers.{Layer}
+use Rattle.column_trie.specs.Groups.{group_of}
 use Rattle.column_trie.proofs.Header.{header_told}
 use Rattle.column_trie_place.specs.Inside.{has_children}
 use Rattle.column_trie_iter.specs.Cursor.{unopened}
@@ -25,13 +27,13 @@ returns-then-not-has_children c =
 pub invariant_of-sound-clause-sound : goal.invariant_of-sound-clause-sound
 invariant_of-sound-clause-sound c = header_fine c.place_of.ensures c.in-Ok.is
 
-pub group_of-requires : goal.group_of-requires
-group_of-requires c = deeper c.place_of.ensures c.in-Ok.is (children (goal.at.group_of-requires c).Else-not-has_children)
+pub layer-requires : goal.layer-requires
+layer-requires c = deeper c.place_of.ensures c.in-Ok.is (children (goal.at.layer-requires c).Else-not-has_children)
 
 pub returns-then-is_none : goal.returns-then-is_none
 returns-then-is_none c =
     c.unopened-then-is_none.ensures ∙ ap (unopened c.args.iter) c.number-then-is_none.ensures ∙
-    open_by c.place_of.ensures c.in-Ok.is (children (goal.at.returns-then-is_none c).Else-not-has_children) (ap is_some (sym c.group_of.ensures) ∙ c.is_none.ensures ∙ ap not c.if-is_none.true)
+    open_by c.place_of.ensures c.in-Ok.is (children (goal.at.returns-then-is_none c).Else-not-has_children) (ap is_some (sym (c.group_of.ensures ∙ ap (λ (l : Layer). group_of l c.in-Ok.p.index) c.layer.ensures)) ∙ c.is_none.ensures ∙ ap not c.if-is_none.true)
 
 pub overflow_add-result : goal.overflow_add-result
 overflow_add-result c =
@@ -40,4 +42,4 @@ overflow_add-result c =
 
 pub returns : goal.returns
 returns c =
-    open_by c.place_of.ensures c.in-Ok.is (children (goal.at.returns c).Else-not-has_children) (ap is_some (sym c.group_of.ensures) ∙ c.is_none.ensures ∙ ap not c.if-is_none.false)
+    open_by c.place_of.ensures c.in-Ok.is (children (goal.at.returns c).Else-not-has_children) (ap is_some (sym (c.group_of.ensures ∙ ap (λ (l : Layer). group_of l c.in-Ok.p.index) c.layer.ensures)) ∙ c.is_none.ensures ∙ ap not c.if-is_none.false)

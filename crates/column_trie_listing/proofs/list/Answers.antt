@@ -7,6 +7,7 @@ use native.Mathlib.Omega.{arith}
 use lib.ListN.{length}
 use Rattle.relation.proofs.Tests.{passed, failed}
 use Rattle.column_trie.specs.Table.{layers_in, undamaged}
+use Rattle.column_trie.proofs.Damage.{undamaged_header}
 use Rattle.layer_text.specs.Text.{text}
 use Rattle.column_trie_listing.specs.List.{Lists}
 use Rattle.layer_text.specs.Piece.{PieceWritten}
@@ -30,16 +31,13 @@ returns-then-not-undamaged c =
     let a = c.args in
     rw c.number.ensures (damaged a.pool.now a.table a.buffer.now (failed c.undamaged.ensures (ap not c.if-not-undamaged.true)))
 
-pub put_text-len-requires : goal.put_text-len-requires
-put_text-len-requires c = passed c.undamaged.ensures (ap not c.if-not-undamaged.false)
+pub invariant_of-intact-clause-sound : goal.invariant_of-intact-clause-sound
+invariant_of-intact-clause-sound c = undamaged_header c.args.pool.now c.args.table (passed c.undamaged.ensures (ap not c.if-not-undamaged.false))
 
 pub returns-then-buffer-len : goal.returns-then-buffer-len
 returns-then-buffer-len c =
     let a = c.args in
     rw c.number-number.ensures (subst (λ (b : List ℕ). Lists a.pool.now a.table a.buffer.now b (record { number = 14; len = 0 })) (sym (unwritten (goal.at.returns-then-buffer-len c).After-put_text-len)) (too_long a.pool.now a.table a.buffer.now (sound (goal.at.returns-then-buffer-len c).After-put_text-len) (omega (arith, c.put_text-len.ensures.ends, long (goal.at.returns-then-buffer-len c).After-put_text-len, c.if-buffer-len.true))))
-
-pub put_text-requires : goal.put_text-requires
-put_text-requires c = sound (goal.at.put_text-requires c).After-put_text-len
 
 pub returns : goal.returns
 returns c =

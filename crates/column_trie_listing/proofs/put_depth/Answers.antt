@@ -1,12 +1,11 @@
 -- `column_trie_listing::put_depth` meets its contract: the lists handed on are the layer's, and no longer than the capacity.
-use mathlib.Core.Path.{ap, ap₂}
-use mathlib.Core.List.{List}
-use Prim.Native.Nat.{ℕ}
+use mathlib.Core.Path.{ap}
 use native.Mathlib.Omega.{arith}
 use lib.ListN.{length}
+use Rattle.relation.specs.Layers.{Layer}
 use Rattle.column_trie.proofs.Header.{LayerFits, layer_fits, header_told}
 use Rattle.column_trie.proofs.Groups.{keys_long, intervals_long}
-use Rattle.layer_text.specs.Text.{layer_text, lists}
+use Rattle.layer_text.specs.Text.{layer_text}
 use Rattle.layer_text.proofs.Texts.{wrote_as}
 use Rattle.column_trie_listing.proofs.put_depth.Goals as goal
 use Rattle.column_trie_listing.proofs.put_depth.Goals.{Start}
@@ -18,10 +17,10 @@ told s = layer_fits (header_told (length s.args.table.now.pool.now) s.args.table
 pub layer-requires : goal.layer-requires
 layer-requires c =
     let pool = c.args.table.now.pool.now in
-    (c.requires.1, omega (arith, told (goal.at.layer-requires c).Start, ap {B = ℕ} length c.layer_keys.ensures, keys_long pool (told (goal.at.layer-requires c).Start)), omega (arith, told (goal.at.layer-requires c).Start, ap {B = ℕ} length c.layer_intervals.ensures, intervals_long pool (told (goal.at.layer-requires c).Start)))
+    (c.requires.1, omega (arith, told (goal.at.layer-requires c).Start, ap (λ (l : Layer). length l.keys) c.layer-lists.ensures, keys_long pool (told (goal.at.layer-requires c).Start)), omega (arith, told (goal.at.layer-requires c).Start, ap (λ (l : Layer). length l.intervals) c.layer-lists.ensures, intervals_long pool (told (goal.at.layer-requires c).Start)))
 
 pub returns : goal.returns
 returns c =
     let d = c.args.d in
     let w = c.layer.ensures in
-    (wrote_as (ap₂ {C = List ℕ} (λ keys ints. layer_text d (lists keys ints)) c.layer_keys.ensures c.layer_intervals.ensures) w.0, w.1)
+    (wrote_as (ap (layer_text d) c.layer-lists.ensures) w.0, w.1)

@@ -10,7 +10,7 @@ use Rattle.relation.specs.Layers.{Layer}
 use Rattle.column_trie.specs.Table.{layers_in, layer_in}
 use Rattle.column_trie.proofs.Header.{InPool}
 use Rattle.column_trie.proofs.Layers.{Whole, layers_length, layers_at}
-use Rattle.column_trie.proofs.Damage.{undamaged_told, undamaged_header}
+use Rattle.sound_table.proofs.Told.{intact}
 use Rattle.column_trie.proofs.Stored.{in_pool}
 use Rattle.layer_text.specs.Text.{layer_text, text}
 use Rattle.layer_text.proofs.Texts.{no_text, text_more, wrote_none, lent_back, wrote_more, wrote_as}
@@ -18,26 +18,23 @@ use borrow.Author.Rules.{rules}
 use Rattle.column_trie_listing.proofs.put_text.Goals as goal
 use Rattle.column_trie_listing.proofs.put_text.Goals.{Start}
 
-whole : (s : Start) → Whole s.args.t
-whole s = record { data_long = search rules; interval_long = search rules }
+whole : (s : Start) → Whole s.args.table.now.sound.table
+whole s = s.args.table.now.sound.whole
 
-sound : (s : Start) → InPool (length s.args.pool.now) s.args.t
-sound s = in_pool (undamaged_told s.args.pool.now s.args.t s.requires)
+sound : (s : Start) → InPool (length s.args.table.now.sound.pool.now) s.args.table.now.sound.table
+sound s = in_pool (intact s.args.table.now)
 
-many : (s : Start) → length (layers_in s.args.pool.now s.args.t) ≡ s.args.t.arity
-many s = layers_length s.args.pool.now s.args.t (whole s) (sound s).few
+many : (s : Start) → length (layers_in s.args.table.now.sound.pool.now s.args.table.now.sound.table) ≡ s.args.table.now.sound.table.arity
+many s = layers_length s.args.table.now.sound.pool.now s.args.table.now.sound.table (whole s) (sound s).few
 
 -- one layer more of the text
-more : (s : Start) (d : ℕ) → d < s.args.t.arity → text (take (d + 1) (layers_in s.args.pool.now s.args.t)) ≡ text (take d (layers_in s.args.pool.now s.args.t)) ++ layer_text d (layer_in s.args.pool.now s.args.t d)
+more : (s : Start) (d : ℕ) → d < s.args.table.now.sound.table.arity → text (take (d + 1) (layers_in s.args.table.now.sound.pool.now s.args.table.now.sound.table)) ≡ text (take d (layers_in s.args.table.now.sound.pool.now s.args.table.now.sound.table)) ++ layer_text d (layer_in s.args.table.now.sound.pool.now s.args.table.now.sound.table d)
 more s d h =
-    let ls = layers_in s.args.pool.now s.args.t in
-    ap (λ (n : ℕ). text (take n ls)) (add-one d) ∙ text_more ls d (omega (arith, many s)) ∙ ap (λ (l : Layer). text (take d ls) ++ layer_text d l) (layers_at s.args.pool.now s.args.t (whole s) (sound s).few d h)
+    let ls = layers_in s.args.table.now.sound.pool.now s.args.table.now.sound.table in
+    ap (λ (n : ℕ). text (take n ls)) (add-one d) ∙ text_more ls d (omega (arith, many s)) ∙ ap (λ (l : Layer). text (take d ls) ++ layer_text d l) (layers_at s.args.table.now.sound.pool.now s.args.table.now.sound.table (whole s) (sound s).few d h)
 
 pub loop-d-init : goal.loop-d-init
 loop-d-init c = (omega arith, wrote_as (sym no_text) (wrote_none _), omega arith)
-
-pub invariant_of-table-clause-sound : goal.invariant_of-table-clause-sound
-invariant_of-table-clause-sound c = undamaged_header c.args.pool.now c.args.t c.requires
 
 pub put_depth-requires : goal.put_depth-requires
 put_depth-requires c =
@@ -51,5 +48,5 @@ loop-d-preserved c =
 pub returns : goal.returns
 returns c =
     let w = c.loop-d.invariant.1 in
-    let ls = layers_in c.args.pool.now c.args.t in
+    let ls = layers_in c.args.table.now.sound.pool.now c.args.table.now.sound.table in
     lent_back (search (rules, w.same)) (wrote_as (ap text (take_all c.loop-d.d ls (omega (arith, many (goal.at.returns c).Start, c.loop-d-test.false)))) w)

@@ -37,7 +37,7 @@ vacant_is k = ap₂ regraded k.empty-empty.ensures k.permuted_kinds-kinds.ensure
 pub returns-in-Err : goal.returns-in-Err
 returns-in-Err c =
     let s = c.args in
-    permutes_refused s.pool.now s.table s.columns s.into.now s.start s.capacity (c.number.ensures ∙ sym (ap given c.in-Err.is) ∙ c.check.ensures) (λ z. not_zero _ (sym c.number.ensures ∙ z)) c.empty.ensures
+    permutes_refused s.pool.now s.table s.columns s.into.now s.start s.capacity (c.refused.ensures.0 ∙ sym (ap given c.in-Err.is) ∙ c.check.ensures) (λ z. not_zero _ (sym c.refused.ensures.0 ∙ z)) c.refused.ensures.1
 
 pub permuted_kinds-kinds-requires : goal.permuted_kinds-kinds-requires
 permuted_kinds-kinds-requires c =

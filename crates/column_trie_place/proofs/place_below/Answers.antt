@@ -1,9 +1,11 @@
 -- `column_trie_place::place_below` meets its contract: the tests stand in the sequence of the definition's (Places.antt), and the header puts the
 -- layer into the pool.
 use Prim.Native.Nat.{◌-◌, ◌≤◌}
-use mathlib.Core.Path.{sym, ◌∙◌}
+use mathlib.Core.Path.{sym, ap, ◌∙◌}
 use native.Mathlib.Omega.{arith}
 use lib.ListN.{length}
+use Rattle.relation.specs.Layers.{Layer}
+use Rattle.column_trie.specs.Groups.{group_of}
 use Rattle.column_trie.proofs.Header.{LayerFits, layer_fits, header_told}
 use Rattle.column_trie_place.specs.Checks.{layer_of}
 use Rattle.column_trie.proofs.Groups.{keys_long}
@@ -14,7 +16,7 @@ use Rattle.column_trie_place.proofs.place_below.Goals.{In-Some}
 
 -- the cursor's layer lies in the pool, and its group there
 lying : (q : In-Some) → Lying (layer_of q.args.sound.now.pool.now q.args.sound.now.table q.args.iter) q.args.iter.interval_i q.in-Some.g
-lying q = group_in (layer_of q.args.sound.now.pool.now q.args.sound.now.table q.args.iter) q.args.iter.interval_i (sym q.in-Some.is ∙ q.group_of.ensures)
+lying q = group_in (layer_of q.args.sound.now.pool.now q.args.sound.now.table q.args.iter) q.args.iter.interval_i (sym q.in-Some.is ∙ q.group_of.ensures ∙ ap (λ (l : Layer). group_of l q.args.iter.interval_i) q.layer.ensures)
 
 fits : (q : In-Some) → LayerFits (length q.args.sound.now.pool.now) q.args.sound.now.table (q.args.iter.depth - 1)
 fits q = layer_fits (header_told (length q.args.sound.now.pool.now) q.args.sound.now.table q.args.sound.now.sound) (omega (arith, q.if-sound-iter.false, q.requires))
@@ -30,7 +32,7 @@ pub returns-in_default : goal.returns-in_default
 returns-in_default c =
     misplaced c.args.sound.now.pool.now c.args.sound.now.table c.args.iter
     (no_group c.args.sound.now.pool.now c.args.sound.now.table c.args.iter
-    (group_out (layer_of c.args.sound.now.pool.now c.args.sound.now.table c.args.iter) c.args.iter.interval_i (sym c.in_default.is ∙ c.group_of.ensures)))
+    (group_out (layer_of c.args.sound.now.pool.now c.args.sound.now.table c.args.iter) c.args.iter.interval_i (sym c.in_default.is ∙ c.group_of.ensures ∙ ap (λ (l : Layer). group_of l c.args.iter.interval_i) c.layer.ensures)))
 
 pub overflow_sub-g : goal.overflow_sub-g
 overflow_sub-g c = (lying (goal.at.overflow_sub-g c).In-Some).ordered

@@ -2,37 +2,40 @@
 -- call for each key is one depth further down.
 use Prim.Native.Nat.{ℕ, ◌+◌, ◌<◌}
 use native.Mathlib.Omega.{arith}
-use mathlib.Core.Path.{◌≡◌}
+use mathlib.Core.Path.{◌≡◌, sym, subst}
 use mathlib.Core.List.{List}
-use lib.ListN.{length, set, length-set}
+use lib.ListN.{length, set}
 use borrow.Author.Rules.{rules}
 use Rattle.join_query.specs.Query.{max_variables}
+use Rattle.join_plan.specs.Plan.{Plan}
+use Rattle.join_window.specs.Window.{Kept}
+use Rattle.join_window.specs.declared.Window.{Window}
+use Rattle.join_window.proofs.Windows.{open_own, emitted_on, still_open, kept_none, kept_on}
 use Rattle.join_openings.specs.Openings.{variable_at}
-use Rattle.join_depths.specs.Depth.{Standing}
+use Rattle.join_depths.specs.Depth.{Standing, Opening}
 use Rattle.descent.specs.Descent.{Completes}
-use Rattle.descent.proofs.Walking.{walk_start, walk_below, walk_agreed, walk_same, walk_fits, walk_full, walk_next, walk_none, steps_less, few_variables, deep_enough, variable_small}
-use Rattle.descent.proofs.Counting.{counting_start, completes_leaf, completes_came, counting_none, counting_full, counting_next}
+use Rattle.descent.proofs.Walking.{walk_start, walk_below, walk_agreed, walk_same, walk_full, walk_next, walk_none, steps_less, few_variables, deep_enough, variable_small, from_above}
+use Rattle.descent.proofs.Counting.{counting_start, completes_leaf, counting_none, counting_full, counting_next}
 use Rattle.descent.proofs.+descend.Goals as goal
-use Rattle.descent.proofs.+descend.Goals.{Joined-depth-join-2, then-depth-join-2, else-depth-join-2}
+use Rattle.descent.proofs.+descend.Goals.{After-open-first, Joined-depth-join-2, then-depth-join-2, else-depth-join-2}
 
 -- a variable is left
-deep : {pool plan ends : List ℕ} {n d : ℕ} {above owned : List ℕ} → Standing pool plan ends n d above owned → (d ≡ n → ⊥) → d < n
+deep : {pool : List ℕ} {plan : Plan} {ends : List ℕ} {n d : ℕ} {above owned : List ℕ} → Standing pool plan ends n d above owned → (d ≡ n → ⊥) → d < n
 deep st h = omega (arith, deep_enough st, h)
+
+-- what holds of either way holds where they meet
+came : (p : Window → ℕ → Type 0) {w w' : Window} {s s' : ℕ} → w ≡ w' → s ≡ s' → p w' s' → p w s
+came p {w} {s' = s'} e h x = subst (p w) (sym h) (subst (λ (y : Window). p y s') (sym e) x)
 
 -- ---- no variable is left
 
-pub complete-requires-clause-n_le_max_variables : goal.complete-requires-clause-n_le_max_variables
-complete-requires-clause-n_le_max_variables t c =
-    let long : length c.args.found ≡ max_variables = search rules in
-    (few_variables c.requires.standing, omega (arith, few_variables c.requires.standing, long))
+pub emit-requires : goal.emit-requires
+emit-requires t c = open_own c.requires.ready
 
 pub returns-then-depth-join : goal.returns-then-depth-join
-returns-then-depth-join t c = completes_leaf c.if-depth-join.true c.complete.ensures
+returns-then-depth-join t c = record { kept = c.emit.ensures.kept; completes = completes_leaf c.if-depth-join.true (emitted_on c.requires.ready c.args.found c.emit.ensures.stands) }
 
 -- ---- the depth is opened
-
-pub overflow_mul-v : goal.overflow_mul-v
-overflow_mul-v t c = omega (arith, few_variables c.requires.standing, deep c.requires.standing c.if-depth-join.false)
 
 pub offset_bounds-join-depth : goal.offset_bounds-join-depth
 offset_bounds-join-depth t c = omega (arith, few_variables c.requires.standing, deep c.requires.standing c.if-depth-join.false)
@@ -40,35 +43,46 @@ offset_bounds-join-depth t c = omega (arith, few_variables c.requires.standing, 
 pub bounds-join-depth : goal.bounds-join-depth
 bounds-join-depth t c = omega (arith, few_variables c.requires.standing, deep c.requires.standing c.if-depth-join.false)
 
-pub overflow_mul-k : goal.overflow_mul-k
-overflow_mul-k t c = omega (arith, few_variables c.requires.standing, deep c.requires.standing c.if-depth-join.false)
-
-pub overflow_add-k : goal.overflow_add-k
-overflow_add-k t c = omega (arith, few_variables c.requires.standing, deep c.requires.standing c.if-depth-join.false)
-
 pub offset_bounds-join-depth-2 : goal.offset_bounds-join-depth-2
 offset_bounds-join-depth-2 t c = omega (arith, few_variables c.requires.standing, deep c.requires.standing c.if-depth-join.false)
 
 pub bounds-join-depth-2 : goal.bounds-join-depth-2
 bounds-join-depth-2 t c = omega (arith, few_variables c.requires.standing, deep c.requires.standing c.if-depth-join.false)
 
+pub open-first-requires-clause-standing : goal.open-first-requires-clause-standing
+open-first-requires-clause-standing t c =
+    let a = c.args in
+    let e = c.begin-state.ensures in
+    from_above (Standing a.join.now.leap.pool.now a.join.now.plan.now a.join.now.leap.ends.now a.join.now.n a.depth) (sym e.0) (sym e.1) c.requires.standing
+
+opened : (t : ℕ) (s : After-open-first t) → let a = s.args in let o = s.open-first in Opening a.join.now.leap.pool.now a.join.now.plan.now a.join.now.leap.ends.now a.join.now.n a.depth a.above a.owned o.new.state o.new.ring o.new.by_atom a.before o.result
+opened t s =
+    let a = s.args in
+    let o = s.open-first in
+    let e = s.begin-state.ensures in
+    from_above (λ (at own : List ℕ). Opening a.join.now.leap.pool.now a.join.now.plan.now a.join.now.leap.ends.now a.join.now.n a.depth at own o.new.state o.new.ring o.new.by_atom a.before o.result) e.0 e.1 o.ensures
+
 -- ---- the loop
 
 pub loop-landed-init : goal.loop-landed-init
 loop-landed-init t c =
     let long : length c.args.found ≡ max_variables = search rules in
-    (walk_start c.open-first.ensures.begun long c.requires.fits, counting_start)
+    (walk_start (opened t (goal.at.loop-landed-init t c).After-open-first).begun long, counting_start, kept_none, c.requires.ready)
 
 -- no key is left
-pub returns-in_default : goal.returns-in_default
-returns-in_default t c =
+pub returns : goal.returns
+returns t c =
     let st = c.requires.standing in
     let below = deep st c.if-depth-join.false in
-    let o = c.open-first.ensures in
+    let o = opened t (goal.at.returns t c).After-open-first in
     let i = c.loop-landed.invariant in
+    let going = i.3.going in
     record {
-      descended = walk_none o.begun st below c.in_default.is i.0;
-      counts = counting_none o below i.1 c.in_default.is;
+      kept = i.2;
+      completes = record {
+        descended = walk_none o.begun st below c.in_default.is i.0 going;
+        counts = counting_none o below i.1 c.in_default.is going;
+      };
     }
 
 -- a key is found: its word, and the descent below it
@@ -79,56 +93,54 @@ pub bounds-row-v : goal.bounds-row-v
 bounds-row-v t c = let st = c.requires.standing in variable_small st (deep st c.if-depth-join.false)
 
 -- it was the last variable's
-pub complete-below-requires-clause-n_le_max_variables : goal.complete-below-requires-clause-n_le_max_variables
-complete-below-requires-clause-n_le_max_variables t c =
-    let few = few_variables c.requires.standing in
-    let long : length c.loop-landed.row ≡ max_variables = search rules in
-    (few, omega (arith, few, long, length-set {A = ℕ}))
-
-pub complete-below-requires-clause-fits : goal.complete-below-requires-clause-fits
-complete-below-requires-clause-fits t c =
-    let st = c.requires.standing in
-    walk_fits c.open-first.ensures.begun st (deep st c.if-depth-join.false) c.in-Key.is c.loop-landed.invariant.0
+pub emit-requires-then-depth-join-2 : goal.emit-requires-then-depth-join-2
+emit-requires-then-depth-join-2 t c = open_own c.loop-landed.invariant.3
 
 -- or there are more
 pub descend-below-requires : goal.descend-below-requires
 descend-below-requires t c =
     let st = c.requires.standing in
     let below = deep st c.if-depth-join.false in
-    let b = c.open-first.ensures.begun in
-    let i = c.loop-landed.invariant.0 in
-    (omega (arith, c.decreases, below), (walk_below b st below c.in-Key.is i, walk_fits b st below c.in-Key.is i))
+    let i = c.loop-landed.invariant in
+    (omega (arith, c.decreases, below), (walk_below (opened t (goal.at.descend-below-requires t c).After-open-first).begun st below c.in-Key.is i.0, i.3))
 
 -- either way the rows that complete it are written
-under : (t : ℕ) (u : Joined-depth-join-2 t) → let l = u.loop-landed in let a = u.args in let w = u.if-depth-join-2 in Completes a.join.now.pool.now a.join.now.plan.now a.join.now.ends.now a.join.now.n (a.depth + 1) l.state.at l.state.own (set l.row (variable_at a.join.now.plan.now a.depth) u.in-Key.key) l.window l.rows l.seeks w.window w.below.rows w.below.full w.below.seeks
-under t u = elim u.if-depth-join-2.branch [
-  | then-depth-join-2 w ↦ completes_came w.window-is w.below-is (completes_leaf w.if-depth-join-2.true w.complete-below.ensures)
-  | else-depth-join-2 w ↦ completes_came w.window-is w.below-is w.descend-below.ensures
-]
+under : (t : ℕ) (u : Joined-depth-join-2 t) → let l = u.loop-landed in let a = u.args in let w = u.if-depth-join-2 in Kept l.window w.window × Completes a.join.now.leap.pool.now a.join.now.plan.now a.join.now.leap.ends.now a.join.now.n (a.depth + 1) l.state.at l.state.own (set l.row (variable_at a.join.now.plan.now a.depth) u.in-Key.key) l.window.words.now l.window.rows l.seeks w.window.words.now w.window.rows w.window.full w.below
+under t u =
+    let l = u.loop-landed in
+    let a = u.args in
+    let left = λ (w : Window) (seeks : ℕ). Kept l.window w × Completes a.join.now.leap.pool.now a.join.now.plan.now a.join.now.leap.ends.now a.join.now.n (a.depth + 1) l.state.at l.state.own (set l.row (variable_at a.join.now.plan.now a.depth) u.in-Key.key) l.window.words.now l.window.rows l.seeks w.words.now w.rows w.full seeks in
+    elim u.if-depth-join-2.branch [
+      | then-depth-join-2 w ↦ came left w.window-is w.below-is (w.emit-then-depth-join-2.ensures.kept, completes_leaf w.if-depth-join-2.true (emitted_on l.invariant.3 _ w.emit-then-depth-join-2.ensures.stands))
+      | else-depth-join-2 w ↦ came left w.window-is w.below-is (w.descend-below.ensures.kept, w.descend-below.ensures.completes)
+    ]
 
 -- the window is full
-pub returns-then-below : goal.returns-then-below
-returns-then-below t c =
+pub returns-then-window : goal.returns-then-window
+returns-then-window t c =
     let st = c.requires.standing in
     let below = deep st c.if-depth-join.false in
-    let o = c.open-first.ensures in
+    let o = opened t (goal.at.returns-then-window t c).After-open-first in
     let i = c.loop-landed.invariant in
-    let u = under t (goal.at.returns-then-below t c).Joined-depth-join-2 in
+    let u = under t (goal.at.returns-then-window t c).Joined-depth-join-2 in
     record {
-      descended = walk_full o.begun st below c.in-Key.is i.0 u.descended c.if-below.true;
-      counts = counting_full o below i.1 c.in-Key.is i.0 u c.if-below.true;
+      kept = kept_on i.2 u.0;
+      completes = record {
+        descended = walk_full o.begun st below c.in-Key.is i.0 u.1.descended c.if-window.true;
+        counts = counting_full o below i.1 c.in-Key.is i.0 u.1 c.if-window.true;
+      };
     }
 
 -- or the loop goes on
 pub onward-next-requires-clause-whole_agreed : goal.onward-next-requires-clause-whole_agreed
 onward-next-requires-clause-whole_agreed t c =
     let st = c.requires.standing in
-    walk_agreed c.open-first.ensures.begun st (deep st c.if-depth-join.false) c.in-Key.is c.loop-landed.invariant.0
+    walk_agreed (opened t (goal.at.onward-next-requires-clause-whole_agreed t c).After-open-first).begun st (deep st c.if-depth-join.false) c.in-Key.is c.loop-landed.invariant.0
 
 pub onward-next-requires-clause-same_atoms : goal.onward-next-requires-clause-same_atoms
 onward-next-requires-clause-same_atoms t c =
     let st = c.requires.standing in
-    walk_same c.open-first.ensures.begun st (deep st c.if-depth-join.false) c.in-Key.is c.loop-landed.invariant.0
+    walk_same (opened t (goal.at.onward-next-requires-clause-same_atoms t c).After-open-first).begun st (deep st c.if-depth-join.false) c.in-Key.is c.loop-landed.invariant.0
 
 pub loop-landed-smaller : goal.loop-landed-smaller
 loop-landed-smaller t c = steps_less c.in-Key.is c.onward-next.ensures.steps
@@ -137,9 +149,12 @@ pub loop-landed-preserved : goal.loop-landed-preserved
 loop-landed-preserved t c =
     let st = c.requires.standing in
     let below = deep st c.if-depth-join.false in
-    let o = c.open-first.ensures in
+    let o = opened t (goal.at.loop-landed-preserved t c).After-open-first in
     let i = c.loop-landed.invariant in
-    let u = under t (goal.at.loop-landed-preserved t c).Joined-depth-join-2 in (
-      walk_next o.begun st below c.in-Key.is i.0 u.descended c.if-below.false c.onward-next.ensures.steps,
-      counting_next o below i.1 c.in-Key.is i.0 u c.if-below.false c.onward-next.ensures,
+    let u = under t (goal.at.loop-landed-preserved t c).Joined-depth-join-2 in
+    let going = c.if-window.false in (
+      walk_next o.begun st below c.in-Key.is i.0 u.1.descended going c.onward-next.ensures.steps,
+      counting_next o below i.1 c.in-Key.is i.0 u.1 going c.onward-next.ensures,
+      kept_on i.2 u.0,
+      still_open i.3 u.0 (omega (arith, below)) going,
     )

@@ -1,53 +1,72 @@
 -- The goals of `load` that the check leaves.
 use Prim.Native.Nat.{ℕ, ◌+◌, ◌*◌, ◌-◌, ◌≤◌, ◌<◌}
-use mathlib.Core.Path.{◌≡◌, sym, ap, ap₂, ◌∙◌, subst}
+use mathlib.Core.Path.{◌≡◌, sym, ap, ◌∙◌, subst}
 use mathlib.Core.List.{List, []}
 use native.Mathlib.Omega.{arith}
-use lib.ListN.{length, take, drop, get_or}
+use lib.ListN.{length, take, drop, get_or, length-drop}
+use Rattle.std.proofs.lemmas.List.{take_rest}
 use Rattle.relation.specs.Order.{Row}
-use Rattle.relation.proofs.Order.{shared}
 use Rattle.column_trie.specs.Limits.{max_arity}
-use Rattle.from_sorted.specs.Push.{Pushing, Fills}
-use Rattle.from_sorted.proofs.Fill.{pushing_first, filled_first, pushing_next, filled_next, fills_none, fills_all, can_push, pushed}
+use Rattle.from_sorted.specs.Push.{Following, Fills}
+use Rattle.from_sorted.proofs.Fill.{pushing_first, filled_first, fills_none, fills_all, can_push, pushed}
 use Rattle.table_file.specs.Bytes.{decode}
 use Rattle.table_file.specs.File.{parse}
 use Rattle.table_file.specs.Places.{place}
-use Rattle.file_read.specs.Load.{rows_found}
-use Rattle.file_read.proofs.Strict.{neighbours_differ}
+use Rattle.column_trie.specs.declared.ColumnTrie.{ColumnTrie}
+use Rattle.file_read.specs.Load.{rows_found, Loading}
 use borrow.Author.Rules.{rules}
 use Rattle.file_read.proofs.load.Goals as goal
-use Rattle.file_read.proofs.load.Goals.{After-common_prefix_len-d, After-read_row-last, After-read_row-row, Start}
+use Rattle.file_read.proofs.load.Goals.{After-read_row-last, After-read_row-row, Start}
+
+-- a row that was read where it lies
+there : {bytes : List ℕ} {at n len : ℕ} {t : ColumnTrie} → Loading bytes at n len t → (i : ℕ) → i < n → {y : ℕ} (row : List ℕ) → y ≡ at + place t.arity i → take t.arity row ≡ decode t.arity (take (length bytes - y) (drop y bytes)) → take t.arity row ≡ get_or (rows_found (parse bytes)) i []
+there {bytes} {t = t} l i h {y} row q e = e ∙ ap (decode t.arity) (take_rest bytes y) ∙ ap (λ (z : ℕ). decode t.arity (drop z bytes)) q ∙ (l.lies i h).is
 
 -- what the function is handed
 module _ (s : Start) where
   abbrev a : ℕ
   a = s.args.t.arity
 
-  placed : (i : ℕ) → i < s.args.n → (0 < a) × (a ≤ 8) × (s.args.at + place a i < 18446744073709551616)
+  placed : (i : ℕ) → i < s.args.file.rows → (0 < a) × (a ≤ 8) × (s.args.file.body + place a i < 18446744073709551616)
   placed i h = (s.requires.fill.positive, s.requires.fill.few, omega (arith, (s.requires.lies i h).inside, s.well_formed))
 
-  seated : (i : ℕ) → i < s.args.n → (y : ℕ) → y ≡ s.args.at + place a i → (a ≤ max_arity) × (y + 8 * a ≤ length s.args.bytes.now)
-  seated i h y e = (s.requires.fill.few, omega (arith, (s.requires.lies i h).inside))
+  starts : (i : ℕ) → i < s.args.file.rows → (y : ℕ) → y ≡ s.args.file.body + place a i → y ≤ length s.args.bytes.now
+  starts i h y e = omega (arith, (s.requires.lies i h).inside)
+
+  seated : (i : ℕ) → i < s.args.file.rows → (y : ℕ) → y ≡ s.args.file.body + place a i → (a ≤ max_arity) × (8 * a ≤ length (take (length s.args.bytes.now - y) (drop y s.args.bytes.now)))
+  seated i h y e = (s.requires.fill.few, omega (arith, (s.requires.lies i h).inside, ap length (take_rest s.args.bytes.now y), length-drop y s.args.bytes.now))
 
 -- the first row, read
 module _ (k : After-read_row-last) where
-  there : 0 < k.args.n
-  there = omega (arith, k.if-n-eq0.false)
+  some : 0 < k.args.file.rows
+  some = omega (arith, k.if-file-eq0.false)
 
   first_row : take k.args.t.arity k.read_row-last.result ≡ get_or (rows_found (parse k.args.bytes.now)) 0 []
-  first_row = k.read_row-last.ensures ∙ ap (λ (z : ℕ). decode k.args.t.arity (drop z k.args.bytes.now)) k.row_place-first.ensures ∙ (k.requires.lies 0 there).is
+  first_row = there k.requires 0 some _ k.row_place-first.ensures k.read_row-last.ensures
 
   first : 0 < length (rows_found (parse k.args.bytes.now))
-  first = omega (arith, k.requires.many, there)
+  first = omega (arith, k.requires.many, some)
 
-pub returns-then-n-eq0 : goal.returns-then-n-eq0
-returns-then-n-eq0 c = fills_none c.requires.fill c.requires.width (sym c.requires.many ∙ c.if-n-eq0.true)
+pub returns-then-file-eq0 : goal.returns-then-file-eq0
+returns-then-file-eq0 c = fills_none c.requires.fill c.requires.width (sym c.requires.many ∙ c.if-file-eq0.true)
 
 pub row_place-first-requires : goal.row_place-first-requires
-row_place-first-requires c = placed (goal.at.row_place-first-requires c).Start 0 (omega (arith, c.if-n-eq0.false))
+row_place-first-requires c = placed (goal.at.row_place-first-requires c).Start 0 (omega (arith, c.if-file-eq0.false))
+
+pub slice_bounds-read_row-start : goal.slice_bounds-read_row-start
+slice_bounds-read_row-start c = starts (goal.at.slice_bounds-read_row-start c).Start 0 (omega (arith, c.if-file-eq0.false)) c.row_place-first.result c.row_place-first.ensures
+
+pub slice_bounds-read_row-count : goal.slice_bounds-read_row-count
+slice_bounds-read_row-count c = starts (goal.at.slice_bounds-read_row-count c).Start 0 (omega (arith, c.if-file-eq0.false)) c.row_place-first.result c.row_place-first.ensures
+
+pub slice_bounds-read_row-start-in-loop-i : goal.slice_bounds-read_row-start-in-loop-i
+slice_bounds-read_row-start-in-loop-i c = starts (goal.at.slice_bounds-read_row-start-in-loop-i c).Start c.loop-i.i c.loop-i-test.true c.row_place-place.result c.row_place-place.ensures
+
+pub slice_bounds-read_row-count-in-loop-i : goal.slice_bounds-read_row-count-in-loop-i
+slice_bounds-read_row-count-in-loop-i c = starts (goal.at.slice_bounds-read_row-count-in-loop-i c).Start c.loop-i.i c.loop-i-test.true c.row_place-place.result c.row_place-place.ensures
 
 pub read_row-last-requires : goal.read_row-last-requires
-read_row-last-requires c = seated (goal.at.read_row-last-requires c).Start 0 (omega (arith, c.if-n-eq0.false)) c.row_place-first.result c.row_place-first.ensures
+read_row-last-requires c = seated (goal.at.read_row-last-requires c).Start 0 (omega (arith, c.if-file-eq0.false)) c.row_place-first.result c.row_place-first.ensures
 
 pub append_row-requires : goal.append_row-requires
 append_row-requires c =
@@ -69,52 +88,38 @@ read_row-row-requires c = seated (goal.at.read_row-row-requires c).Start c.loop-
 row_long : (c : After-read_row-row) → length c.read_row-row.result ≡ max_arity
 row_long c = search rules
 
-pub common_prefix_len-d-requires : goal.common_prefix_len-d-requires
-common_prefix_len-d-requires c =
-    (omega (arith, c.requires.fill.few, c.loop-i.invariant.1), omega (arith, c.requires.fill.few, row_long (goal.at.common_prefix_len-d-requires c).After-read_row-row))
-
--- the row that a turn appends, and from which column on
-module _ (c : After-common_prefix_len-d) where
+-- the row that a turn appends is the next one
+module _ (c : After-read_row-row) where
   abbrev rows : List Row
   rows = rows_found (parse c.args.bytes.now)
 
   abbrev i : ℕ
   i = c.loop-i.i
 
-  ahead : i < length rows
-  ahead = omega (arith, c.requires.many, c.loop-i-test.true)
-
   row_read : take c.args.t.arity c.read_row-row.result ≡ get_or rows i []
-  row_read = c.read_row-row.ensures ∙ ap (λ (z : ℕ). decode c.args.t.arity (drop z c.args.bytes.now)) c.row_place-place.ensures ∙ (c.requires.lies i c.loop-i-test.true).is
+  row_read = there c.requires i c.loop-i-test.true _ c.row_place-place.ensures c.read_row-row.ensures
 
-  -- the keys that row i shares with the row before it, and that it differs from it
-  from : c.common_prefix_len-d.result ≡ shared (get_or rows (i - 1) []) (get_or rows i [])
-  from = c.common_prefix_len-d.ensures ∙ ap₂ shared c.loop-i.invariant.2 row_read
+  following : Following (length c.args.pool.now) c.args.t rows c.append_row.new.pool c.loop-i.pool c.loop-i.lengths.data c.loop-i.lengths.intervals i (take c.args.t.arity c.loop-i.last) (take c.args.t.arity c.read_row-row.result)
+  following =
+      record {
+        filling = c.requires.fill;
+        width = c.requires.width;
+        filled = c.loop-i.invariant.0;
+        same = c.loop-i.invariant.0.long ∙ c.append_row.auto.pool;
+        more = omega (arith, c.requires.many, c.loop-i-test.true);
+        last_is = c.loop-i.invariant.2;
+        row_is = row_read;
+      }
 
-  differs : c.common_prefix_len-d.result < c.args.t.arity
-  differs = omega (arith, from, neighbours_differ c.requires.asc c.requires.width i c.loop-i.invariant.0.low ahead)
-
-  next : Pushing (length c.loop-i.pool) c.args.t c.loop-i.lengths.data c.loop-i.lengths.intervals (take i rows) (get_or rows i []) c.common_prefix_len-d.result (c.common_prefix_len-d.result + 1)
-  next =
-      let l = c.loop-i in
-      let d = c.common_prefix_len-d.result in
-      subst (λ (n : ℕ). Pushing n c.args.t l.lengths.data l.lengths.intervals (take i rows) (get_or rows i []) d (d + 1)) (sym (l.invariant.0.long ∙ c.append_row.auto.pool))
-      (pushing_next c.requires.fill c.requires.width d l.invariant.0 ahead from differs)
-
-pub overflow_add-d : goal.overflow_add-d
-overflow_add-d c = omega (arith, differs (goal.at.overflow_add-d c).After-common_prefix_len-d, c.requires.fill.few)
-
-pub append_row-requires-in-loop-i : goal.append_row-requires-in-loop-i
-append_row-requires-in-loop-i c =
-    let k = (goal.at.append_row-requires-in-loop-i c).After-common_prefix_len-d in
-    can_push (row_read k) (next k)
+pub append_next-requires : goal.append_next-requires
+append_next-requires c = (length c.args.pool.now, rows_found (parse c.args.bytes.now), c.append_row.new.pool, c.loop-i.i, following (goal.at.append_next-requires c).After-read_row-row)
 
 pub loop-i-preserved : goal.loop-i-preserved
 loop-i-preserved c =
-    let k = (goal.at.loop-i-preserved c).After-common_prefix_len-d in
+    let k = (goal.at.loop-i-preserved c).After-read_row-row in
     let q : c.loop-i.i + 1 - 1 ≡ c.loop-i.i = omega arith in (
-      filled_next c.requires.fill c.requires.width c.loop-i.invariant.0 (ahead k) c.append_row-in-loop-i.auto.pool (pushed (row_read k) (next k) c.append_row-in-loop-i.ensures),
-      row_long (goal.at.loop-i-preserved c).After-read_row-row,
+      c.append_next.ensures (length c.args.pool.now) (rows k) c.append_row.new.pool c.loop-i.i (following k),
+      row_long k,
       row_read k ∙ ap (λ (n : ℕ). get_or (rows k) n []) (sym q),
     )
 

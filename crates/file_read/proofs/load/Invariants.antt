@@ -4,7 +4,7 @@ use mathlib.Core.Path.{◌≡◌}
 use mathlib.Core.List.{[]}
 use lib.ListN.{length, take, get_or}
 use Rattle.column_trie.specs.Limits.{max_arity}
-use Rattle.from_sorted.proofs.Fill.{Filled}
+use Rattle.from_sorted.specs.Push.{Filled}
 use Rattle.table_file.specs.File.{parse}
 use Rattle.file_read.specs.Load.{rows_found}
 use Rattle.file_read.proofs.load.Given as goal

@@ -11,35 +11,34 @@ use Rattle.table_file.proofs.Fields.{per_some}
 use Rattle.row_path.proofs.Keys.{start_path}
 use Rattle.file_rows.specs.Rows.{Putting, RowsPut}
 use Rattle.file_rows.proofs.Fields.{FieldsLaid, no_fields, fields_kept, fields_end, next_some, next_there, next_room, next_few, next_asked, next_laid}
-use borrow.Author.Rules.{rules}
 use Rattle.file_rows.proofs.put_fields.Goals as goal
 use Rattle.file_rows.proofs.put_fields.Goals.{After-min-n, Start}
 
-whole : (s : Start) → Whole s.args.t
-whole s = record { data_long = search rules; interval_long = search rules }
+whole : (s : Start) → Whole s.args.rows.now.sound.table
+whole s = s.args.rows.now.sound.whole
 
-sound : (s : Start) → Undamaged s.args.pool.now s.args.t
-sound s = undamaged_told s.args.pool.now s.args.t s.requires.0
+sound : (s : Start) → Undamaged s.args.rows.now.sound.pool.now s.args.rows.now.sound.table
+sound s = undamaged_told s.args.rows.now.sound.pool.now s.args.rows.now.sound.table s.args.rows.now.undamaged
 
 -- in a turn of the loop: the next field's rows, by the full field that the code computed
 module _ (k : After-min-n) where
-  whole_here : Whole k.args.t
-  whole_here = record { data_long = search rules; interval_long = search rules }
+  whole_here : Whole k.args.rows.now.sound.table
+  whole_here = k.args.rows.now.sound.whole
 
-  some : 0 < per_field k.args.t.arity
-  some = let u = undamaged_told k.args.pool.now k.args.t k.requires.0 in per_some k.args.t.arity u.arity.0 u.arity.1
+  some : 0 < per_field k.args.rows.now.sound.table.arity
+  some = let u = undamaged_told k.args.rows.now.sound.pool.now k.args.rows.now.sound.table k.args.rows.now.undamaged in per_some k.args.rows.now.sound.table.arity u.arity.0 u.arity.1
 
   abbrev rows : ℕ
-  rows = min (per_field k.args.t.arity) (k.args.t.tuple_count - k.loop-i.i)
+  rows = min (per_field k.args.rows.now.sound.table.arity) (k.args.rows.now.sound.table.tuple_count - k.loop-i.i)
 
   rows_are : k.min-n.result ≡ rows
-  rows_are = k.min-n.ensures ∙ ap (λ (m : ℕ). min m (k.args.t.tuple_count - k.loop-i.i)) k.per_field-full.ensures.0
+  rows_are = k.min-n.ensures ∙ ap (λ (m : ℕ). min m (k.args.rows.now.sound.table.tuple_count - k.loop-i.i)) k.per_field-full.ensures.0
 
-  within : k.loop-i.p + 3 + 8 * (k.min-n.result * k.args.t.arity) ≤ length k.args.bytes.now
-  within = subst (λ (n : ℕ). k.loop-i.p + 3 + 8 * (n * k.args.t.arity) ≤ length k.args.bytes.now) (sym rows_are) (next_room whole_here k.requires.0 k.loop-i.invariant k.loop-i-test.true some k.requires.1)
+  within : k.loop-i.p + 3 + 8 * (k.min-n.result * k.args.rows.now.sound.table.arity) ≤ length k.args.bytes.now
+  within = subst (λ (n : ℕ). k.loop-i.p + 3 + 8 * (n * k.args.rows.now.sound.table.arity) ≤ length k.args.bytes.now) (sym rows_are) (next_room whole_here k.args.rows.now.undamaged k.loop-i.invariant k.loop-i-test.true some k.requires)
 
-  few : 8 * (k.min-n.result * k.args.t.arity) ≤ 65535
-  few = subst (λ (n : ℕ). 8 * (n * k.args.t.arity) ≤ 65535) (sym rows_are) (next_few whole_here k.requires.0 k.loop-i.invariant k.loop-i-test.true some)
+  few : 8 * (k.min-n.result * k.args.rows.now.sound.table.arity) ≤ 65535
+  few = subst (λ (n : ℕ). 8 * (n * k.args.rows.now.sound.table.arity) ≤ 65535) (sym rows_are) (next_few whole_here k.args.rows.now.undamaged k.loop-i.invariant k.loop-i-test.true some)
 
 pub per_field-full-requires : goal.per_field-full-requires
 per_field-full-requires c = let u = sound (goal.at.per_field-full-requires c).Start in (u.arity.0, u.arity.1)
@@ -50,7 +49,7 @@ loop-i-init c = no_fields c.args.bytes.now c.args.at (start_path (whole (goal.at
 pub put_rows_field-requires : goal.put_rows_field-requires
 put_rows_field-requires c =
     let k = (goal.at.put_rows_field-requires c).After-min-n in
-    (subst (λ (n : ℕ). Putting c.args.pool.now c.args.t c.loop-i.path c.loop-i.i n (c.loop-i.p + 3) (length c.loop-i.bytes)) (sym (rows_are k)) (next_asked (whole_here k) c.requires.0 c.loop-i.invariant c.loop-i-test.true (some k) c.requires.1), few k)
+    (subst (λ (n : ℕ). Putting c.args.rows.now.sound.pool.now c.args.rows.now.sound.table c.loop-i.path c.loop-i.i n (c.loop-i.p + 3) (length c.loop-i.bytes)) (sym (rows_are k)) (next_asked (whole_here k) c.args.rows.now.undamaged c.loop-i.invariant c.loop-i-test.true (some k) c.requires), few k)
 
 pub overflow_mul-p : goal.overflow_mul-p
 overflow_mul-p c = omega (arith, few (goal.at.overflow_mul-p c).After-min-n, within (goal.at.overflow_mul-p c).After-min-n, c.well_formed)
@@ -67,22 +66,22 @@ overflow_add-p-in-loop-i c = omega (arith, few (goal.at.overflow_add-p-in-loop-i
 pub overflow_add-i : goal.overflow_add-i
 overflow_add-i c =
     let k = (goal.at.overflow_add-i c).After-min-n in
-    omega (arith, rows_are k, next_there (whole_here k) c.requires.0 c.loop-i.invariant c.loop-i-test.true (some k), c.well_formed)
+    omega (arith, rows_are k, next_there (whole_here k) c.args.rows.now.undamaged c.loop-i.invariant c.loop-i-test.true (some k), c.well_formed)
 
 pub loop-i-smaller : goal.loop-i-smaller
 loop-i-smaller c =
     let k = (goal.at.loop-i-smaller c).After-min-n in
-    omega (arith, rows_are k, next_some (whole_here k) c.requires.0 c.loop-i.invariant c.loop-i-test.true (some k), c.loop-i-test.true)
+    omega (arith, rows_are k, next_some (whole_here k) c.args.rows.now.undamaged c.loop-i.invariant c.loop-i-test.true (some k), c.loop-i-test.true)
 
 pub loop-i-preserved : goal.loop-i-preserved
 loop-i-preserved c =
     let k = (goal.at.loop-i-preserved c).After-min-n in
     let q = c.put_rows_field in
-    subst (λ (n : ℕ). RowsPut c.args.pool.now c.args.t (c.loop-i.i + n - 1) c.loop-i.bytes c.loop-i.p (rows_field (take n (drop c.loop-i.i (rows_in c.args.pool.now c.args.t)))) q.new.bytes q.new.path → FieldsLaid c.args.pool.now c.args.t c.args.bytes.now c.args.at q.new.bytes q.new.path (c.loop-i.p + (3 + 8 * (n * c.args.t.arity))) (c.loop-i.i + n))
-    (sym (rows_are k)) (next_laid (whole_here k) c.requires.0 c.loop-i.invariant c.loop-i-test.true (some k)) q.ensures
+    subst (λ (n : ℕ). RowsPut c.args.rows.now.sound.pool.now c.args.rows.now.sound.table (c.loop-i.i + n - 1) c.loop-i.bytes c.loop-i.p (rows_field (take n (drop c.loop-i.i (rows_in c.args.rows.now.sound.pool.now c.args.rows.now.sound.table)))) q.new.bytes q.new.path → FieldsLaid c.args.rows.now.sound.pool.now c.args.rows.now.sound.table c.args.bytes.now c.args.at q.new.bytes q.new.path (c.loop-i.p + (3 + 8 * (n * c.args.rows.now.sound.table.arity))) (c.loop-i.i + n))
+    (sym (rows_are k)) (next_laid (whole_here k) c.args.rows.now.undamaged c.loop-i.invariant c.loop-i-test.true (some k)) q.ensures
 
 pub shape_of-bytes : goal.shape_of-bytes
-shape_of-bytes c = fields_kept (whole (goal.at.shape_of-bytes c).Start) c.requires.0 c.loop-i.invariant
+shape_of-bytes c = fields_kept (whole (goal.at.shape_of-bytes c).Start) c.args.rows.now.undamaged c.loop-i.invariant
 
 pub returns : goal.returns
-returns c = fields_end (whole (goal.at.returns c).Start) c.requires.0 c.loop-i.invariant c.loop-i-test.false
+returns c = fields_end (whole (goal.at.returns c).Start) c.args.rows.now.undamaged c.loop-i.invariant c.loop-i-test.false

@@ -10,7 +10,7 @@ use Rattle.column_trie.specs.Pool.{lay}
 use Rattle.column_trie.specs.Table.{rows_in, Undamaged}
 use Rattle.column_trie.proofs.Header.{LayerFits, layer_fits}
 use Rattle.column_trie.proofs.Layers.{Whole}
-use Rattle.column_trie.proofs.Damage.{undamaged_told, undamaged_header}
+use Rattle.column_trie.proofs.Damage.{undamaged_told}
 use Rattle.column_trie.proofs.Pool.{lay_length}
 use Rattle.column_trie.proofs.Stored.{in_pool}
 use Rattle.table_file.specs.Bytes.{bytes_of, encode}
@@ -18,43 +18,39 @@ use Rattle.file_rows.specs.Rows.{Laid}
 use Rattle.row_path.proofs.Keys.{KeyAt, key_on}
 use Rattle.file_rows.proofs.Pieces.{laid_more, no_words, words_long, word_more}
 use Rattle.file_rows.proofs.Tables.{row_long}
-use borrow.Author.Rules.{rules}
 use Rattle.file_rows.proofs.put_row.Goals as goal
 use Rattle.file_rows.proofs.put_row.Goals.{At-loop-d}
 
-whole : (l : At-loop-d) → Whole l.args.t
-whole l = record { data_long = search rules; interval_long = search rules }
+whole : (l : At-loop-d) → Whole l.args.rows.now.sound.table
+whole l = l.args.rows.now.sound.whole
 
-sound : (l : At-loop-d) → Undamaged l.args.pool.now l.args.t
-sound l = undamaged_told l.args.pool.now l.args.t l.requires.sound
+sound : (l : At-loop-d) → Undamaged l.args.rows.now.sound.pool.now l.args.rows.now.sound.table
+sound l = undamaged_told l.args.rows.now.sound.pool.now l.args.rows.now.sound.table l.args.rows.now.undamaged
 
-counted : (l : At-loop-d) → l.args.i < l.args.t.tuple_count
+counted : (l : At-loop-d) → l.args.i < l.args.rows.now.sound.table.tuple_count
 counted l = omega (arith, l.requires.there)
 
-long : (l : At-loop-d) → length (get_or (rows_in l.args.pool.now l.args.t) l.args.i []) ≡ l.args.t.arity
+long : (l : At-loop-d) → length (get_or (rows_in l.args.rows.now.sound.pool.now l.args.rows.now.sound.table) l.args.i []) ≡ l.args.rows.now.sound.table.arity
 long l = row_long (whole l) (sound l) l.args.i (counted l)
 
-fits : (l : At-loop-d) (d : ℕ) → d < l.args.t.arity → LayerFits (length l.args.pool.now) l.args.t d
+fits : (l : At-loop-d) (d : ℕ) → d < l.args.rows.now.sound.table.arity → LayerFits (length l.args.rows.now.sound.pool.now) l.args.rows.now.sound.table d
 fits l d h = layer_fits (in_pool (sound l)) h
 
 -- the room that is asked for is that of the row
-room : (l : At-loop-d) → l.args.at + 8 * l.args.t.arity ≤ length l.args.bytes.now
-room l = omega (arith, l.requires.fits, one-mul l.args.t.arity)
+room : (l : At-loop-d) → l.args.at + 8 * l.args.rows.now.sound.table.arity ≤ length l.args.bytes.now
+room l = omega (arith, l.requires.fits, one-mul l.args.rows.now.sound.table.arity)
 
-key : (l : At-loop-d) (d : ℕ) → d < l.args.t.arity → KeyAt l.args.pool.now l.args.t l.args.i d (get_or l.next_path.new.path d 0)
+key : (l : At-loop-d) (d : ℕ) → d < l.args.rows.now.sound.table.arity → KeyAt l.args.rows.now.sound.pool.now l.args.rows.now.sound.table l.args.i d (get_or l.next_path.new.path d 0)
 key l d h = key_on (whole l) (sound l) l.next_path.ensures (counted l) d h
 
 kept : (l : At-loop-d) → length l.loop-d.bytes ≡ length l.args.bytes.now
-kept l = ap length l.loop-d.invariant ∙ lay_length l.args.bytes.now l.args.at (encode (take l.loop-d.d (get_or (rows_in l.args.pool.now l.args.t) l.args.i [])))
-
-pub invariant_of-rows-clause-sound : goal.invariant_of-rows-clause-sound
-invariant_of-rows-clause-sound c = undamaged_header c.args.pool.now c.args.t c.requires.sound
+kept l = ap length l.loop-d.invariant ∙ lay_length l.args.bytes.now l.args.at (encode (take l.loop-d.d (get_or (rows_in l.args.rows.now.sound.pool.now l.args.rows.now.sound.table) l.args.i [])))
 
 pub next_path-requires : goal.next_path-requires
-next_path-requires c = (c.requires.sound, omega (arith, c.requires.there), c.requires.before)
+next_path-requires c = (omega (arith, c.requires.there), c.requires.before)
 
 pub loop-d-init : goal.loop-d-init
-loop-d-init c = no_words c.args.bytes.now c.args.at (get_or (rows_in c.args.pool.now c.args.t) c.args.i [])
+loop-d-init c = no_words c.args.bytes.now c.args.at (get_or (rows_in c.args.rows.now.sound.pool.now c.args.rows.now.sound.table) c.args.i [])
 
 pub layer_at-requires : goal.layer_at-requires
 layer_at-requires c =
@@ -89,17 +85,17 @@ overflow_add-at c =
     let h = c.loop-d-test.true in
     omega (arith, h, room l, c.well_formed)
 
-pub offset_bounds-pool-place : goal.offset_bounds-pool-place
-offset_bounds-pool-place c =
-    let l = (goal.at.offset_bounds-pool-place c).At-loop-d in
+pub offset_bounds-rows-place : goal.offset_bounds-rows-place
+offset_bounds-rows-place c =
+    let l = (goal.at.offset_bounds-rows-place c).At-loop-d in
     let h = c.loop-d-test.true in
     let f = fits l c.loop-d.d h in
     let k = key l c.loop-d.d h in
     omega (arith, f, k.inside, c.layer_at.ensures, c.well_formed)
 
-pub bounds-pool-place : goal.bounds-pool-place
-bounds-pool-place c =
-    let l = (goal.at.bounds-pool-place c).At-loop-d in
+pub bounds-rows-place : goal.bounds-rows-place
+bounds-rows-place c =
+    let l = (goal.at.bounds-rows-place c).At-loop-d in
     let h = c.loop-d-test.true in
     let f = fits l c.loop-d.d h in
     let k = key l c.loop-d.d h in
@@ -116,9 +112,9 @@ loop-d-preserved c =
     let l = (goal.at.loop-d-preserved c).At-loop-d in
     let d = c.loop-d.d in
     let h = c.loop-d-test.true in
-    let row = get_or (rows_in c.args.pool.now c.args.t) c.args.i [] in
+    let row = get_or (rows_in c.args.rows.now.sound.pool.now c.args.rows.now.sound.table) c.args.i [] in
     let here = get_or c.next_path.new.path d 0 in
-    let w : get_or c.args.pool.now (c.layer_at.result + here) 0 ≡ get_or row d 0 = ap (λ (n : ℕ). get_or c.args.pool.now (n + here) 0) c.layer_at.ensures ∙ (key l d h).word in
+    let w : get_or c.args.rows.now.sound.pool.now (c.layer_at.result + here) 0 ≡ get_or row d 0 = ap (λ (n : ℕ). get_or c.args.rows.now.sound.pool.now (n + here) 0) c.layer_at.ensures ∙ (key l d h).word in
     let p : Laid c.args.bytes.now c.args.at (encode (take d row)) c.loop-d.bytes (c.args.at + 8 * d) = record { is = c.loop-d.invariant; ends = omega (arith, words_long row d (omega (arith, long l))) } in
     laid_more p (bytes_of 8 (get_or row d 0)) (c.put_word.ensures ∙ ap (λ (n : ℕ). lay c.loop-d.bytes (c.args.at + 8 * d) (bytes_of 8 n)) w) (word_more row d (omega (arith, long l)))
 
@@ -127,5 +123,5 @@ shape_of-bytes c = kept (goal.at.shape_of-bytes c).At-loop-d
 
 pub returns : goal.returns
 returns c =
-    let row = get_or (rows_in c.args.pool.now c.args.t) c.args.i [] in
+    let row = get_or (rows_in c.args.rows.now.sound.pool.now c.args.rows.now.sound.table) c.args.i [] in
     record { laid = c.loop-d.invariant ∙ ap (λ (r : List ℕ). lay c.args.bytes.now c.args.at (encode r)) (take_all c.loop-d.d row (omega (arith, long (goal.at.returns c).At-loop-d, c.loop-d-test.false))); on = c.next_path.ensures }

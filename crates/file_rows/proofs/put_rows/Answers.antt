@@ -1,34 +1,29 @@
 -- The goals of `put_rows` that the check leaves.
 use native.Mathlib.Omega.{arith}
-use Rattle.column_trie.proofs.Layers.{Whole}
-use Rattle.file_rows.proofs.Tables.{none_laid, rows_kept, row_asked, row_ends, one_laid, all_laid}
-use borrow.Author.Rules.{rules}
+use Rattle.column_trie.proofs.Damage.{undamaged_told}
+use Rattle.file_rows.proofs.Tables.{rows_few, none_laid, rows_kept, row_asked, row_ends, one_laid, all_laid}
 use Rattle.file_rows.proofs.put_rows.Goals as goal
-use Rattle.file_rows.proofs.put_rows.Goals.{Start}
-
-whole : (s : Start) → Whole s.args.t
-whole s = record { data_long = search rules; interval_long = search rules }
 
 pub loop-k-init : goal.loop-k-init
 loop-k-init c = none_laid c.args.bytes.now c.requires
 
 pub overflow_add-i : goal.overflow_add-i
-overflow_add-i c = omega (arith, c.loop-k-test.true, c.requires.there, c.well_formed)
+overflow_add-i c = let r = c.args.rows.now in omega (arith, c.loop-k-test.true, c.requires.there, rows_few r.sound.whole (undamaged_told r.sound.pool.now r.sound.table r.undamaged))
 
 pub put_row-requires : goal.put_row-requires
-put_row-requires c = row_asked (whole (goal.at.put_row-requires c).Start) c.loop-k.invariant c.requires c.loop-k-test.true
+put_row-requires c = row_asked c.args.rows.now.sound.whole c.args.rows.now.undamaged c.loop-k.invariant c.requires c.loop-k-test.true
 
 pub overflow_mul-p : goal.overflow_mul-p
-overflow_mul-p c = omega (arith, row_ends (whole (goal.at.overflow_mul-p c).Start) c.loop-k.invariant c.requires c.loop-k-test.true, c.well_formed)
+overflow_mul-p c = omega (arith, row_ends c.args.rows.now.sound.whole c.args.rows.now.undamaged c.loop-k.invariant c.requires c.loop-k-test.true, c.well_formed)
 
 pub overflow_add-p : goal.overflow_add-p
-overflow_add-p c = omega (arith, row_ends (whole (goal.at.overflow_add-p c).Start) c.loop-k.invariant c.requires c.loop-k-test.true, c.well_formed)
+overflow_add-p c = omega (arith, row_ends c.args.rows.now.sound.whole c.args.rows.now.undamaged c.loop-k.invariant c.requires c.loop-k-test.true, c.well_formed)
 
 pub loop-k-preserved : goal.loop-k-preserved
-loop-k-preserved c = one_laid (whole (goal.at.loop-k-preserved c).Start) c.loop-k.invariant c.requires c.loop-k-test.true c.put_row.ensures
+loop-k-preserved c = one_laid c.args.rows.now.sound.whole c.args.rows.now.undamaged c.loop-k.invariant c.requires c.loop-k-test.true c.put_row.ensures
 
 pub shape_of-bytes : goal.shape_of-bytes
-shape_of-bytes c = rows_kept (whole (goal.at.shape_of-bytes c).Start) c.loop-k.invariant
+shape_of-bytes c = rows_kept c.args.rows.now.sound.whole c.args.rows.now.undamaged c.loop-k.invariant
 
 pub returns : goal.returns
 returns c = all_laid c.loop-k.invariant c.loop-k-test.false

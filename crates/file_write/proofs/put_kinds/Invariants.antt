@@ -7,4 +7,4 @@ use Rattle.table_file.specs.File.{kind_byte}
 use Rattle.file_write.proofs.put_kinds.Given as goal
 
 abbrev pub invariant-loop-d : goal.invariant-loop-d
-invariant-loop-d l = l.bytes ≡ lay l.initial.bytes l.at (map kind_byte (take l.d l.t.grade))
+invariant-loop-d l = l.bytes ≡ lay l.initial.bytes l.at (map kind_byte (take l.d l.kinds))

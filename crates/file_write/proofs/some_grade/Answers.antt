@@ -1,6 +1,5 @@
 -- `file_write::some_grade` meets its contract.
 use mathlib.Core.Path.{◌∙◌}
-use lib.ListN.{take}
 use borrow.Author.Rules.{rules}
 use Rattle.std.proofs.Common.{tests}
 use Rattle.std.proofs.lemmas.Iterator.{YieldsList-from_slice}
@@ -10,5 +9,5 @@ use Rattle.file_write.proofs.some_grade.Goals as goal
 
 pub returns : goal.returns
 returns c =
-    let kinds = take c.args.t.arity c.args.t.grade in
+    let kinds = c.args.kinds.now in
     any_from_yields_List {all = kinds} (λ k. k) _ _ c.any.result c.any.ensures.ran (YieldsList-from_slice kinds cc) (λ x b q k. search (rules, tests)) ∙ any_graded kinds

@@ -1,6 +1,6 @@
 -- `from_sorted::from_sorted` meets its contract. The loop's invariant: the table holds the first i rows.
 use Rattle.from_sorted.specs.Given.{rows_given}
-use Rattle.from_sorted.proofs.Fill.{Filled}
+use Rattle.from_sorted.specs.Push.{Filled}
 use Rattle.from_sorted.proofs.from_sorted.Given as goal
 
 abbrev pub invariant-loop-i : goal.invariant-loop-i

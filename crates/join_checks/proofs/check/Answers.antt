@@ -1,4 +1,4 @@
--- `check` meets its contract: each way out is a case of `joinNumber`, the checks before it having passed.
+-- `check` meets its contract: each way out is a case of `join_number`, the checks before it having passed.
 use mathlib.Core.Path.{◌≡◌}
 use mathlib.Core.Bool.{true}
 use Rattle.relation.specs.Tests.{every}

@@ -13,9 +13,6 @@ use Rattle.join_checks.proofs.list_ok.Goals.{Start, then-a-le-MAX_ARITY, else-a-
 whole : (s : Start) → length s.args.a.variables ≡ max_arity
 whole s = search rules
 
-pub reached-requires : goal.reached-requires
-reached-requires c = ((order_told c.args.q c.requires).few, c.if-a-arity.true.0)
-
 pub returns-then-a-arity : goal.returns-then-a-arity
 returns-then-a-arity c =
     let a = c.args in
@@ -28,6 +25,9 @@ returns-else-a-arity c =
     elim c.if-a-le-MAX_ARITY.branch [
       | then-a-le-MAX_ARITY u ↦
           let f : a.a.len ≡ a.arity → ⊥ = λ e. omega (arith, e, c.if-a-arity.either, u.if-a-le-MAX_ARITY.true) in
-          u.t-5-is ∙ ne_eqb a.a.len a.arity f ∙ list_other a.q c.requires a.a a.arity w u.if-a-le-MAX_ARITY.true f
-      | else-a-le-MAX_ARITY u ↦ u.t-5-is ∙ lt-leb a.a.len 8 u.if-a-le-MAX_ARITY.false ∙ list_long a.q c.requires a.a a.arity w u.if-a-le-MAX_ARITY.false
+          u.t-7-is ∙ ne_eqb a.a.len a.arity f ∙ list_other a.q c.requires a.a a.arity w u.if-a-le-MAX_ARITY.true f
+      | else-a-le-MAX_ARITY u ↦ u.t-7-is ∙ lt-leb a.a.len 8 u.if-a-le-MAX_ARITY.false ∙ list_long a.q c.requires a.a a.arity w u.if-a-le-MAX_ARITY.false
     ]
+
+pub shared_ref_as_front-reached : goal.shared_ref_as_front-reached
+shared_ref_as_front-reached c = (order_told c.args.q c.requires).few

@@ -6,48 +6,16 @@ use Rattle.join_openings.specs.Openings.{count_at, Opens, all, refuses}
 use Rattle.join_openings.proofs.Openings.{opens_true, opens_false, opens_start, opens_can, opens_refuses, opens_next}
 use Rattle.join_openings.proofs.open_all.Goals as goal
 
-pub overflow_mul-count : goal.overflow_mul-count
-overflow_mul-count c = omega (arith, c.requires.openable)
-
-pub overflow_add-count : goal.overflow_add-count
-overflow_add-count c = omega (arith, c.requires.openable)
-
-pub offset_bounds-join-depth : goal.offset_bounds-join-depth
-offset_bounds-join-depth c = omega (arith, c.requires.openable)
-
-pub bounds-join-depth : goal.bounds-join-depth
-bounds-join-depth c = omega (arith, c.requires.openable)
-
-pub overflow_mul-first : goal.overflow_mul-first
-overflow_mul-first c = omega (arith, c.requires.openable)
-
-pub overflow_add-first : goal.overflow_add-first
-overflow_add-first c = omega (arith, c.requires.openable)
-
 pub loop-j-init : goal.loop-j-init
-loop-j-init c = opens_start c.args.join.now.pool.now c.args.join.now.plan.now c.args.depth c.requires.arrays
-
-pub overflow_mul-base : goal.overflow_mul-base
-overflow_mul-base c = omega (arith, c.requires.openable)
-
-pub overflow_add-base : goal.overflow_add-base
-overflow_add-base c = omega (arith, c.requires.openable)
+loop-j-init c = opens_start c.args.join.now.leap.pool.now c.args.join.now.plan.now c.args.depth c.requires.arrays
 
 pub open_one-requires : goal.open_one-requires
-open_one-requires c =
-    let l = c.loop-j in
-    record { opening_words_bound = (omega (arith, c.requires.openable), l.invariant.arrays.sized); one_openable = opens_can c.requires.openable l.invariant (omega arith) }
+open_one-requires c = let l = c.loop-j in record { sized = l.invariant.arrays.sized; one_openable = opens_can c.requires.openable l.invariant (omega arith) }
 
 pub returns-then-not-open_one : goal.returns-then-not-open_one
 returns-then-not-open_one c =
     let l = c.loop-j in
     refuses (opens_refuses c.requires.openable l.invariant (omega arith) (opens_false c.open_one.ensures c.if-not-open_one.true))
-
-pub offset_bounds-join-base : goal.offset_bounds-join-base
-offset_bounds-join-base c = omega (arith, c.requires.openable)
-
-pub bounds-join-base : goal.bounds-join-base
-bounds-join-base c = omega (arith, c.requires.openable)
 
 pub offset_bounds-ring-j : goal.offset_bounds-ring-j
 offset_bounds-ring-j c = omega (arith, c.requires.openable.few)
@@ -70,4 +38,4 @@ returns c =
     let l = c.loop-j in
     let e : l.j ≡ count_at c.args.join.now.plan.now c.args.depth = omega arith in
     all
-    (subst (λ (m : ℕ). Opens c.args.join.now.pool.now c.args.join.now.plan.now c.args.join.now.ends.now c.args.depth m c.args.state.now l.state l.ring l.by_atom) e l.invariant)
+    (subst (λ (m : ℕ). Opens c.args.join.now.leap.pool.now c.args.join.now.plan.now c.args.join.now.leap.ends.now c.args.depth m c.args.state.now l.state l.ring l.by_atom) e l.invariant)

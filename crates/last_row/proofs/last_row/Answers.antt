@@ -15,11 +15,11 @@ read_last w n zero after f = absurd (f refl)
 read_last w n (suc j) after f = let p : suc j - 1 ≡ j = omega arith in ap (λ (k : ℕ). padded (take n (drop (k * n) w))) p
 
 pub returns-then-rows-ne0 : goal.returns-then-rows-ne0
-returns-then-rows-ne0 c = let a = c.args in c.words_at.ensures ∙ read_last a.window.now a.n a.rows a.after c.if-rows-ne0.true
+returns-then-rows-ne0 c = let a = c.args in c.row_at.ensures ∙ read_last a.window.now a.n a.rows a.after c.if-rows-ne0.true
 
 pub returns-in-Some : goal.returns-in-Some
 unfolding last_read
-returns-in-Some c = rw (c.if-rows-ne0.false, c.in-Some.is) c.words_at-in-Some.ensures
+returns-in-Some c = rw (c.if-rows-ne0.false, c.in-Some.is) c.row_at-in-Some.ensures
 
 pub returns-in-None : goal.returns-in-None
 unfolding last_read

@@ -1,18 +1,16 @@
 -- The goals of `lay_rows` that the check leaves.
 use Prim.Native.Nat.{ℕ, ◌+◌, ◌-◌, ◌<◌}
-use mathlib.Core.Path.{◌≡◌, sym, ap, ap₂, ◌∙◌, subst}
+use mathlib.Core.Path.{◌≡◌, sym, ap, ◌∙◌, subst}
 use mathlib.Core.List.{List, []}
 use native.Mathlib.Omega.{arith}
 use lib.ListN.{length, take, get_or}
 use Rattle.relation.specs.Order.{Row}
 use Rattle.relation.specs.Rows.{sort}
-use Rattle.relation.proofs.Order.{shared}
 use Rattle.column_trie.specs.Limits.{max_arity}
 use Rattle.column_trie.specs.Pool.{spot}
 use Rattle.column_trie.proofs.Header.{layer_inside}
-use Rattle.from_sorted.specs.Push.{Pushing, Pushes, Fills}
-use Rattle.from_sorted.proofs.Fill.{pushing_first, filled_first, pushing_next, filled_next, fills_none, fills_all, can_push, pushed}
-use Rattle.file_read.proofs.Strict.{neighbours_differ}
+use Rattle.from_sorted.specs.Push.{Pushes, Following, Fills}
+use Rattle.from_sorted.proofs.Fill.{pushing_first, filled_first, fills_none, fills_all, can_push, pushed}
 use Rattle.permuted_rows.specs.Packed.{number_of}
 use Rattle.permuted_rows.specs.Seen.{rows_seen}
 use Rattle.permuted_rows.specs.declared.Permuted.{Permuted}
@@ -20,7 +18,7 @@ use Rattle.permuted_fill.specs.Ranks.{RankAt}
 use Rattle.permuted_fill.proofs.Words.{laid, still}
 use borrow.Author.Rules.{rules}
 use Rattle.permuted_fill.proofs.lay_rows.Goals as goal
-use Rattle.permuted_fill.proofs.lay_rows.Goals.{After-common_prefix_len-d, After-row-last, After-row-row, In-loop-j, Start}
+use Rattle.permuted_fill.proofs.lay_rows.Goals.{After-row-last, After-row-row, In-loop-j, Start}
 
 -- a word's row, and the row that it stands for
 moved : {rows : Permuted} {j : ℕ} (into : List ℕ) {at place : ℕ} → at ≡ place → RankAt rows j (get_or into place 0) → RankAt rows j (get_or into at 0)
@@ -81,8 +79,8 @@ module _ (c : In-loop-j) where
 pub returns-then-n-eq0 : goal.returns-then-n-eq0
 returns-then-n-eq0 c = fills_none c.requires.fill c.requires.width (sym c.requires.many ∙ c.if-n-eq0.true)
 
-pub overflow_sub-arity : goal.overflow_sub-arity
-overflow_sub-arity c = omega (arith, c.requires.fill.positive)
+pub overflow_sub-empty : goal.overflow_sub-empty
+overflow_sub-empty c = omega (arith, c.requires.fill.positive)
 
 pub layer_at-at-requires : goal.layer_at-at-requires
 layer_at-at-requires c = let f = c.requires.fill in (omega (arith, f.fits, c.well_formed), f.small, omega (arith, f.few, f.positive))
@@ -124,54 +122,33 @@ row-row-requires c = (rank_now (goal.at.row-row-requires c).In-loop-j).packed
 row_long : (c : After-row-row) → length c.row-row.result ≡ max_arity
 row_long c = search rules
 
-pub common_prefix_len-d-requires : goal.common_prefix_len-d-requires
-common_prefix_len-d-requires c =
-    (omega (arith, c.requires.fill.few, c.loop-j.invariant.1), omega (arith, c.requires.fill.few, row_long (goal.at.common_prefix_len-d-requires c).After-row-row))
+-- the row that a turn appends is the next one
+module _ (c : After-row-row) (r : take c.args.empty.arity c.row-row.result ≡ get_or (sort (rows_seen c.args.rows.now)) c.loop-j.j []) where
+  following : Following (length c.args.into.now) c.args.empty (sort (rows_seen c.args.rows.now)) c.append_row.new.pool c.loop-j.into c.loop-j.lengths.data c.loop-j.lengths.intervals c.loop-j.j (take c.args.empty.arity c.loop-j.last) (take c.args.empty.arity c.row-row.result)
+  following =
+      record {
+        filling = c.requires.fill;
+        width = c.requires.width;
+        filled = c.loop-j.invariant.0;
+        same = c.loop-j.invariant.0.long ∙ c.append_row.auto.pool;
+        more = omega (arith, c.requires.many, c.loop-j-test.true);
+        last_is = c.loop-j.invariant.2;
+        row_is = r;
+      }
 
--- the row that a turn appends, and from which column on
-module _ (c : After-common_prefix_len-d) where
-  abbrev rows_here : List Row
-  rows_here = sort (rows_seen c.args.rows.now)
-
-  abbrev i : ℕ
-  i = c.loop-j.j
-
-  known : i < length rows_here
-  known = omega (arith, c.requires.many, c.loop-j-test.true)
-
-  -- the keys that row j shares with the row before it, and that it differs from it
-  from : take c.args.empty.arity c.row-row.result ≡ get_or rows_here i [] → c.common_prefix_len-d.result ≡ shared (get_or rows_here (i - 1) []) (get_or rows_here i [])
-  from r = c.common_prefix_len-d.ensures ∙ ap₂ shared c.loop-j.invariant.2 r
-
-  differs : take c.args.empty.arity c.row-row.result ≡ get_or rows_here i [] → c.common_prefix_len-d.result < c.args.empty.arity
-  differs r = omega (arith, from r, neighbours_differ c.requires.asc c.requires.width i c.loop-j.invariant.0.low known)
-
-  next : take c.args.empty.arity c.row-row.result ≡ get_or rows_here i [] →
-      Pushing (length c.loop-j.into) c.args.empty c.loop-j.lengths.data c.loop-j.lengths.intervals (take i rows_here) (get_or rows_here i []) c.common_prefix_len-d.result (c.common_prefix_len-d.result + 1)
-  next r =
-      let l = c.loop-j in
-      let d = c.common_prefix_len-d.result in
-      subst (λ (m : ℕ). Pushing m c.args.empty l.lengths.data l.lengths.intervals (take i rows_here) (get_or rows_here i []) d (d + 1)) (sym (l.invariant.0.long ∙ c.append_row.auto.pool))
-      (pushing_next c.requires.fill c.requires.width d l.invariant.0 known (from r) (differs r))
-
-pub overflow_add-d : goal.overflow_add-d
-overflow_add-d c =
-    let r = row_is c.row-row.result c.requires.arity (rank_now (goal.at.overflow_add-d c).In-loop-j) c.row-row.ensures in
-    omega (arith, differs (goal.at.overflow_add-d c).After-common_prefix_len-d r, c.requires.fill.few)
-
-pub append_row-requires-in-loop-j : goal.append_row-requires-in-loop-j
-append_row-requires-in-loop-j c =
-    let r = row_is c.row-row.result c.requires.arity (rank_now (goal.at.append_row-requires-in-loop-j c).In-loop-j) c.row-row.ensures in
-    can_push r (next (goal.at.append_row-requires-in-loop-j c).After-common_prefix_len-d r)
+pub append_next-requires : goal.append_next-requires
+append_next-requires c =
+    let r = row_is c.row-row.result c.requires.arity (rank_now (goal.at.append_next-requires c).In-loop-j) c.row-row.ensures in
+    (length c.args.into.now, sort (rows_seen c.args.rows.now), c.append_row.new.pool, c.loop-j.j, following (goal.at.append_next-requires c).After-row-row r)
 
 pub loop-j-preserved : goal.loop-j-preserved
 loop-j-preserved c =
     let l = (goal.at.loop-j-preserved c).In-loop-j in
-    let k = (goal.at.loop-j-preserved c).After-common_prefix_len-d in
+    let k = (goal.at.loop-j-preserved c).After-row-row in
     let r = row_is c.row-row.result c.requires.arity (rank_now l) c.row-row.ensures in
     let q : c.loop-j.j + 1 - 1 ≡ c.loop-j.j = omega arith in (
-      filled_next c.requires.fill c.requires.width c.loop-j.invariant.0 (ahead l) c.append_row-in-loop-j.auto.pool (pushed r (next k r) c.append_row-in-loop-j.ensures),
-      row_long (goal.at.loop-j-preserved c).After-row-row,
+      c.append_next.ensures (length c.args.into.now) (rows l) c.append_row.new.pool c.loop-j.j (following k r),
+      row_long k,
       r ∙ ap (λ (m : ℕ). get_or (rows l) m []) (sym q),
     )
 

@@ -5,7 +5,7 @@ use mathlib.Core.List.{[]}
 use lib.ListN.{length, take, get_or}
 use Rattle.relation.specs.Rows.{sort}
 use Rattle.column_trie.specs.Limits.{max_arity}
-use Rattle.from_sorted.proofs.Fill.{Filled}
+use Rattle.from_sorted.specs.Push.{Filled}
 use Rattle.permuted_rows.specs.Seen.{rows_seen}
 use Rattle.permuted_fill.proofs.lay_rows.Given as goal
 

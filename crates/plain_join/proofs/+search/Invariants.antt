@@ -10,7 +10,7 @@ abbrev pub decreases-search : goal.decreases-search
 decreases-search l = l.left
 
 abbrev pub invariant-loop-next : goal.invariant-loop-next
-invariant-loop-next l = (s : 0 < l.left) × (h : l.left ≤ l.asked.query.n) × Trying l.asked.passed.accepted l.left s h l.initial.found l.initial.window l.rows l.window l.found l.next l.written
+invariant-loop-next l = (s : 0 < l.left) × (h : l.left ≤ l.asked.query.n) × Trying l.asked.passed.accepted l.left s h l.initial.found l.initial.window l.window l.found l.next
 
 -- how many keys are left
 abbrev pub decreases-loop-next : goal.decreases-loop-next

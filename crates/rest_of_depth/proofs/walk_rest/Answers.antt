@@ -1,32 +1,15 @@
 -- The goals of `walk_rest` that the check leaves.
 use native.Mathlib.Omega.{arith}
-use mathlib.Core.Path.{◌≡◌}
-use lib.ListN.{length}
-use Rattle.join_query.specs.Query.{max_variables}
+use Rattle.join_window.proofs.Windows.{still_open, kept_none, kept_on}
 use Rattle.descent.proofs.Walking.{steps_less}
-use Rattle.rest_of_depth.proofs.Resting.{walk_start, few_variables, variable_small, walk_below, walk_agreed, walk_same, walk_fits, walk_full, walk_next, walk_none}
-use borrow.Author.Rules.{rules}
+use Rattle.rest_of_depth.proofs.Resting.{walk_start, few_variables, variable_small, walk_below, walk_agreed, walk_same, walk_full, walk_next, walk_none}
 use Rattle.rest_of_depth.proofs.walk_rest.Goals as goal
-use Rattle.rest_of_depth.proofs.walk_rest.Goals.{Start}
-
--- what the parameter's type says
-long : (s : Start) → length s.args.found ≡ max_variables
-long s = search rules
-
-pub overflow_mul-v : goal.overflow_mul-v
-overflow_mul-v c = omega (arith, few_variables c.requires.underway, c.requires.underway.below)
 
 pub offset_bounds-join-depth : goal.offset_bounds-join-depth
 offset_bounds-join-depth c = omega (arith, few_variables c.requires.underway, c.requires.underway.below)
 
 pub bounds-join-depth : goal.bounds-join-depth
 bounds-join-depth c = omega (arith, few_variables c.requires.underway, c.requires.underway.below)
-
-pub overflow_mul-k : goal.overflow_mul-k
-overflow_mul-k c = omega (arith, few_variables c.requires.underway, c.requires.underway.below)
-
-pub overflow_add-k : goal.overflow_add-k
-overflow_add-k c = omega (arith, few_variables c.requires.underway, c.requires.underway.below)
 
 pub offset_bounds-join-depth-2 : goal.offset_bounds-join-depth-2
 offset_bounds-join-depth-2 c = omega (arith, few_variables c.requires.underway, c.requires.underway.below)
@@ -35,13 +18,12 @@ pub bounds-join-depth-2 : goal.bounds-join-depth-2
 bounds-join-depth-2 c = omega (arith, few_variables c.requires.underway, c.requires.underway.below)
 
 pub loop-landed-init : goal.loop-landed-init
-loop-landed-init c = walk_start c.requires.underway c.requires.fits
+loop-landed-init c = (walk_start c.requires.underway, kept_none, c.requires.ready)
 
-pub shape_of-window-in_default : goal.shape_of-window-in_default
-shape_of-window-in_default c = c.loop-landed.invariant.window
-
-pub returns-in_default : goal.returns-in_default
-returns-in_default c = walk_none c.requires.underway c.in_default.is c.loop-landed.invariant
+pub returns : goal.returns
+returns c =
+    let i = c.loop-landed.invariant in
+    record { kept = i.1; walks = walk_none c.requires.underway c.in_default.is i.0 i.2.going }
 
 pub offset_bounds-row-v : goal.offset_bounds-row-v
 offset_bounds-row-v c = omega (arith, variable_small c.requires.underway, few_variables c.requires.underway, c.requires.underway.below)
@@ -52,26 +34,36 @@ bounds-row-v c = omega (arith, variable_small c.requires.underway, few_variables
 pub overflow_add-depth : goal.overflow_add-depth
 overflow_add-depth c = omega (arith, few_variables c.requires.underway, c.requires.underway.below)
 
-pub descend-below-requires : goal.descend-below-requires
-descend-below-requires c =
-    let e = c.in-Key.is in
+pub descend-requires : goal.descend-requires
+descend-requires c =
     let i = c.loop-landed.invariant in
-    record { standing = walk_below c.requires.underway e i; fits = walk_fits c.requires.underway e i }
+    record { standing = walk_below c.requires.underway c.in-Key.is i.0; ready = i.2 }
 
-pub returns-then-below : goal.returns-then-below
-returns-then-below c = walk_full c.requires.underway c.in-Key.is c.loop-landed.invariant c.descend-below.ensures.descended c.if-below.true
+pub returns-then-window : goal.returns-then-window
+returns-then-window c =
+    let i = c.loop-landed.invariant in
+    let r = c.descend.ensures in
+    record { kept = kept_on i.1 r.kept; walks = walk_full c.requires.underway c.in-Key.is i.0 r.completes.descended c.if-window.true }
 
-pub overflow_add-depth-in-loop-landed : goal.overflow_add-depth-in-loop-landed
-overflow_add-depth-in-loop-landed c = omega (arith, few_variables c.requires.underway, c.requires.underway.below)
+pub overflow_add-depth-in-Key : goal.overflow_add-depth-in-Key
+overflow_add-depth-in-Key c = omega (arith, few_variables c.requires.underway, c.requires.underway.below)
 
 pub onward-next-requires : goal.onward-next-requires
 onward-next-requires c =
     let e = c.in-Key.is in
-    let i = c.loop-landed.invariant in
+    let i = c.loop-landed.invariant.0 in
     record { whole_agreed = walk_agreed c.requires.underway e i; same_atoms = walk_same c.requires.underway e i }
 
 pub loop-landed-smaller : goal.loop-landed-smaller
 loop-landed-smaller c = steps_less c.in-Key.is c.onward-next.ensures.steps
 
 pub loop-landed-preserved : goal.loop-landed-preserved
-loop-landed-preserved c = walk_next c.requires.underway c.in-Key.is c.loop-landed.invariant c.descend-below.ensures.descended (long (goal.at.loop-landed-preserved c).Start) c.if-below.false c.onward-next.ensures.steps
+loop-landed-preserved c =
+    let u = c.requires.underway in
+    let i = c.loop-landed.invariant in
+    let r = c.descend.ensures in
+    let going = c.if-window.false in (
+      walk_next u c.in-Key.is i.0 r.completes.descended going c.onward-next.ensures.steps,
+      kept_on i.1 r.kept,
+      still_open i.2 r.kept (omega (arith, u.below)) going,
+    )

@@ -6,37 +6,36 @@ use lib.ListN.{length, get_or}
 use Rattle.column_trie.specs.Table.{Undamaged}
 use Rattle.column_trie.proofs.Header.{LayerFits, layer_fits}
 use Rattle.column_trie.proofs.Layers.{Whole}
-use Rattle.column_trie.proofs.Damage.{undamaged_told}
+use Rattle.sound_table.proofs.Told.{intact}
 use Rattle.column_trie.proofs.Stored.{in_pool}
 use Rattle.row_path.proofs.Keys.{KeyAt}
 use Rattle.row_keys.proofs.Parents.{climbing_start, climbing_on, climbing_at}
-use borrow.Author.Rules.{rules}
 use Rattle.row_keys.proofs.key_of.Goals as goal
 use Rattle.row_keys.proofs.key_of.Goals.{After-loop-e, Start}
 
-whole : (s : Start) → Whole s.args.rows.now.table
-whole s = s.args.rows.now.whole
+whole : (s : Start) → Whole s.args.rows.now.sound.table
+whole s = s.args.rows.now.sound.whole
 
-sound : (s : Start) → Undamaged s.args.rows.now.pool.now s.args.rows.now.table
-sound s = undamaged_told s.args.rows.now.pool.now s.args.rows.now.table s.requires.0
+sound : (s : Start) → Undamaged s.args.rows.now.sound.pool.now s.args.rows.now.sound.table
+sound s = intact s.args.rows.now
 
-fits : (s : Start) → LayerFits (length s.args.rows.now.pool.now) s.args.rows.now.table s.args.d
-fits s = layer_fits (in_pool (sound s)) s.requires.2
+fits : (s : Start) → LayerFits (length s.args.rows.now.sound.pool.now) s.args.rows.now.sound.table s.args.d
+fits s = layer_fits (in_pool (sound s)) s.requires.1
 
 -- the key where the loop ends
-found : (c : After-loop-e) → KeyAt c.args.rows.now.pool.now c.args.rows.now.table c.args.i c.args.d c.loop-e.place
+found : (c : After-loop-e) → KeyAt c.args.rows.now.sound.pool.now c.args.rows.now.sound.table c.args.i c.args.d c.loop-e.place
 found c =
     let l = c.loop-e in
     let e : l.e - 1 ≡ c.args.d = omega (arith, l.invariant.low, c.loop-e-test.false) in
-    rw e at (climbing_at (whole c.before.before.before.before) (sound c.before.before.before.before) l.invariant c.requires.1)
+    rw e at (climbing_at (whole c.before.before) (sound c.before.before) l.invariant c.requires.0)
 
 pub loop-e-init : goal.loop-e-init
-loop-e-init c = climbing_start (whole (goal.at.loop-e-init c).Start) (sound (goal.at.loop-e-init c).Start) c.args.i c.args.d (c.args.rows.now.table.arity - 1) c.requires.2 refl
+loop-e-init c = climbing_start (whole (goal.at.loop-e-init c).Start) (sound (goal.at.loop-e-init c).Start) c.args.i c.args.d (c.args.rows.now.sound.table.arity - 1) c.requires.1 refl
 
 pub parent_of-place-requires : goal.parent_of-place-requires
 parent_of-place-requires c =
     let l = c.loop-e in
-    (c.requires.0, l.invariant.high, (climbing_at (whole (goal.at.parent_of-place-requires c).Start) (sound (goal.at.parent_of-place-requires c).Start) l.invariant c.requires.1).inside)
+    (l.invariant.high, (climbing_at (whole (goal.at.parent_of-place-requires c).Start) (sound (goal.at.parent_of-place-requires c).Start) l.invariant c.requires.0).inside)
 
 pub loop-e-preserved : goal.loop-e-preserved
 loop-e-preserved c =
@@ -62,4 +61,4 @@ bounds-rows-at c =
 pub returns : goal.returns
 returns c =
     let l = c.loop-e in
-    ap (λ (n : ℕ). get_or c.args.rows.now.pool.now (n + l.place) 0) c.layer_at-at.ensures ∙ (found (goal.at.returns c).After-loop-e).word
+    ap (λ (n : ℕ). get_or c.args.rows.now.sound.pool.now (n + l.place) 0) c.layer_at-at.ensures ∙ (found (goal.at.returns c).After-loop-e).word

@@ -4,7 +4,7 @@ use Rattle.stretches.proofs.Pausing.{tails_in, Looping}
 use Rattle.stretches.proofs.go_on.Given as goal
 
 abbrev pub invariant-loop-landed : goal.invariant-loop-landed
-invariant-loop-landed l = Looping l.pool l.initial.state l.state l.ends l.ring l.k l.initial.landed l.initial.seeks l.landed l.seeks
+invariant-loop-landed l = Looping l.leap.pool.now l.initial.state l.state l.leap.ends.now l.ring l.k l.initial.landed l.initial.seeks l.landed l.seeks
 
 abbrev pub decreases-loop-landed : goal.decreases-loop-landed
-decreases-loop-landed l = total (tails_in l.pool l.state l.ends l.ring l.k)
+decreases-loop-landed l = total (tails_in l.leap.pool.now l.state l.leap.ends.now l.ring l.k)

@@ -1,17 +1,13 @@
--- The goals of `lower` that the check leaves.
+-- The goal of `lower` that the check leaves.
+use Rattle.std.proofs.Common.{◌<◌, arith, get_or, length}
+use Rattle.std.proofs.lemmas.List.{get_or_default}
+use Rattle.std.proofs.lemmas.List.Edits.{map_over_more}
 use Rattle.wedge.specs.Shift.{lessened}
-use Rattle.std.proofs.Common.{refl, ap, arith, ◌+◌, get_or, ℕ, List}
-use Rattle.wedge.proofs.Raises.{lifting_at, lifting_next, part, part_long, part_word, raised}
 use Rattle.wedge.proofs.lower.Goals as goal
 
-pub overflow_sub-word : goal.overflow_sub-word
-overflow_sub-word c =
-    let a = c.args in
-    let i = c.loop-word.word-index in
-    omega (arith, ap (λ (l : List ℕ). get_or l i 0) c.loop-word.invariant, lifting_at lessened (part a.pool.now a.base a.from a.n c.requires.0 c.requires.1) i, part_word a.pool.now a.base a.from a.n c.requires.0 c.requires.1 i c.loop-word-test.true, c.requires.2 (a.base + a.from + i) (omega arith) (omega (arith, part_long a.pool.now a.base a.from a.n c.requires.0 c.requires.1, c.loop-word-test.true)))
-
 pub loop-word-preserved : goal.loop-word-preserved
-loop-word-preserved c = lifting_next _ _ _ _ _ c.loop-word.invariant c.loop-word-test.true refl
-
-pub returns : goal.returns
-returns c = let a = c.args in raised a.pool.now a.base a.from a.n c.requires.0 c.requires.1 lessened c.loop-word.word-index _ c.loop-word.invariant c.loop-word-test.false
+loop-word-preserved c =
+    let l = c.loop-word in
+    let x = get_or l.words l.word-index 0 in
+    let h : l.word-index < length l.words = omega arith in
+    map_over_more lessened c.args.words.now l.words l.word-index x c.loop-word-test.true l.invariant (get_or_default l.words l.word-index 0 x h)

@@ -1,8 +1,6 @@
--- `wedge::raise` meets its contract: the words passed are one more (Raises.antt).
-use Prim.Native.Nat.{suc}
-use mathlib.Core.Path.{◌≡◌}
-use Rattle.wedge.proofs.Raises.{lifting}
+-- `wedge::raise` meets its contract: the words passed are one more.
+use Rattle.std.proofs.Common.{◌≡◌, ◌++◌, map, suc, take, drop}
 use Rattle.wedge.proofs.raise.Given as goal
 
 abbrev pub invariant-loop-word : goal.invariant-loop-word
-invariant-loop-word l = l.word-items ≡ lifting suc l.initial.word-items l.word-index
+invariant-loop-word l = l.words ≡ map suc (take l.word-index l.initial.words) ++ drop l.word-index l.initial.words

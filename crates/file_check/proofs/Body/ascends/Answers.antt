@@ -3,7 +3,8 @@ use Prim.Native.Nat.{ℕ, ◌+◌, ◌*◌, ◌-◌, ◌<◌, ◌≤◌}
 use mathlib.Core.Path.{◌≡◌, sym, ap, ◌∙◌}
 use mathlib.Core.List.{List, []}
 use native.Mathlib.Omega.{arith}
-use lib.ListN.{length, take, drop, get_or}
+use lib.ListN.{length, take, drop, get_or, length-drop}
+use Rattle.std.proofs.lemmas.List.{take_rest}
 use Rattle.relation.specs.Order.{Row}
 use Rattle.column_trie.specs.Limits.{max_arity}
 use Rattle.table_file.specs.Bytes.{decode, Bytes}
@@ -32,17 +33,32 @@ module _ (k : Else-n-eq0) where
   placed : (i : ℕ) → i < k.args.n → (0 < a) × (a ≤ 8) × (k.args.self.now.at + place a i < 18446744073709551616)
   placed i h = (k.requires.some, k.requires.few, omega (arith, inside i h, k.well_formed))
 
-  seated : (i : ℕ) → i < k.args.n → (y : ℕ) → y ≡ k.args.self.now.at + place a i → (a ≤ max_arity) × (y + 8 * a ≤ length k.args.self.now.bytes.now)
-  seated i h y e = (k.requires.few, omega (arith, inside i h))
+  ahead : (i : ℕ) → i < k.args.n → (y : ℕ) → y ≡ k.args.self.now.at + place a i → y ≤ length k.args.self.now.bytes.now
+  ahead i h y e = omega (arith, inside i h)
 
-  there : (i : ℕ) → i < k.args.n → (y : ℕ) (row : List ℕ) → y ≡ k.args.self.now.at + place a i → take a row ≡ decode a (drop y k.args.self.now.bytes.now) → take a row ≡ get_or rows i []
-  there i h y row q e = e ∙ ap (λ (z : ℕ). decode a (drop z k.args.self.now.bytes.now)) q ∙ row_is byte k.requires i h
+  seated : (i : ℕ) → i < k.args.n → (y : ℕ) → y ≡ k.args.self.now.at + place a i → (a ≤ max_arity) × (8 * a ≤ length (take (length k.args.self.now.bytes.now - y) (drop y k.args.self.now.bytes.now)))
+  seated i h y e = (k.requires.few, omega (arith, inside i h, ap length (take_rest k.args.self.now.bytes.now y), length-drop y k.args.self.now.bytes.now))
+
+  there : (i : ℕ) → i < k.args.n → (y : ℕ) (row : List ℕ) → y ≡ k.args.self.now.at + place a i → take a row ≡ decode a (take (length k.args.self.now.bytes.now - y) (drop y k.args.self.now.bytes.now)) → take a row ≡ get_or rows i []
+  there i h y row q e = e ∙ ap (decode a) (take_rest k.args.self.now.bytes.now y) ∙ ap (λ (z : ℕ). decode a (drop z k.args.self.now.bytes.now)) q ∙ row_is byte k.requires i h
 
 row_long : (c : After-read_row-row) → length c.read_row-row.result ≡ max_arity
 row_long c = search rules
 
 pub returns-then-n-eq0 : goal.returns-then-n-eq0
 returns-then-n-eq0 c = sym (ascended_no_rows c.args.self.now.each c.requires c.if-n-eq0.true)
+
+pub slice_bounds-read_row-start : goal.slice_bounds-read_row-start
+slice_bounds-read_row-start c = ahead (goal.at.slice_bounds-read_row-start c).Else-n-eq0 0 (omega (arith, c.if-n-eq0.false)) c.row_place-first.result c.row_place-first.ensures
+
+pub slice_bounds-read_row-count : goal.slice_bounds-read_row-count
+slice_bounds-read_row-count c = ahead (goal.at.slice_bounds-read_row-count c).Else-n-eq0 0 (omega (arith, c.if-n-eq0.false)) c.row_place-first.result c.row_place-first.ensures
+
+pub slice_bounds-read_row-start-in-loop-i : goal.slice_bounds-read_row-start-in-loop-i
+slice_bounds-read_row-start-in-loop-i c = ahead (goal.at.slice_bounds-read_row-start-in-loop-i c).Else-n-eq0 c.loop-i.i c.loop-i-test.true c.row_place-place.result c.row_place-place.ensures
+
+pub slice_bounds-read_row-count-in-loop-i : goal.slice_bounds-read_row-count-in-loop-i
+slice_bounds-read_row-count-in-loop-i c = ahead (goal.at.slice_bounds-read_row-count-in-loop-i c).Else-n-eq0 c.loop-i.i c.loop-i-test.true c.row_place-place.result c.row_place-place.ensures
 
 pub read_row-last-requires : goal.read_row-last-requires
 read_row-last-requires c = seated (goal.at.read_row-last-requires c).Else-n-eq0 0 (omega (arith, c.if-n-eq0.false)) c.row_place-first.result c.row_place-first.ensures

@@ -8,7 +8,8 @@ use Rattle.join_query.specs.Query.{no_atom, vars_of, atom_at}
 use Rattle.join_query.specs.Checking.{Listed}
 use Rattle.join_query.specs.declared.Atom.{Atom}
 use Rattle.join_query.proofs.Lists.{lists_told, held_at, held_nowhere}
-use Rattle.join_checks.proofs.Every.{has_is, atom_in, atom_there}
+use Rattle.query.proofs.Permuting.{has_is}
+use Rattle.join_checks.proofs.Every.{atom_in, atom_there}
 use borrow.Author.Rules.{rules}
 use Rattle.join_checks.proofs.Formed.held.Goals as goal
 use Rattle.join_checks.proofs.Formed.held.Goals.{After-contains, Start}

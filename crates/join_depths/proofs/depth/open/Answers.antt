@@ -13,7 +13,7 @@ use Rattle.join_depths.proofs.depth.open.Goals.{Start}
 abbrev arrays : Start → State
 arrays s = s.args.state.now
 
-can : (s : Start) → Openable s.args.join.now.pool.now s.args.join.now.plan.now s.args.join.now.ends.now s.args.depth (arrays s)
+can : (s : Start) → Openable s.args.join.now.leap.pool.now s.args.join.now.plan.now s.args.join.now.leap.ends.now s.args.depth (arrays s)
 can s = openable (arrays s) s.requires.standing.stands s.requires.depth_lt_n.0 s.requires.depth_lt_n.1.last
 
 pub open_all-requires : goal.open_all-requires
@@ -22,12 +22,6 @@ open_all-requires c = record { openable = can (goal.at.open_all-requires c).Star
 pub returns-then-not-open_all : goal.returns-then-not-open_all
 returns-then-not-open_all c =
     opening_refused (arrays (goal.at.returns-then-not-open_all c).Start) c.requires.depth_lt_n.0 (search rules) (all_false c.open_all.ensures c.if-not-open_all.true)
-
-pub overflow_mul-k : goal.overflow_mul-k
-overflow_mul-k c = omega (arith, can (goal.at.overflow_mul-k c).Start)
-
-pub overflow_add-k : goal.overflow_add-k
-overflow_add-k c = omega (arith, can (goal.at.overflow_add-k c).Start)
 
 pub offset_bounds-join-depth : goal.offset_bounds-join-depth
 offset_bounds-join-depth c = omega (arith, can (goal.at.offset_bounds-join-depth c).Start)

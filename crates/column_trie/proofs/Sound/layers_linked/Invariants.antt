@@ -1,6 +1,0 @@
--- `column_trie::Sound::layers_linked` meets its contract: what is left of the chain comes to the test (Layers.antt), layer by layer.
-use Rattle.column_trie.proofs.Layers.{Linking}
-use Rattle.column_trie.proofs.Sound.layers_linked.Given as goal
-
-abbrev pub invariant-loop-d : goal.invariant-loop-d
-invariant-loop-d l = Linking l.self.pool.now l.self.table l.above l.d

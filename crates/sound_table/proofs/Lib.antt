@@ -1,0 +1,4 @@
+pub mod Groups
+mod Linking
+pub mod Told
+mod Ways
