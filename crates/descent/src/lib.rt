@@ -37,6 +37,7 @@ pub fn descend(
     }
     let v = join.plan[depth].variable;
     let k = join.plan[depth].count;
+    let last = depth + 1 == join.n;
     let mut state = State::begin(above, owned);
     let mut ring = [0usize; MAX_ATOMS];
     let mut by_atom = [0usize; MAX_ATOMS];
@@ -46,7 +47,7 @@ pub fn descend(
     let mut row = found;
     while let Landed::Key { key, p } = landed {
         row[v] = key;
-        let below = if depth + 1 == join.n {
+        let below = if last {
             window.emit(&row);
             seeks
         } else {
@@ -62,7 +63,7 @@ pub fn descend(
             &by_atom,
             k,
             p,
-            depth + 1 == join.n,
+            last,
             below,
         );
         landed = next.landed;

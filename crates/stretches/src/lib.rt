@@ -194,8 +194,11 @@ fn resume(
     requires { Paused leap.now.pool.now state.old leap.now.ends.now ring.now k s }
     ensures { WholeRan leap.now.pool.now leap.now.ends.now ring.now k state.old state.new (resumed_of leap.now.pool.now state.old leap.now.ends.now ring.now k s.landed s.seeks) result }
 {
-    if settled(&state.left, ring, s.landed) {
-        return s;
+    let landed = s.landed;
+    let seeks = s.seeks;
+    if settled(&state.left, ring, landed) {
+        // by its fields: handed on whole it stays in memory, since `go_on` takes it whole, and is copied
+        return Searched { landed, seeks };
     }
     go_on(leap, state, ring, k, s)
 }
