@@ -49,7 +49,7 @@ impl LookedUp {
 // 6 on either and 17, then 1: a table of one column has no keys below its first.
 #[tactic(auto, unfolding(crate::specs::Lookup::lookup_number))]
 fn check(laid: &Laid) -> Result<(), Refusal>
-    ensures { given result ≡ lookup_number laid.now.school_pool.now laid.now.school laid.now.maker_pool.now laid.now.maker }
+    ensures { given result ≡ lookup_number laid.now.school_pool.now laid.now.school.now laid.now.maker_pool.now laid.now.maker.now }
 {
     laid.check()?;
     if laid.school.arity < 2 {
@@ -86,9 +86,9 @@ pub fn lookup(
 {
     let laid = Laid {
         school_pool,
-        school,
+        school: &school,
         maker_pool,
-        maker,
+        maker: &maker,
     };
     if let Err(refused) = check(&laid) {
         return LookedUp::none(refused.number());
