@@ -25,13 +25,13 @@ fn put_row(
     path: &mut [usize; ColumnTrie::MAX_ARITY],
     i: usize,
 )
-    requires { Putting rows.now.sound.pool.now rows.now.sound.table path.old i 1 at (length bytes.old) }
-    ensures { RowsPut rows.now.sound.pool.now rows.now.sound.table i bytes.old at (encode (get_or (rows_in rows.now.sound.pool.now rows.now.sound.table) i [])) bytes.new path.new }
+    requires { Putting rows.now.sound.pool.now rows.now.sound.table.now path.old i 1 at (length bytes.old) }
+    ensures { RowsPut rows.now.sound.pool.now rows.now.sound.table.now i bytes.old at (encode (get_or (rows_in rows.now.sound.pool.now rows.now.sound.table.now) i [])) bytes.new path.new }
 {
     next_path(rows, path, i);
     let table = rows.sound.table;
     for d in 0..table.arity {
-        let place = layer_at(table, d) + path[d];
+        let place = layer_at(*table, d) + path[d];
         put_word(bytes, at + 8 * d, rows.sound.pool[place]);
     }
 }
@@ -45,8 +45,8 @@ pub fn put_rows(
     i: usize,
     n: usize,
 )
-    requires { Putting rows.now.sound.pool.now rows.now.sound.table path.old i n at (length bytes.old) }
-    ensures { RowsPut rows.now.sound.pool.now rows.now.sound.table (i + n - 1) bytes.old at (encode (flat (take n (drop i (rows_in rows.now.sound.pool.now rows.now.sound.table))))) bytes.new path.new }
+    requires { Putting rows.now.sound.pool.now rows.now.sound.table.now path.old i n at (length bytes.old) }
+    ensures { RowsPut rows.now.sound.pool.now rows.now.sound.table.now (i + n - 1) bytes.old at (encode (flat (take n (drop i (rows_in rows.now.sound.pool.now rows.now.sound.table.now))))) bytes.new path.new }
 {
     let mut p = at;
     for k in 0..n {
@@ -73,8 +73,8 @@ fn put_rows_field(
     i: usize,
     n: usize,
 )
-    requires { Putting rows.now.sound.pool.now rows.now.sound.table path.old i n (at + 3) (length bytes.old) × (8 * (n * rows.now.sound.table.arity) ≤ 65535) }
-    ensures { RowsPut rows.now.sound.pool.now rows.now.sound.table (i + n - 1) bytes.old at (rows_field (take n (drop i (rows_in rows.now.sound.pool.now rows.now.sound.table)))) bytes.new path.new }
+    requires { Putting rows.now.sound.pool.now rows.now.sound.table.now path.old i n (at + 3) (length bytes.old) × (8 * (n * rows.now.sound.table.now.arity) ≤ 65535) }
+    ensures { RowsPut rows.now.sound.pool.now rows.now.sound.table.now (i + n - 1) bytes.old at (rows_field (take n (drop i (rows_in rows.now.sound.pool.now rows.now.sound.table.now)))) bytes.new path.new }
 {
     put_tag(bytes, at, Tag::Rows, 8 * (n * rows.sound.table.arity));
     put_rows(bytes, at + 3, rows, path, i, n);
@@ -82,8 +82,8 @@ fn put_rows_field(
 
 // Writes all fields of rows from `at` on; answers where they end.
 pub fn put_fields(bytes: &mut [u8], at: usize, rows: &Intact) -> usize
-    requires { at + length (fields_in rows.now.sound.pool.now rows.now.sound.table) ≤ length bytes.old }
-    ensures { Laid bytes.old at (fields_in rows.now.sound.pool.now rows.now.sound.table) bytes.new result }
+    requires { at + length (fields_in rows.now.sound.pool.now rows.now.sound.table.now) ≤ length bytes.old }
+    ensures { Laid bytes.old at (fields_in rows.now.sound.pool.now rows.now.sound.table.now) bytes.new result }
 {
     let mut path = [0usize; ColumnTrie::MAX_ARITY];
     let table = rows.sound.table;

@@ -84,7 +84,7 @@ fn put_file(bytes: &mut [u8], pool: &[u64], t: ColumnTrie)
     let kinds = &t.grade[..t.arity];
     let body = put_head(bytes, kinds);
     let rows = Intact {
-        sound: Sound { pool, table: t },
+        sound: Sound { pool, table: &t },
     };
     let end = put_fields(bytes, body, &rows);
     put_tag(bytes, end, Tag::End, 0);

@@ -35,7 +35,7 @@ fn next_in(pool: &[u64], t: ColumnTrie, a: Atom, row: Row, len: usize, past: boo
     requires { Undamaged pool.now t × (len < t.arity) × Named a len }
     ensures { result ≡ head_of (from (bound past (get_or (words a row) len 0)) (keys_under (take len (words a row)) (rows_in pool.now t))) }
 {
-    let rows = Sound { pool, table: t };
+    let rows = Sound { pool, table: &t };
     let mut i = 0;
     for d in 0..len {
         let (first, keys) = group(&rows.layer(d), i);

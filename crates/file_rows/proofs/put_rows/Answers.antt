@@ -8,7 +8,7 @@ pub loop-k-init : goal.loop-k-init
 loop-k-init c = none_laid c.args.bytes.now c.requires
 
 pub overflow_add-i : goal.overflow_add-i
-overflow_add-i c = let r = c.args.rows.now in omega (arith, c.loop-k-test.true, c.requires.there, rows_few r.sound.whole (undamaged_told r.sound.pool.now r.sound.table r.undamaged))
+overflow_add-i c = let r = c.args.rows.now in omega (arith, c.loop-k-test.true, c.requires.there, rows_few r.sound.whole (undamaged_told r.sound.pool.now r.sound.table.now r.undamaged))
 
 pub put_row-requires : goal.put_row-requires
 put_row-requires c = row_asked c.args.rows.now.sound.whole c.args.rows.now.undamaged c.loop-k.invariant c.requires c.loop-k-test.true
