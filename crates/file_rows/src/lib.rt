@@ -9,11 +9,11 @@ ghost use Rattle.column_trie.specs.Pool.{lay};
 ghost use Rattle.column_trie.specs.Table.{rows_in};
 ghost use Rattle.table_file.specs.Bytes.{bytes_of, encode};
 ghost use Rattle.table_file.specs.File.{rows_field};
-ghost use Rattle.file_bytes.specs.Tags.{byte_of};
 ghost use Rattle.file_rows.specs.Rows.{fields_in, Putting, RowsPut, Laid};
 
 use column_trie::{ColumnTrie, layer_at};
-use file_bytes::{Tag, per_field, put_word};
+pub use file_bytes::per_field;
+use file_bytes::{Tag, put_word};
 use row_path::next_path;
 use sound_table::Intact;
 
@@ -56,12 +56,12 @@ pub fn put_rows(
 }
 
 // Writes a field's tag and its length, high byte first, from `at` on.
-pub fn put_tag(bytes: &mut [u8], at: usize, tag: Tag, len: usize)
+pub fn put_tag(bytes: &mut [u8], at: usize, tag: u8, len: usize)
     requires { (at + 3 ≤ length bytes.old) × (len ≤ 65535) }
-    ensures { bytes.new ≡ lay bytes.old at (byte_of tag ∷ bytes_of 2 len) }
+    ensures { bytes.new ≡ lay bytes.old at (tag ∷ bytes_of 2 len) }
 {
     let [high, low] = (len as u16).to_be_bytes();
-    bytes[at..at + 3].copy_from_slice(&[tag.byte(), high, low]);
+    bytes[at..at + 3].copy_from_slice(&[tag, high, low]);
 }
 
 // Writes the field of n rows, the first of them row i, from `at` on.
@@ -76,7 +76,12 @@ fn put_rows_field(
     requires { Putting rows.now.sound.pool.now rows.now.sound.table.now path.old i n (at + 3) (length bytes.old) × (8 * (n * rows.now.sound.table.now.arity) ≤ 65535) }
     ensures { RowsPut rows.now.sound.pool.now rows.now.sound.table.now (i + n - 1) bytes.old at (rows_field (take n (drop i (rows_in rows.now.sound.pool.now rows.now.sound.table.now)))) bytes.new path.new }
 {
-    put_tag(bytes, at, Tag::Rows, 8 * (n * rows.sound.table.arity));
+    put_tag(
+        bytes,
+        at,
+        Tag::Rows.byte(),
+        8 * (n * rows.sound.table.arity),
+    );
     put_rows(bytes, at + 3, rows, path, i, n);
 }
 
