@@ -51,10 +51,11 @@ pub fn all_hold(asked: Asked, row: Row, v: usize, from: usize) -> bool
     for i in from..asked.query.atom_count {
         let a = asked.query.atoms[i];
         if let Some(c) = column(&a, v) {
-            if c + 1 == a.len
-                && next_key(asked.pool, asked.tables, a, row, c, false) != Some(row[v])
-            {
-                return false;
+            if c + 1 == a.len {
+                match next_key(asked.pool, asked.tables, a, row, c, false) {
+                    Some(key) if key == row[v] => {}
+                    _ => return false,
+                }
             }
         }
     }
