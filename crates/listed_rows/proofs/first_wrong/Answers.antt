@@ -21,7 +21,7 @@ tested t b e =
     good_any (order_of a.asked.query.now) (complete a.asked.pool.now a.asked.tables.now a.asked.query.now) a.asked.query.now.n a.listing.now a.rows (t.loop-i.i + 1) t.loop-i.i t.loop-i-test.true (omega arith) ∙ sym e
 
 pub loop-i-init : goal.loop-i-init
-loop-i-init c = c.requires.2
+loop-i-init c = λ k h. c.requires.2 k (omega (arith, h))
 
 pub good-requires : goal.good-requires
 good-requires c = row_inside c.loop-i.i c.args.rows c.args.asked.query.now.n (length c.args.listing.now) c.loop-i-test.true c.requires.0

@@ -40,7 +40,7 @@ returns-in_default-next_key c =
     let e : suc (column a.v (vars_of t)) ≡ length (vars_of t) = omega (arith, k.0, c.in-Some.ensures.long, c.if-c-a.true) in
     let z = a.asked.passed.accepted in
     let asked = holds_asked a.asked.pool.now a.asked.tables.now t a.v a.row (searched z i c.loop-i-test.true) e k.0 c.next_key.ensures in
-    let here = sym (ne_eqb c.in-Some-next_key.key (get_or a.row a.v 0) c.if-key-row.false) ∙ ap (λ (x : Option ℕ). option_eq nat_eq x (Some (get_or a.row a.v 0))) (sym c.in-Some-next_key.is) ∙ asked in
+    let here = sym (ne_eqb c.in-Some-next_key.key (get_or a.row a.v 0) (λ d. omega (arith, d, c.if-key-row.false))) ∙ ap (λ (x : Option ℕ). option_eq nat_eq x (Some (get_or a.row a.v 0))) (sym c.in-Some-next_key.is) ∙ asked in
     left_next z a.v a.row i c.loop-i-test.true here ∙ c.loop-i.invariant
 
 pub returns-in_default-next_key-2 : goal.returns-in_default-next_key-2
@@ -67,7 +67,7 @@ loop-i-preserved c =
           let k = column_some t a.v w.in-Some.ensures.place in
           let e : suc (column a.v (vars_of t)) ≡ length (vars_of t) = omega (arith, k.0, w.in-Some.ensures.long, w.if-c-a.true) in
           let asked = holds_asked a.asked.pool.now a.asked.tables.now t a.v a.row (searched z i c.loop-i-test.true) e k.0 w.next_key.ensures in
-          sym (eq-eqb w.in-Some-next_key.key (get_or a.row a.v 0) w.if-key-row.true) ∙ ap (λ (x : Option ℕ). option_eq nat_eq x (Some (get_or a.row a.v 0))) (sym w.in-Some-next_key.is) ∙ asked
+          sym (eq-eqb w.in-Some-next_key.key (get_or a.row a.v 0) (omega (arith, w.if-key-row.true))) ∙ ap (λ (x : Option ℕ). option_eq nat_eq x (Some (get_or a.row a.v 0))) (sym w.in-Some-next_key.is) ∙ asked
       | in-Some+else-c-a w ↦
           let k = column_some t a.v w.in-Some.ensures.place in
           holds_skip a.asked.pool.now a.asked.tables.now t a.v a.row (λ d. w.if-c-a.false (omega (arith, k.0, w.in-Some.ensures.long, d)))
