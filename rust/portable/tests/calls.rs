@@ -2,20 +2,12 @@
 mod common;
 use common::*;
 
-fn call(symbol: &str, given: &[String], to: usize) -> String {
-    format!("(call (direct (fnRef \"{symbol}\")) {} {})", list(given), at(to))
-}
-
 /// The C of `f` over Wide, whose locals from 2 and body are given, beside a function `g` of one Wide.
 fn with_wide(locals: &[&str], body: &str, g: &str) -> String {
     let mut all = vec![U64, U64];
     all.extend(locals);
     let functions = [function("k::g", 1, &[U64, WIDE], g), function("k::f", 1, &all, body)];
     c("uint64_t f(uint64_t n);", &functions).unwrap()
-}
-
-fn reads() -> String {
-    seq(&[&assign(0, "(rvOpd (copy (place 1 (lcons (field 0) lnil))))"), "return"])
 }
 
 fn writes() -> String {
