@@ -541,13 +541,7 @@ impl<'w, 'a> Writer<'w, 'a> {
     pub fn run(&mut self, body: &Body) -> Made<()> {
         match body {
             Body::Skip => Ok(()),
-            Body::Seq(parts) => (0..parts.len()).try_for_each(|at| match self.lendable(&parts[at..]) {
-                Some((local, original)) => {
-                    self.passed.insert(local, original);
-                    Ok(())
-                }
-                None => self.run(&parts[at]),
-            }),
+            Body::Seq(parts) => self.sequence(parts),
             Body::Assign(to, value) => self.assign(to, value),
             Body::Call(symbol, given, to) => self.call(symbol, given, to),
             Body::Return => {
@@ -573,19 +567,37 @@ impl<'w, 'a> Writer<'w, 'a> {
         }
     }
 
+    fn sequence(&mut self, mut parts: &[Body]) -> Made<()> {
+        while let Some((first, rest)) = parts.split_first() {
+            let relayed = self.callee.uses.relays(parts);
+            match (self.lendable(parts), relayed, first) {
+                (Some((local, original)), ..) => {
+                    self.passed.insert(local, original);
+                }
+                (None, Some(to), Body::Assign(_, value)) => self.assign(to, value)?,
+                (None, Some(to), Body::Call(symbol, given, _)) => self.call(symbol, given, to)?,
+                _ => self.run(first)?,
+            }
+            parts = rest.get(usize::from(relayed.is_some())..).unwrap_or_default();
+        }
+        Ok(())
+    }
+
     fn give_back(&mut self) {
         if self.callee.function.locals[0].ty == Ty::Unit {
             return self.put("return;");
         }
-        self.mentioned[0] = true;
-        self.read[0] = true;
+        let local = self.callee.uses.original(&Place { local: 0, steps: Vec::new() }).local;
+        self.mentioned[local] = true;
+        self.read[local] = true;
+        let name = &self.names[local];
         if gives_array(self.callee.function) {
             // At the end, since it may lead to what an argument leads to.
-            self.put("memmove(result_to, result, sizeof result);");
+            self.put(&format!("memmove(result_to, {name}, sizeof {name});"));
             return self.put("return;");
         }
         let signed = self.callee.exported.is_some_and(|call| call.result == "int64_t");
-        self.put(if signed { "return signed_of(result);" } else { "return result;" });
+        self.put(&if signed { format!("return signed_of({name});") } else { format!("return {name};") });
     }
 
     fn branch(&mut self, test: &Operand, yes: &Body, no: &Body) -> Made<()> {

@@ -18,7 +18,7 @@ pub struct Uses<'a> {
     /// What a local is only ever a copy of, and which never changes.
     copies: Vec<Option<Place>>,
     params: usize,
-    /// Whether each write is a copy for a call behind it, which alone reads it.
+    /// Whether each write is for the one statement behind it that reads it: a call that it is copied for, or a copy of it.
     handed: Vec<bool>,
     pub calls: Vec<String>,
     /// The locals in the sequence of their first writes in the text.
@@ -92,6 +92,7 @@ impl<'a> Uses<'a> {
         }
         uses.find_changed(&found);
         uses.find_copies(&found);
+        uses.find_result(&function.body);
         uses.find_handed(&function.body);
         uses
     }
@@ -209,6 +210,18 @@ impl<'a> Uses<'a> {
         }
     }
 
+    /// A local that is copied to the result right before each return, which alone reads that, is the result.
+    fn find_result(&mut self, body: &Body) {
+        let mut given = Vec::new();
+        given_back(body, &mut given);
+        let Some(&first) = given.first() else { return };
+        let only = given.len() == self.writes[0] && given.len() == self.mentions[0] && given.iter().all(|&local| local == first);
+        let own = first > self.params && !self.is_copy(first) && self.locals[first].ty == self.locals[0].ty;
+        if only && own && is_large(&self.locals[first].ty) {
+            self.copies[0] = Some(Place { local: first, steps: Vec::new() });
+        }
+    }
+
     fn never_changes(&self, local: usize) -> bool {
         self.writes[local] == 0 && !self.changed[local]
     }
@@ -247,11 +260,11 @@ impl<'a> Uses<'a> {
         self.is_steady(&place) || !given.iter().any(reaches)
     }
 
-    /// A local whose every write is copied for a call that alone reads it stands as often again as it is written.
+    /// A local whose every write is for one statement that alone reads it stands as often again as it is written. (the result is read by every return)
     fn find_handed(&mut self, body: &Body) {
         let mut pairs = vec![0; self.writes.len()];
         self.count_pairs(body, &mut pairs);
-        for (local, count) in pairs.into_iter().enumerate() {
+        for (local, count) in pairs.into_iter().enumerate().skip(1) {
             self.handed[local] = count > 0 && count == self.writes[local] && self.mentions[local] == 2 * count;
         }
     }
@@ -260,7 +273,8 @@ impl<'a> Uses<'a> {
         match body {
             Body::Seq(parts) => {
                 for (at, part) in parts.iter().enumerate() {
-                    if let Some((local, _)) = self.pair(&parts[at..]) {
+                    let called = self.pair(&parts[at..]).map(|(local, _)| local);
+                    if let Some(local) = called.or(self.relay(&parts[at..]).map(|(local, _)| local)) {
                         pairs[local] += 1;
                     }
                     self.count_pairs(part, pairs);
@@ -298,10 +312,51 @@ impl<'a> Uses<'a> {
             _ => None,
         }
     }
+
+    /// Of statements in sequence, where the first makes a struct or an array that the second copies to another local, and nothing else reads: that other. It may be
+    /// made there at once: an assignment and a call read all that they need before their answer is written.
+    pub fn relays<'b>(&self, parts: &'b [Body]) -> Option<&'b Place> {
+        self.relay(parts).filter(|(local, _)| self.handed.get(*local) == Some(&true)).map(|(_, to)| to)
+    }
+
+    fn relay<'b>(&self, parts: &'b [Body]) -> Option<(usize, &'b Place)> {
+        let [Body::Assign(made, _) | Body::Call(_, _, made), Body::Assign(to, Value::Operand(Operand::Copy(from))), ..] = parts
+        else {
+            return None;
+        };
+        let whole = from == made && made.steps.is_empty() && to.steps.is_empty() && to.local != made.local;
+        let (ty, other) = (&self.locals.get(made.local)?.ty, &self.locals.get(to.local)?.ty);
+        let is_large = is_large(ty) || matches!(ty, Ty::Slice { .. });
+        let own = !self.is_copy(made.local) && !self.is_copy(to.local);
+        (whole && is_large && ty == other && own).then_some((made.local, to))
+    }
 }
 
 fn is_large(ty: &Ty) -> bool {
     matches!(ty, Ty::Array(..) | Ty::Named(_))
+}
+
+/// The locals that are copied whole to the result right before a return.
+fn given_back(body: &Body, out: &mut Vec<usize>) {
+    match body {
+        Body::Seq(parts) => {
+            for pair in parts.windows(2) {
+                if let [Body::Assign(to, Value::Operand(Operand::Copy(from))), Body::Return] = pair {
+                    if to.local == 0 && to.steps.is_empty() && from.steps.is_empty() {
+                        out.push(from.local);
+                    }
+                }
+            }
+            parts.iter().for_each(|part| given_back(part, out));
+        }
+        Body::Block(inner) | Body::Loop(inner) => given_back(inner, out),
+        Body::If(_, yes, no) => [yes, no].into_iter().for_each(|arm| given_back(arm, out)),
+        Body::Switch(_, arms, other) => {
+            arms.iter().for_each(|(_, arm)| given_back(arm, out));
+            other.iter().for_each(|arm| given_back(arm, out));
+        }
+        _ => {}
+    }
 }
 
 fn places<'a>(act: &Act<'a>) -> Vec<&'a Place> {
