@@ -56,16 +56,7 @@ pub fn descend(
         if window.full {
             return below;
         }
-        let next = onward(
-            join,
-            &mut state,
-            &ring,
-            &by_atom,
-            k,
-            p,
-            last,
-            below,
-        );
+        let next = onward(join, &mut state, &ring, &by_atom, k, p, last, below);
         landed = next.landed;
         seeks = next.seeks;
     }
