@@ -24,15 +24,38 @@ fn put_row(
     rows: &Intact,
     path: &mut [usize; ColumnTrie::MAX_ARITY],
     i: usize,
+    arity: usize,
 )
-    requires { Putting rows.now.sound.pool.now rows.now.sound.table.now path.old i 1 at (length bytes.old) }
+    requires putting { Putting rows.now.sound.pool.now rows.now.sound.table.now path.old i 1 at (length bytes.old) }
+    requires all { arity ≡ rows.now.sound.table.now.arity }
     ensures { RowsPut rows.now.sound.pool.now rows.now.sound.table.now i bytes.old at (encode (get_or (rows_in rows.now.sound.pool.now rows.now.sound.table.now) i [])) bytes.new path.new }
 {
     next_path(rows, path, i);
     let table = rows.sound.table;
-    for d in 0..table.arity {
+    for d in 0..arity {
         let place = layer_at(*table, d) + path[d];
         put_word(bytes, at + 8 * d, rows.sound.pool[place]);
+    }
+}
+
+// Row after row, each of so many words. It is called with the literal 1 where that is the arity, so that compilers make a loop for rows of one word.
+fn put_each(
+    bytes: &mut [u8],
+    at: usize,
+    rows: &Intact,
+    path: &mut [usize; ColumnTrie::MAX_ARITY],
+    i: usize,
+    n: usize,
+    arity: usize,
+)
+    requires putting { Putting rows.now.sound.pool.now rows.now.sound.table.now path.old i n at (length bytes.old) }
+    requires all { arity ≡ rows.now.sound.table.now.arity }
+    ensures { RowsPut rows.now.sound.pool.now rows.now.sound.table.now (i + n - 1) bytes.old at (encode (flat (take n (drop i (rows_in rows.now.sound.pool.now rows.now.sound.table.now))))) bytes.new path.new }
+{
+    let mut p = at;
+    for k in 0..n {
+        put_row(bytes, p, rows, path, i + k, arity);
+        p += 8 * arity;
     }
 }
 
@@ -48,11 +71,12 @@ pub fn put_rows(
     requires { Putting rows.now.sound.pool.now rows.now.sound.table.now path.old i n at (length bytes.old) }
     ensures { RowsPut rows.now.sound.pool.now rows.now.sound.table.now (i + n - 1) bytes.old at (encode (flat (take n (drop i (rows_in rows.now.sound.pool.now rows.now.sound.table.now))))) bytes.new path.new }
 {
-    let mut p = at;
-    for k in 0..n {
-        put_row(bytes, p, rows, path, i + k);
-        p += 8 * rows.sound.table.arity;
+    let arity = rows.sound.table.arity;
+    if arity == 1 {
+        put_each(bytes, at, rows, path, i, n, 1);
+        return;
     }
+    put_each(bytes, at, rows, path, i, n, arity);
 }
 
 // Writes a field's tag and its length, high byte first, from `at` on.
