@@ -18,10 +18,12 @@ pub const STRATEGIES: [SeekStrategy; 3] = [
     SeekStrategy::Galloping,
 ];
 
-// The cases of the file of this name behind their number, as far as the text goes, each with which one it is; then what was compared is printed.
-pub fn each_case<R: Files + Print + Eprint, F: Fn(&mut Script, u64) -> io::Result<()>>(
+// The cases of the file of this name behind their number, as far as the text goes, each with which one it is, and with what is lent to all of them; then what was compared is
+// printed.
+pub fn each_case<R: Files + Print + Eprint, S, F: Fn(&mut Script, u64, &mut S) -> io::Result<()>>(
     rt: &R,
     name: &str,
+    lent: &mut S,
     case: F,
 ) -> io::Result<()>
     requires { F.IsAlwaysCallable case }
@@ -36,7 +38,7 @@ pub fn each_case<R: Files + Print + Eprint, F: Fn(&mut Script, u64) -> io::Resul
         if script.is_lost() {
             break;
         }
-        case(&mut script, i + 1)?;
+        case(&mut script, i + 1, lent)?;
     }
     script.print(rt, name, count)
 }

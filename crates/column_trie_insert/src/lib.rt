@@ -67,7 +67,7 @@ fn add_row(pool: &mut [u64], t: ColumnTrie, tuple: &[u64], path: Path) -> Column
     for d in path.depth..t.arity {
         let (at, fresh) = match known {
             Some(at) => (at, false),
-            None => (Sound { pool, table: out }.layer(d).begins(i), true),
+            None => (Sound { pool, table: &out }.layer(d).begins(i), true),
         };
         out = add_layer(pool, out, d, i, at, tuple[d], fresh);
         i = at;
@@ -108,7 +108,10 @@ pub fn insert(pool: &mut [u64], table: ColumnTrie, tuple: &[u64]) -> Inserted
         top()
     } else {
         let rows = Intact {
-            sound: Sound { pool, table },
+            sound: Sound {
+                pool,
+                table: &table,
+            },
         };
         find_path(&rows, tuple)
     };

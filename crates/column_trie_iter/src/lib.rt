@@ -160,7 +160,10 @@ pub fn open(pool: &[u64], table: ColumnTrie, iter: ColumnTrieIter) -> OpenAnswer
         return unopened(iter, 0);
     }
     let index = p.index;
-    let sound = Sound { pool, table };
+    let sound = Sound {
+        pool,
+        table: &table,
+    };
     if sound.layer(iter.depth).group_of(index).is_none() {
         return unopened(iter, Refusal::Damaged.number());
     }
@@ -192,7 +195,10 @@ pub fn up(pool: &[u64], table: ColumnTrie, iter: ColumnTrieIter) -> UpAnswer
             iter: ColumnTrieIter::new(),
         };
     }
-    let sound = Sound { pool, table };
+    let sound = Sound {
+        pool,
+        table: &table,
+    };
     match column_trie_place::owner_of(&sound.layer(iter.depth - 2), iter.interval_i) {
         None => unrisen(iter, Refusal::Damaged.number()),
         Some(o) => UpAnswer {

@@ -19,8 +19,8 @@ use sound_table::{Intact, Sound, undamaged};
 
 // Layer d of the table, read from the pool.
 fn put_depth(writer: &mut Writer, table: &Sound, d: usize)
-    requires { (d < table.now.table.arity) × (writer.old.end + 2 ^ 32 ≤ 2 ^ 63) }
-    ensures { Wrote writer.old writer.new (layer_text d (layer_in table.now.pool.now table.now.table d)) × (writer.new.end ≤ writer.old.end + 2 ^ 32) }
+    requires { (d < table.now.table.now.arity) × (writer.old.end + 2 ^ 32 ≤ 2 ^ 63) }
+    ensures { Wrote writer.old writer.new (layer_text d (layer_in table.now.pool.now table.now.table.now d)) × (writer.new.end ≤ writer.old.end + 2 ^ 32) }
 {
     let lists = table.layer(d);
     writer.layer(d, lists.keys, lists.intervals);
@@ -28,7 +28,7 @@ fn put_depth(writer: &mut Writer, table: &Sound, d: usize)
 
 // The whole text, at the front of the buffer.
 fn put_text(bytes: &mut [u8], table: &Intact) -> usize
-    ensures { PieceWritten bytes.old bytes.new 0 (text (layers_in table.now.sound.pool.now table.now.sound.table)) result }
+    ensures { PieceWritten bytes.old bytes.new 0 (text (layers_in table.now.sound.pool.now table.now.sound.table.now)) result }
 {
     let mut writer = Writer {
         text: bytes,
@@ -59,7 +59,10 @@ pub fn list(pool: &[u64], table: ColumnTrie, buffer: &mut [u8]) -> Listed
         };
     }
     let intact = Intact {
-        sound: Sound { pool, table },
+        sound: Sound {
+            pool,
+            table: &table,
+        },
     };
     let len = put_text(&mut buffer[..0], &intact);
     if buffer.len() < len {

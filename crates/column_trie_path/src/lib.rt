@@ -86,8 +86,8 @@ pub fn find_place(layer: &Layer, i: usize, key: u64) -> KeyPlace
 
 // Down the layers while the tuple's keys are stored, past the forks. The table has rows.
 pub fn find_path(rows: &Intact, tuple: &[u64]) -> Path
-    requires { (length tuple.now ≡ rows.now.sound.table.arity) × (0 < rows.now.sound.table.tuple_count) }
-    ensures { PathOf rows.now.sound.table.arity (rows_in rows.now.sound.pool.now rows.now.sound.table) tuple.now result }
+    requires { (length tuple.now ≡ rows.now.sound.table.now.arity) × (0 < rows.now.sound.table.now.tuple_count) }
+    ensures { PathOf rows.now.sound.table.now.arity (rows_in rows.now.sound.pool.now rows.now.sound.table.now) tuple.now result }
 {
     let arity = rows.sound.table.arity;
     let mut i = 0;

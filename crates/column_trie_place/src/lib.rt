@@ -69,7 +69,7 @@ pub struct Owner {
 // The checks below the root, under a header that passed: 7, or where the cursor stands.
 fn place_below(sound: &Sound, iter: ColumnTrieIter) -> Result<Place, Refusal>
     requires { 0 < iter.depth }
-    ensures { result ≡ place_below sound.now.pool.now sound.now.table iter }
+    ensures { result ≡ place_below sound.now.pool.now sound.now.table.now iter }
 {
     if sound.table.arity < iter.depth {
         return Err(Refusal::BadCursor);
@@ -81,7 +81,7 @@ fn place_below(sound: &Sound, iter: ColumnTrieIter) -> Result<Place, Refusal>
     if g.to - g.from < iter.slice_offset {
         return Err(Refusal::BadCursor);
     }
-    let layer = column_trie::layer_at(sound.table, d);
+    let layer = column_trie::layer_at(*sound.table, d);
     let index = g.from + iter.slice_offset;
     Ok(Place {
         index,
@@ -98,7 +98,13 @@ pub fn place_of(pool: &[u64], table: ColumnTrie, iter: ColumnTrieIter) -> Result
         return Err(Refusal::Damaged);
     }
     if 0 < iter.depth {
-        return place_below(&Sound { pool, table }, iter);
+        return place_below(
+            &Sound {
+                pool,
+                table: &table,
+            },
+            iter,
+        );
     }
     if iter.interval_i != 0 || iter.slice_offset != 0 {
         return Err(Refusal::BadCursor);

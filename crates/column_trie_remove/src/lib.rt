@@ -60,7 +60,7 @@ fn cut_row(pool: &mut [u64], t: ColumnTrie, fork: Option<Fork>) -> ColumnTrie
     for d in depth..t.arity {
         let (at, lone) = match known {
             Some(at) => (at, false),
-            None => (Sound { pool, table: out }.layer(d).begins(i), true),
+            None => (Sound { pool, table: &out }.layer(d).begins(i), true),
         };
         out = cut_layer(pool, out, d, i, at, lone);
         i = at;
@@ -101,7 +101,10 @@ pub fn remove(pool: &mut [u64], table: ColumnTrie, tuple: &[u64]) -> Removed
         return unchanged(0, table);
     }
     let rows = Intact {
-        sound: Sound { pool, table },
+        sound: Sound {
+            pool,
+            table: &table,
+        },
     };
     let path = find_path(&rows, tuple);
     if path.depth != table.arity {

@@ -37,6 +37,7 @@ pub fn descend(
     }
     let v = join.plan[depth].variable;
     let k = join.plan[depth].count;
+    let last = depth + 1 == join.n;
     let mut state = State::begin(above, owned);
     let mut ring = [0usize; MAX_ATOMS];
     let mut by_atom = [0usize; MAX_ATOMS];
@@ -46,7 +47,7 @@ pub fn descend(
     let mut row = found;
     while let Landed::Key { key, p } = landed {
         row[v] = key;
-        let below = if depth + 1 == join.n {
+        let below = if last {
             window.emit(&row);
             seeks
         } else {
@@ -55,16 +56,7 @@ pub fn descend(
         if window.full {
             return below;
         }
-        let next = onward(
-            join,
-            &mut state,
-            &ring,
-            &by_atom,
-            k,
-            p,
-            depth + 1 == join.n,
-            below,
-        );
+        let next = onward(join, &mut state, &ring, &by_atom, k, p, last, below);
         landed = next.landed;
         seeks = next.seeks;
     }

@@ -5,30 +5,48 @@ use mathlib.Core.List.{List, [], ◌∷◌, ◌++◌, append_assoc}
 use native.Mathlib.Omega.{arith}
 use native.Mathlib.Numerals.{add-one}
 use lib.ListN.{length, take, drop, get_or, set}
-use lib.Seq.{drop-drop, get_or-take, take-suc-set, sets-eq}
+use lib.Seq.{drop-drop, get_or-drop, take-suc-set, sets-eq}
 use borrow.Rule.Slice.PartMut.{put_mid}
 use Rattle.std.specs.Int.{w16, w64, to_be_bytes, from_be_bytes}
 use Rattle.std.proofs.lemmas.Slice.{put_mid-paste}
 use Rattle.std.proofs.lemmas.List.Edits.{paste_all}
 use Rattle.column_trie.specs.Pool.{lay}
-use Rattle.table_file.specs.Bytes.{bytes_of, number, decode}
+use Rattle.table_file.specs.Bytes.{bytes_of, number, decode, Bytes}
+use Rattle.table_file.proofs.Numbers.{top, number_top, bytes_drop}
 
--- the library's numbers of bytes are ours
+-- the library's number of two bytes is ours
 pub word_2 : (bs : List ℕ) → from_be_bytes w16 (get_or bs 0 0 ∷ (get_or bs 1 0 ∷ [])) ≡ number 2 bs
 unfolding number
 word_2 bs = omega arith
 
-pub word_8 : (bs : List ℕ) → from_be_bytes w64 bs ≡ number 8 bs
-unfolding number
-word_8 bs = omega arith
+-- ---- a number, byte by byte
 
--- the bytes of a part of no fewer than n
-pub number_part : (n m : ℕ) (bs : List ℕ) → n ≤ m → number n (take m bs) ≡ number n bs
+pub number_none : (bs : List ℕ) → number 0 bs ≡ 0
 unfolding number
-number_part zero m bs h = refl
-number_part (suc n) m bs h = omega (arith, number_part n m bs (omega arith), get_or-take m bs n 0 (omega arith))
+number_none bs = refl
 
--- the library's bytes of a word are ours
+pub number_more : (at i : ℕ) (bs : List ℕ) → number (i + 1) (drop at bs) ≡ number i (drop at bs) * 256 + get_or bs (at + i) 0
+unfolding number
+number_more at i bs = ap (λ (k : ℕ). number k (drop at bs)) (add-one i) ∙ ap (λ (k : ℕ). number i (drop at bs) * 256 + k) (get_or-drop at bs i 0)
+
+top_more : (i : ℕ) → i < 8 → top i * 256 ≤ 18446744073709551616
+unfolding top
+top_more zero h = omega arith
+top_more (suc zero) h = omega arith
+top_more (suc (suc zero)) h = omega arith
+top_more (suc (suc (suc zero))) h = omega arith
+top_more (suc (suc (suc (suc zero)))) h = omega arith
+top_more (suc (suc (suc (suc (suc zero))))) h = omega arith
+top_more (suc (suc (suc (suc (suc (suc zero)))))) h = omega arith
+top_more (suc (suc (suc (suc (suc (suc (suc zero))))))) h = omega arith
+top_more (suc (suc (suc (suc (suc (suc (suc (suc i)))))))) h = absurd (omega arith)
+
+pub number_fits : (at i : ℕ) (bs : List ℕ) → Bytes bs → i < 8 → number i (drop at bs) * 256 + 255 < 18446744073709551616
+number_fits at i bs b h = omega (arith, number_top i (drop at bs) (bytes_drop at bs b), top_more i h)
+
+-- ---- a word as bytes
+
+-- the library's are ours
 pub word_bytes : (w : ℕ) → to_be_bytes w64 w ≡ bytes_of 8 w
 unfolding bytes_of
 word_bytes w =

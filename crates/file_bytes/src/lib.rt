@@ -37,14 +37,17 @@ pub fn read_len(bytes: &[u8]) -> usize
     usize::from(u16::from_be_bytes([bytes[0], bytes[1]]))
 }
 
-// The word that the first eight bytes are. `as_chunks` would give the eight as they lie, but it has a number for a type's argument, and what makes portable/ducatbriar.c knows none.
-fn read_word(bytes: &[u8]) -> u64
-    requires { 8 ≤ length bytes.now }
-    ensures { result ≡ number 8 bytes.now }
+// The number that the n bytes at `at` are, high byte first. By hand: the library's `from_be_bytes` wants an array, and of a copy of eight bytes into one clang made a
+// byte's load each, where it makes this loop one load.
+pub fn read_number(bytes: &[u8], at: usize, n: usize) -> u64
+    requires { (at + n ≤ length bytes.now) × (n ≤ 8) }
+    ensures { result ≡ number n (drop at bytes.now) }
 {
-    let mut word = [0u8; 8];
-    word.copy_from_slice(&bytes[..8]);
-    u64::from_be_bytes(word)
+    let mut w: u64 = 0;
+    for i in 0..n {
+        w = w * 256 + u64::from(bytes[at + i]);
+    }
+    w
 }
 
 // The row of words at the front; words past the arity are 0.
@@ -54,7 +57,7 @@ pub fn read_row(bytes: &[u8], arity: usize) -> [u64; ColumnTrie::MAX_ARITY]
 {
     let mut row: [u64; ColumnTrie::MAX_ARITY] = [0; ColumnTrie::MAX_ARITY];
     for k in 0..arity {
-        row[k] = read_word(&bytes[8 * k..]);
+        row[k] = read_number(bytes, 8 * k, 8);
     }
     row
 }

@@ -1,3 +1,4 @@
 pub mod Numbers
 pub mod Outcomes
 mod Grades
+pub mod Strict

@@ -9,11 +9,11 @@ ghost use Rattle.column_trie.specs.Pool.{lay};
 ghost use Rattle.column_trie.specs.Table.{rows_in};
 ghost use Rattle.table_file.specs.Bytes.{bytes_of, encode};
 ghost use Rattle.table_file.specs.File.{rows_field};
-ghost use Rattle.file_bytes.specs.Tags.{byte_of};
 ghost use Rattle.file_rows.specs.Rows.{fields_in, Putting, RowsPut, Laid};
 
 use column_trie::{ColumnTrie, layer_at};
-use file_bytes::{Tag, per_field, put_word};
+pub use file_bytes::per_field;
+use file_bytes::{Tag, put_word};
 use row_path::next_path;
 use sound_table::Intact;
 
@@ -24,15 +24,38 @@ fn put_row(
     rows: &Intact,
     path: &mut [usize; ColumnTrie::MAX_ARITY],
     i: usize,
+    arity: usize,
 )
-    requires { Putting rows.now.sound.pool.now rows.now.sound.table path.old i 1 at (length bytes.old) }
-    ensures { RowsPut rows.now.sound.pool.now rows.now.sound.table i bytes.old at (encode (get_or (rows_in rows.now.sound.pool.now rows.now.sound.table) i [])) bytes.new path.new }
+    requires putting { Putting rows.now.sound.pool.now rows.now.sound.table.now path.old i 1 at (length bytes.old) }
+    requires all { arity ≡ rows.now.sound.table.now.arity }
+    ensures { RowsPut rows.now.sound.pool.now rows.now.sound.table.now i bytes.old at (encode (get_or (rows_in rows.now.sound.pool.now rows.now.sound.table.now) i [])) bytes.new path.new }
 {
     next_path(rows, path, i);
     let table = rows.sound.table;
-    for d in 0..table.arity {
-        let place = layer_at(table, d) + path[d];
+    for d in 0..arity {
+        let place = layer_at(*table, d) + path[d];
         put_word(bytes, at + 8 * d, rows.sound.pool[place]);
+    }
+}
+
+// Row after row, each of so many words. It is called with the literal 1 where that is the arity, so that compilers make a loop for rows of one word.
+fn put_each(
+    bytes: &mut [u8],
+    at: usize,
+    rows: &Intact,
+    path: &mut [usize; ColumnTrie::MAX_ARITY],
+    i: usize,
+    n: usize,
+    arity: usize,
+)
+    requires putting { Putting rows.now.sound.pool.now rows.now.sound.table.now path.old i n at (length bytes.old) }
+    requires all { arity ≡ rows.now.sound.table.now.arity }
+    ensures { RowsPut rows.now.sound.pool.now rows.now.sound.table.now (i + n - 1) bytes.old at (encode (flat (take n (drop i (rows_in rows.now.sound.pool.now rows.now.sound.table.now))))) bytes.new path.new }
+{
+    let mut p = at;
+    for k in 0..n {
+        put_row(bytes, p, rows, path, i + k, arity);
+        p += 8 * arity;
     }
 }
 
@@ -45,23 +68,24 @@ pub fn put_rows(
     i: usize,
     n: usize,
 )
-    requires { Putting rows.now.sound.pool.now rows.now.sound.table path.old i n at (length bytes.old) }
-    ensures { RowsPut rows.now.sound.pool.now rows.now.sound.table (i + n - 1) bytes.old at (encode (flat (take n (drop i (rows_in rows.now.sound.pool.now rows.now.sound.table))))) bytes.new path.new }
+    requires { Putting rows.now.sound.pool.now rows.now.sound.table.now path.old i n at (length bytes.old) }
+    ensures { RowsPut rows.now.sound.pool.now rows.now.sound.table.now (i + n - 1) bytes.old at (encode (flat (take n (drop i (rows_in rows.now.sound.pool.now rows.now.sound.table.now))))) bytes.new path.new }
 {
-    let mut p = at;
-    for k in 0..n {
-        put_row(bytes, p, rows, path, i + k);
-        p += 8 * rows.sound.table.arity;
+    let arity = rows.sound.table.arity;
+    if arity == 1 {
+        put_each(bytes, at, rows, path, i, n, 1);
+        return;
     }
+    put_each(bytes, at, rows, path, i, n, arity);
 }
 
 // Writes a field's tag and its length, high byte first, from `at` on.
-pub fn put_tag(bytes: &mut [u8], at: usize, tag: Tag, len: usize)
+pub fn put_tag(bytes: &mut [u8], at: usize, tag: u8, len: usize)
     requires { (at + 3 ≤ length bytes.old) × (len ≤ 65535) }
-    ensures { bytes.new ≡ lay bytes.old at (byte_of tag ∷ bytes_of 2 len) }
+    ensures { bytes.new ≡ lay bytes.old at (tag ∷ bytes_of 2 len) }
 {
     let [high, low] = (len as u16).to_be_bytes();
-    bytes[at..at + 3].copy_from_slice(&[tag.byte(), high, low]);
+    bytes[at..at + 3].copy_from_slice(&[tag, high, low]);
 }
 
 // Writes the field of n rows, the first of them row i, from `at` on.
@@ -73,17 +97,22 @@ fn put_rows_field(
     i: usize,
     n: usize,
 )
-    requires { Putting rows.now.sound.pool.now rows.now.sound.table path.old i n (at + 3) (length bytes.old) × (8 * (n * rows.now.sound.table.arity) ≤ 65535) }
-    ensures { RowsPut rows.now.sound.pool.now rows.now.sound.table (i + n - 1) bytes.old at (rows_field (take n (drop i (rows_in rows.now.sound.pool.now rows.now.sound.table)))) bytes.new path.new }
+    requires { Putting rows.now.sound.pool.now rows.now.sound.table.now path.old i n (at + 3) (length bytes.old) × (8 * (n * rows.now.sound.table.now.arity) ≤ 65535) }
+    ensures { RowsPut rows.now.sound.pool.now rows.now.sound.table.now (i + n - 1) bytes.old at (rows_field (take n (drop i (rows_in rows.now.sound.pool.now rows.now.sound.table.now)))) bytes.new path.new }
 {
-    put_tag(bytes, at, Tag::Rows, 8 * (n * rows.sound.table.arity));
+    put_tag(
+        bytes,
+        at,
+        Tag::Rows.byte(),
+        8 * (n * rows.sound.table.arity),
+    );
     put_rows(bytes, at + 3, rows, path, i, n);
 }
 
 // Writes all fields of rows from `at` on; answers where they end.
 pub fn put_fields(bytes: &mut [u8], at: usize, rows: &Intact) -> usize
-    requires { at + length (fields_in rows.now.sound.pool.now rows.now.sound.table) ≤ length bytes.old }
-    ensures { Laid bytes.old at (fields_in rows.now.sound.pool.now rows.now.sound.table) bytes.new result }
+    requires { at + length (fields_in rows.now.sound.pool.now rows.now.sound.table.now) ≤ length bytes.old }
+    ensures { Laid bytes.old at (fields_in rows.now.sound.pool.now rows.now.sound.table.now) bytes.new result }
 {
     let mut path = [0usize; ColumnTrie::MAX_ARITY];
     let table = rows.sound.table;

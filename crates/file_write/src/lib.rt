@@ -54,12 +54,12 @@ fn put_head(bytes: &mut [u8], kinds: &[bool]) -> usize
     requires { (length kinds.now ≤ max_arity) × (length (kinds_head kinds.now) ≤ length bytes.old) }
     ensures { Laid bytes.old 0 (kinds_head kinds.now) bytes.new result }
 {
-    put_tag(bytes, 0, Tag::Arity, 1);
+    put_tag(bytes, 0, Tag::Arity.byte(), 1);
     bytes[3] = kinds.len() as u8;
     if !some_grade(kinds) {
         return 4;
     }
-    put_tag(bytes, 4, Tag::Kinds, kinds.len());
+    put_tag(bytes, 4, Tag::Kinds.byte(), kinds.len());
     put_kinds(bytes, 7, kinds);
     7 + kinds.len()
 }
@@ -84,10 +84,10 @@ fn put_file(bytes: &mut [u8], pool: &[u64], t: ColumnTrie)
     let kinds = &t.grade[..t.arity];
     let body = put_head(bytes, kinds);
     let rows = Intact {
-        sound: Sound { pool, table: t },
+        sound: Sound { pool, table: &t },
     };
     let end = put_fields(bytes, body, &rows);
-    put_tag(bytes, end, Tag::End, 0);
+    put_tag(bytes, end, Tag::End.byte(), 0);
 }
 
 // The refusal's number, 0 for none, and the file's length. C's struct, so a number stands where Rust has a Result.

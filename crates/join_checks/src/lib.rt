@@ -20,26 +20,26 @@ use refusal::Refusal;
 use sound_table::undamaged;
 
 // Not 8: the order, n numbers long, is a permutation of 0 to n - 1, and n is at most 8.
-fn order_ok(q: Query) -> bool
-    ensures { result ≡ order_ok q }
+fn order_ok(q: &Query) -> bool
+    ensures { result ≡ order_ok q.now }
 {
     q.n <= Query::MAX_VARIABLES && permutes(&q.order[..q.n])
 }
 
 // Whether the atom's table is one of `count`, and its maker's where it is laid over.
-fn names_some(count: usize, a: Atom) -> bool
-    ensures { result ≡ names_some count a }
+fn names_some(count: usize, a: &Atom) -> bool
+    ensures { result ≡ names_some count a.now }
 {
     a.table < count && (!a.laid_over || a.maker < count)
 }
 
 // Not 9: there are at most 8 atoms and tables, and each atom names tables.
-fn named_ok(count: usize, q: Query) -> bool
-    ensures { result ≡ named_ok count q }
+fn named_ok(count: usize, q: &Query) -> bool
+    ensures { result ≡ named_ok count q.now }
 {
     q.atom_count <= Query::MAX_ATOMS
         && count <= Tables::MAX_TABLES
-        && q.atoms().iter().all(|a| names_some(count, *a))
+        && q.atoms().iter().all(|a| names_some(count, a))
 }
 
 // Whether v stands at place j of an atom's list.
@@ -63,9 +63,9 @@ pub fn reached(first: &[usize], list: &[usize]) -> usize
 }
 
 // Not 10, of one atom: its list is as long as its table's arity, and it strictly follows the order.
-fn list_ok(q: Query, a: Atom, arity: usize) -> bool
-    requires { order_ok q ≡ true }
-    ensures { result ≡ listed_at q a arity }
+fn list_ok(q: &Query, a: &Atom, arity: usize) -> bool
+    requires { order_ok q.now ≡ true }
+    ensures { result ≡ listed_at q.now a.now arity }
 {
     a.len <= ColumnTrie::MAX_ARITY
         && a.len == arity
@@ -73,12 +73,12 @@ fn list_ok(q: Query, a: Atom, arity: usize) -> bool
 }
 
 // Not 10: every atom's list passes.
-fn lists_ok(ts: Tables, q: Query) -> bool
-    requires { (order_ok q ≡ true) × (named_ok ts.count q ≡ true) }
-    ensures { result ≡ index.every q.atom_count (list_ok ts q) }
+fn lists_ok(ts: &Tables, q: &Query) -> bool
+    requires { (order_ok q.now ≡ true) × (named_ok ts.now.count q.now ≡ true) }
+    ensures { result ≡ index.every q.now.atom_count (list_ok ts.now q.now) }
 {
     for a in q.atoms() {
-        if !list_ok(q, *a, ts.tables[a.table].arity) {
+        if !list_ok(q, a, ts.tables[a.table].arity) {
             return false;
         }
     }
@@ -86,9 +86,9 @@ fn lists_ok(ts: Tables, q: Query) -> bool
 }
 
 // Whether v binds only columns of this kind (yes: grade) in the atom. Column j of its list is column j of its table.
-fn columns_ok(t: ColumnTrie, a: Atom, v: usize, grade: bool) -> bool
-    requires { a.len ≤ max_arity }
-    ensures { result ≡ index.every a.len (column_ok t a v grade) }
+fn columns_ok(t: &ColumnTrie, a: &Atom, v: usize, grade: bool) -> bool
+    requires { a.now.len ≤ max_arity }
+    ensures { result ≡ index.every a.now.len (column_ok t.now a.now v grade) }
 {
     for j in 0..a.len {
         if a.variables[j] == v && t.grade[j] != grade {
@@ -106,16 +106,16 @@ fn rows_ok(n: usize, len: usize) -> bool
 }
 
 // Whether the atom names table t: as its table, or as its maker's where it is laid over.
-fn names(a: Atom, t: usize) -> bool
-    ensures { result ≡ names t a }
+fn names(a: &Atom, t: usize) -> bool
+    ensures { result ≡ names t a.now }
 {
     a.table == t || (a.laid_over && a.maker == t)
 }
 
 // Not 17, of one atom: where it is laid over, its two tables are of the same shape.
-fn shape_ok(ts: &Tables, a: Atom) -> bool
-    requires { (ts.now.count ≤ max_tables) × (names_some ts.now.count a ≡ true) × ((table_at ts.now a.table).arity ≤ max_arity) }
-    ensures { result ≡ shapes_agree ts.now a }
+fn shape_ok(ts: &Tables, a: &Atom) -> bool
+    requires { (ts.now.count ≤ max_tables) × (names_some ts.now.count a.now ≡ true) × ((table_at ts.now a.now.table).arity ≤ max_arity) }
+    ensures { result ≡ shapes_agree ts.now a.now }
 {
     !a.laid_over || same_shape(ts.tables[a.table], ts.tables[a.maker])
 }
@@ -157,7 +157,7 @@ impl<'a> Formed<'a> {
         ensures { result ≡ binds_only self.now.ts.now self.now.q.now v grade }
     {
         for a in self.q.atoms() {
-            if !columns_ok(self.ts.tables[a.table], *a, v, grade) {
+            if !columns_ok(&self.ts.tables[a.table], a, v, grade) {
                 return false;
             }
         }
@@ -175,7 +175,7 @@ impl<'a> Formed<'a> {
     fn is_named(&self, t: usize) -> bool
         ensures { result ≡ named self.now.q.now t }
     {
-        self.q.atoms().iter().any(|a| names(*a, t))
+        self.q.atoms().iter().any(|a| names(a, t))
     }
 
     // Not 6: each table that an atom names is undamaged. Each is looked at once, however many atoms name it.
@@ -196,7 +196,7 @@ impl<'a> Formed<'a> {
         ensures { result ≡ index.every self.now.q.now.atom_count (shape_ok self.now.ts.now self.now.q.now) }
     {
         for a in self.q.atoms() {
-            if !shape_ok(self.ts, *a) {
+            if !shape_ok(self.ts, a) {
                 return false;
             }
         }
@@ -208,13 +208,13 @@ impl<'a> Formed<'a> {
 pub fn check(pool: &[u64], ts: Tables, q: Query, len: usize) -> Result<(), Refusal>
     ensures { given result ≡ join_number pool.now ts q len }
 {
-    if !order_ok(q) {
+    if !order_ok(&q) {
         return Err(Refusal::BadOrder);
     }
-    if !named_ok(ts.count, q) {
+    if !named_ok(ts.count, &q) {
         return Err(Refusal::BadAtoms);
     }
-    if !lists_ok(ts, q) {
+    if !lists_ok(&ts, &q) {
         return Err(Refusal::BadList);
     }
     let formed = Formed { ts: &ts, q: &q };

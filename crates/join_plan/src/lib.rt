@@ -104,10 +104,12 @@ fn second_of(a: Atom) -> usize
 }
 
 // Plans one depth. Tables and query are no struct with `Plannable` in a ghost field: it would be made for two calls, `make_plan` and `make_ends`, of which each proves
-// it in one line, and `Low` is of one table out of them.
-fn plan_depth(depth: &mut DepthPlan, ts: Tables, q: Query, d: usize)
-    requires { Plannable ts q × (d < q.n) }
-    ensures { DepthPlanned depth.new ts q d }
+// it in one line, and `Low` is of one table out of them. Both are lent, so that they are not copied for each depth; `whole` is said by a type, but not of an array of structs
+// in a struct that is lent.
+fn plan_depth(depth: &mut DepthPlan, ts: &Tables, q: &Query, d: usize)
+    requires plannable { Plannable ts.now q.now × (d < q.now.n) }
+    requires whole { length q.now.atoms ≡ max_atoms }
+    ensures { DepthPlanned depth.new ts.now q.now d }
 {
     let v = q.order[d];
     let mut k = 0;
@@ -132,7 +134,7 @@ pub fn make_plan(plan: &mut Plan, ts: Tables, q: Query)
     ensures { Planned plan.new ts q }
 {
     for d in 0..q.n {
-        plan_depth(&mut plan[d], ts, q, d);
+        plan_depth(&mut plan[d], &ts, &q, d);
     }
 }
 

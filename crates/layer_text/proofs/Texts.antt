@@ -36,8 +36,8 @@ enough (suc f) (suc g) n h k = go (λ m. enough f g (n / 10) (omega arith) (omeg
         let l = ltb-false n 10 e in
         decimal_step f n l ∙ ap (λ (ds : List ℕ). ds ++ ((48 + n % 10) ∷ [])) (ih l) ∙ sym (decimal_step g n l)
 
-pub decimal_one : (n : ℕ) → n < 10 → decimal n ≡ (48 + n % 10) ∷ []
-decimal_one n h = decimal_less n n h ∙ ap (λ (m : ℕ). (48 + m) ∷ []) (let e : n ≡ n % 10 = omega arith in e)
+pub decimal_one : (n : ℕ) → n < 10 → decimal n ≡ (48 + n) ∷ []
+decimal_one n h = decimal_less n n h
 
 pub decimal_more : (n : ℕ) → 10 ≤ n → decimal n ≡ decimal (n / 10) ++ ((48 + n % 10) ∷ [])
 decimal_more n h = decimal_step n n h ∙ ap (λ (ds : List ℕ). ds ++ ((48 + n % 10) ∷ [])) (enough n (suc (n / 10)) (n / 10) (omega arith) (omega arith))

@@ -2,11 +2,14 @@
 // kermit-ds/src/ds/column_trie/implementation.rs of the Rust.
 //
 // The text is one definition, specs/Text.antt. Each method of a `Writer` writes its piece where there is room for it, and moves on to where it ends, written or
-// not: over no room at all the writer's end tells the text's length.
+// not: over no room at all the writer's end tells the text's length. Numbers and bytes are written by functions over the bytes themselves and a place, which a writer calls: with
+// a place that is stored behind a `&mut self` for each digit and comma, a listing of short numbers took a quarter more instructions.
 #![tactic(auto)]
 
 ghost use Rattle.std.specs.Prelude.{◌≡◌, ◌++◌, ◌+◌, ◌*◌, ◌≤◌, ◌^◌, length};
+ghost use Rattle.column_trie.specs.Pool.{lay};
 ghost use Rattle.layer_text.specs.Text.{decimal, others, numbers, closing, layer_word, data_word, lists, layer_text};
+ghost use Rattle.layer_text.specs.Piece.{PieceWritten};
 ghost use Rattle.layer_text.specs.Wrote.{Wrote};
 
 // Bytes that are written one piece behind another, and where the next piece goes.
@@ -26,45 +29,63 @@ fn digits(n: u64) -> usize
     digits(n / 10) + 1
 }
 
-impl Writer<'_> {
-    // A number's digits, where there is room for them. By hand: for the library's `Display` the writer had to be a `fmt::Write`, whose calls answer with an error that this one
-    // never has, and would be handed on by each method here.
-    fn digits(&mut self, n: u64)
-        requires { self.old.end + length (decimal n) ≤ length self.old.text.now }
-        ensures { Wrote self.old self.new (decimal n) }
-    {
-        if n >= 10 {
-            self.digits(n / 10);
-        }
-        self.text[self.end] = (48 + n % 10) as u8;
-        self.end += 1;
+// Writes a number's digits from `at` on, where there is room for them; answers where they end. By hand: for the library's `Display` the writer had to be a `fmt::Write`, whose
+// calls answer with an error that this one never has, and would be handed on by each method below.
+fn write_number(text: &mut [u8], at: usize, n: u64) -> usize
+    requires { at + length (decimal n) ≤ length text.old }
+    ensures { (result ≡ at + length (decimal n)) × (text.new ≡ lay text.old at (decimal n)) }
+{
+    if n < 10 {
+        text[at] = (48 + n) as u8;
+        return at + 1;
     }
+    let end = write_number(text, at, n / 10);
+    text[end] = (48 + n % 10) as u8;
+    end + 1
+}
 
-    // A number's digits, written or not. They are counted only where the longest number wouldn't fit.
+// A number's digits, written or not; answers where they end. They are counted only where the longest number wouldn't fit.
+fn put_number(text: &mut [u8], at: usize, n: u64) -> usize
+    requires { at + 20 ≤ 2 ^ 63 }
+    ensures { PieceWritten text.old text.new at (decimal n) result × (result ≤ at + 20) }
+{
+    if text.len() < at + 20 {
+        let end = at + digits(n);
+        if text.len() < end {
+            return end;
+        }
+    }
+    write_number(text, at, n)
+}
+
+// Bytes, written or not; answers where they end.
+fn put(text: &mut [u8], at: usize, bytes: &[u8]) -> usize
+    requires { at + length bytes.now ≤ 2 ^ 63 }
+    ensures { PieceWritten text.old text.new at bytes.now result }
+{
+    let end = at + bytes.len();
+    if text.len() < end {
+        return end;
+    }
+    text[at..end].copy_from_slice(bytes);
+    end
+}
+
+impl Writer<'_> {
+    // A number's digits.
     fn number(&mut self, n: u64)
         requires { self.old.end + 20 ≤ 2 ^ 63 }
         ensures { Wrote self.old self.new (decimal n) × (self.new.end ≤ self.old.end + 20) }
     {
-        if self.text.len() < self.end + 20 {
-            let end = self.end + digits(n);
-            if self.text.len() < end {
-                self.end = end;
-                return;
-            }
-        }
-        self.digits(n);
+        self.end = put_number(self.text, self.end, n);
     }
 
-    // Bytes, written or not.
+    // Bytes.
     fn put(&mut self, bytes: &[u8])
         requires { self.old.end + length bytes.now ≤ 2 ^ 63 }
         ensures { Wrote self.old self.new bytes.now }
     {
-        let end = self.end + bytes.len();
-        if end <= self.text.len() {
-            self.text[self.end..end].copy_from_slice(bytes);
-        }
-        self.end = end;
+        self.end = put(self.text, self.end, bytes);
     }
 
     // The numbers behind a list's first, each behind a comma.
@@ -72,10 +93,12 @@ impl Writer<'_> {
         requires { self.old.end + 22 * length words.now ≤ 2 ^ 63 }
         ensures { Wrote self.old self.new (others words.now) × (self.new.end ≤ self.old.end + 22 * length words.now) }
     {
+        let mut end = self.end;
         for &word in words {
-            self.put(b", ");
-            self.number(word);
+            end = put(self.text, end, b", ");
+            end = put_number(self.text, end, word);
         }
+        self.end = end;
     }
 
     // A list's numbers and what closes it.

@@ -28,9 +28,9 @@ pub fn row_at(listing: &[u64], n: usize, i: usize) -> Row
 
 // Whether row a comes strictly before row b, as read in the query's order. By hand: the proof closes neither with an iterator's `lt` over the order's words, whose contract
 // speaks of the two runs place by place, nor with each row's words in that order by an array's `map`, of whose calls it is not known that what they captured stays.
-fn comes_before(q: Query, a: Row, b: Row) -> bool
-    requires { Ordered q }
-    ensures { result ≡ before (part (order_of q) a) (part (order_of q) b) }
+fn comes_before(q: &Query, a: Row, b: Row) -> bool
+    requires { Ordered q.now }
+    ensures { result ≡ before (part (order_of q.now) a) (part (order_of q.now) b) }
 {
     for d in 0..q.n {
         let v = q.order[d];
@@ -43,7 +43,7 @@ fn comes_before(q: Query, a: Row, b: Row) -> bool
 
 // Whether the row is an answer: each atom's part of it is one of the atom's rows, looked up where the atom has its last word.
 fn answers(asked: Asked, row: Row) -> bool
-    ensures { let a = asked.entry in result ≡ some (same (take a.query.n row)) (complete a.pool.now a.tables a.query) }
+    ensures { let a = asked.entry in result ≡ some (same (take a.query.now.n row)) (complete a.pool.now a.tables.now a.query.now) }
 {
     for v in 0..asked.query.n {
         if !all_hold(asked, row, v, 0) {
@@ -55,8 +55,8 @@ fn answers(asked: Asked, row: Row) -> bool
 
 // Whether row i of the listing is an answer that comes strictly after the row before it.
 fn good(asked: Asked, listing: &[u64], i: usize) -> bool
-    requires { i * asked.query.n + asked.query.n ≤ length listing.now }
-    ensures { let a = asked.entry in result ≡ good (order_of a.query) (complete a.pool.now a.tables a.query) (cut (i + 1) a.query.n listing.now) i }
+    requires { i * asked.query.now.n + asked.query.now.n ≤ length listing.now }
+    ensures { let a = asked.entry in let q = a.query.now in result ≡ good (order_of q) (complete a.pool.now a.tables.now q) (cut (i + 1) q.n listing.now) i }
 {
     let row = row_at(listing, asked.query.n, i);
     if !answers(asked, row) {
@@ -71,8 +71,8 @@ fn good(asked: Asked, listing: &[u64], i: usize) -> bool
 
 // The number of the first row that is not, if there is one, where those before `from` are.
 pub fn first_wrong(asked: Asked, listing: &[u64], rows: usize, from: usize) -> Option<usize>
-    requires { let q = asked.query in let all = complete asked.pool.now asked.tables q in (rows * q.n ≤ length listing.now) × (from ≤ rows) × ((k : ℕ) → k < from → good (order_of q) all (cut rows q.n listing.now) k ≡ true) }
-    ensures number { let a = asked.entry in unwrap_or result rows ≡ first_fail rows (good (order_of a.query) (complete a.pool.now a.tables a.query) (cut rows a.query.n listing.now)) }
+    requires { let q = asked.query.now in let all = complete asked.pool.now asked.tables.now q in (rows * q.n ≤ length listing.now) × (from ≤ rows) × ((k : ℕ) → k < from → good (order_of q) all (cut rows q.n listing.now) k ≡ true) }
+    ensures number { let a = asked.entry in let q = a.query.now in unwrap_or result rows ≡ first_fail rows (good (order_of q) (complete a.pool.now a.tables.now q) (cut rows q.n listing.now)) }
     ensures inside { IfSome result (λ i. i < rows) }
 {
     for i in from..rows {

@@ -61,8 +61,8 @@ fn search(
     rows: usize,
     from: Reached,
 ) -> Reached
-    requires { (left ≤ asked.query.n) × (rows * asked.query.n ≤ length listing.now) × Padded asked.query.n found × Agrees from }
-    ensures { let a = asked.entry in let q = a.query in result ≡ meets (cut rows q.n listing.now) from (plainly q.n (drop (q.n - left) (order_of q)) (atoms_of a.pool.now a.tables q) found) }
+    requires { (left ≤ asked.query.now.n) × (rows * asked.query.now.n ≤ length listing.now) × Padded asked.query.now.n found × Agrees from }
+    ensures { let a = asked.entry in let q = a.query.now in result ≡ meets (cut rows q.n listing.now) from (plainly q.n (drop (q.n - left) (order_of q)) (atoms_of a.pool.now a.tables.now q) found) }
 {
     if left == 0 {
         return meet(listing, asked.query.n, rows, found, from);
@@ -99,8 +99,8 @@ fn how_many(n: usize, len: usize, count: usize) -> usize
 
 // The verdict on the listed rows, of a query that passed its checks.
 fn verdict(asked: Asked, listing: &[u64], rows: usize) -> Checked
-    requires { rows * asked.query.n ≤ length listing.now }
-    ensures { let a = asked.entry in result ≡ says (verdict (order_of a.query) (complete a.pool.now a.tables a.query) (cut rows a.query.n listing.now)) }
+    requires { rows * asked.query.now.n ≤ length listing.now }
+    ensures { let a = asked.entry in let q = a.query.now in result ≡ says (verdict (order_of q) (complete a.pool.now a.tables.now q) (cut rows q.n listing.now)) }
 {
     let none = [0u64; Query::MAX_VARIABLES];
     let start = Reached {
@@ -150,8 +150,8 @@ pub fn check_listing(
     let rows = how_many(query.n, listing.len(), count);
     let asked = Asked {
         pool,
-        tables,
-        query,
+        tables: &tables,
+        query: &query,
     };
     verdict(asked, listing, rows)
 }

@@ -27,20 +27,20 @@ impl Side {
     }
 }
 
-// A school's table laid over a maker's, each in a lent pool; both may lie in one.
+// A school's table laid over a maker's, each in a lent pool; both may lie in one. The headers are lent too, so that handing one out copies none.
 #[derive(Clone, Copy)]
 pub struct Laid<'a> {
     pub school_pool: &'a [u64],
-    pub school: ColumnTrie,
+    pub school: &'a ColumnTrie,
     pub maker_pool: &'a [u64],
-    pub maker: ColumnTrie,
+    pub maker: &'a ColumnTrie,
 }
 
 impl<'a> Laid<'a> {
     // One of the two, with its pool.
-    pub fn of(&self, side: Side) -> (&'a [u64], ColumnTrie)
+    pub fn of(&self, side: Side) -> (&'a [u64], &'a ColumnTrie)
         ensures pool { result.0.now ≡ of_side side self.now.school_pool.now self.now.maker_pool.now }
-        ensures table { result.1 ≡ of_side side self.now.school self.now.maker }
+        ensures table { result.1.now ≡ of_side side self.now.school.now self.now.maker.now }
     {
         (
             side.of(self.school_pool, self.maker_pool),
@@ -51,15 +51,15 @@ impl<'a> Laid<'a> {
     // Damage, the school's looked at first; then whether the two are of one shape.
     #[tactic(auto, unfolding(crate::specs::Tables::tables_number))]
     pub fn check(&self) -> Result<(), Refusal>
-        ensures { given result ≡ tables_number self.now.school_pool.now self.now.school self.now.maker_pool.now self.now.maker }
+        ensures { given result ≡ tables_number self.now.school_pool.now self.now.school.now self.now.maker_pool.now self.now.maker.now }
     {
-        if !sound_table::undamaged(self.school_pool, self.school) {
+        if !sound_table::undamaged(self.school_pool, *self.school) {
             return Err(Refusal::Damaged);
         }
-        if !sound_table::undamaged(self.maker_pool, self.maker) {
+        if !sound_table::undamaged(self.maker_pool, *self.maker) {
             return Err(Refusal::Damaged);
         }
-        if !laid_over::same_shape(self.school, self.maker) {
+        if !laid_over::same_shape(*self.school, *self.maker) {
             return Err(Refusal::OtherShape);
         }
         Ok(())

@@ -4,7 +4,7 @@
 // is the one that specs/Calls.antt gives, for any pools, headers and pair: nothing is asked of them. Below depth 1 a call is the plain cursor's, on the table
 // of the key's owner (`LaidIter::walker`); among the first keys it is made of both.
 //
-// C and Rust link the calls with pools and headers as arguments of their own, so each call makes one struct of them first.
+// C and Rust link the calls with pools and headers as arguments of their own, so each call makes one struct first, which lends them on.
 #![tactic(auto)]
 
 ghost use Rattle.std.specs.Prelude.{◌≡◌};
@@ -70,9 +70,9 @@ pub fn key(
 {
     let laid = Laid {
         school_pool,
-        school,
+        school: &school,
         maker_pool,
-        maker,
+        maker: &maker,
     };
     if let Err(refused) = overlay_place::check(&laid, iter) {
         return KeyAnswer {
@@ -85,16 +85,17 @@ pub fn key(
         return least_key(&laid, iter);
     };
     let (pool, table) = laid.of(side);
-    column_trie_iter::key(pool, table, iter.of(side))
+    let cursor = iter.of(side);
+    column_trie_iter::key(pool, *table, cursor)
 }
 
 // Of two cursors among the first keys.
 fn least_key(laid: &Laid, iter: LaidIter) -> KeyAnswer
-    ensures { result ≡ least (key_of laid.now.school_pool.now laid.now.school iter.school) (key_of laid.now.maker_pool.now laid.now.maker iter.maker) }
+    ensures { result ≡ least (key_of laid.now.school_pool.now laid.now.school.now iter.school) (key_of laid.now.maker_pool.now laid.now.maker.now iter.maker) }
 {
     overlay_place::least(
-        column_trie_iter::key(laid.school_pool, laid.school, iter.school),
-        column_trie_iter::key(laid.maker_pool, laid.maker, iter.maker),
+        column_trie_iter::key(laid.school_pool, *laid.school, iter.school),
+        column_trie_iter::key(laid.maker_pool, *laid.maker, iter.maker),
     )
 }
 
@@ -129,9 +130,9 @@ pub fn next(
 {
     let laid = Laid {
         school_pool,
-        school,
+        school: &school,
         maker_pool,
-        maker,
+        maker: &maker,
     };
     if let Err(refused) = overlay_place::check(&laid, iter) {
         return LaidNextAnswer {
@@ -145,7 +146,8 @@ pub fn next(
         return next_first(&laid, iter);
     };
     let (pool, table) = laid.of(side);
-    let r = column_trie_iter::next(pool, table, iter.of(side));
+    let cursor = iter.of(side);
+    let r = column_trie_iter::next(pool, *table, cursor);
     LaidNextAnswer {
         number: r.number,
         found: r.found,
@@ -157,15 +159,15 @@ pub fn next(
 // Among the first keys: each of the two that stands on the present key passes it.
 #[tactic(auto, unfolding(crate::specs::Calls::both_next))]
 fn next_first(laid: &Laid, iter: LaidIter) -> LaidNextAnswer
-    ensures { result ≡ both_next laid.now.school_pool.now laid.now.school laid.now.maker_pool.now laid.now.maker iter }
+    ensures { result ≡ both_next laid.now.school_pool.now laid.now.school.now laid.now.maker_pool.now laid.now.maker.now iter }
 {
-    let s = column_trie_iter::key(laid.school_pool, laid.school, iter.school);
-    let m = column_trie_iter::key(laid.maker_pool, laid.maker, iter.maker);
+    let s = column_trie_iter::key(laid.school_pool, *laid.school, iter.school);
+    let m = column_trie_iter::key(laid.maker_pool, *laid.maker, iter.maker);
     let leads = overlay_place::leads(s, m);
     let follows = overlay_place::leads(m, s);
     let next = LaidIter {
-        school: pass_if(leads, laid.school_pool, laid.school, iter.school),
-        maker: pass_if(follows, laid.maker_pool, laid.maker, iter.maker),
+        school: pass_if(leads, laid.school_pool, *laid.school, iter.school),
+        maker: pass_if(follows, laid.maker_pool, *laid.maker, iter.maker),
     };
     let k = least_key(laid, next);
     LaidNextAnswer {
@@ -202,9 +204,9 @@ pub fn seek(
 {
     let laid = Laid {
         school_pool,
-        school,
+        school: &school,
         maker_pool,
-        maker,
+        maker: &maker,
     };
     if let Err(refused) = overlay_place::check(&laid, iter) {
         return LaidSeekAnswer {
@@ -219,7 +221,8 @@ pub fn seek(
         return seek_first(&laid, iter, strategy, target);
     };
     let (pool, table) = laid.of(side);
-    let r = column_trie_iter::seek(pool, table, iter.of(side), strategy, target);
+    let cursor = iter.of(side);
+    let r = column_trie_iter::seek(pool, *table, cursor, strategy, target);
     LaidSeekAnswer {
         number: r.number,
         found: r.found,
@@ -231,10 +234,16 @@ pub fn seek(
 
 // Both seek.
 fn seek_first(laid: &Laid, iter: LaidIter, strategy: SeekStrategy, target: u64) -> LaidSeekAnswer
-    ensures { result ≡ both_sought (sought_of laid.now.school_pool.now laid.now.school iter.school strategy target) (sought_of laid.now.maker_pool.now laid.now.maker iter.maker strategy target) }
+    ensures { result ≡ both_sought (sought_of laid.now.school_pool.now laid.now.school.now iter.school strategy target) (sought_of laid.now.maker_pool.now laid.now.maker.now iter.maker strategy target) }
 {
-    let s = column_trie_iter::seek(laid.school_pool, laid.school, iter.school, strategy, target);
-    let m = column_trie_iter::seek(laid.maker_pool, laid.maker, iter.maker, strategy, target);
+    let s = column_trie_iter::seek(
+        laid.school_pool,
+        *laid.school,
+        iter.school,
+        strategy,
+        target,
+    );
+    let m = column_trie_iter::seek(laid.maker_pool, *laid.maker, iter.maker, strategy, target);
     LaidSeekAnswer {
         number: 0,
         found: s.found || m.found,
@@ -260,9 +269,9 @@ pub fn open(
 {
     let laid = Laid {
         school_pool,
-        school,
+        school: &school,
         maker_pool,
-        maker,
+        maker: &maker,
     };
     if let Err(refused) = overlay_place::check(&laid, iter) {
         return LaidOpenAnswer {
@@ -279,10 +288,11 @@ pub fn open(
 
 // One opens, and the other stays.
 fn open_one(laid: &Laid, iter: LaidIter, side: Side) -> LaidOpenAnswer
-    ensures { result ≡ one_opened side iter (of_side side (open_of laid.now.school_pool.now laid.now.school iter.school) (open_of laid.now.maker_pool.now laid.now.maker iter.maker)) }
+    ensures { result ≡ one_opened side iter (of_side side (open_of laid.now.school_pool.now laid.now.school.now iter.school) (open_of laid.now.maker_pool.now laid.now.maker.now iter.maker)) }
 {
     let (pool, table) = laid.of(side);
-    let r = column_trie_iter::open(pool, table, iter.of(side));
+    let cursor = iter.of(side);
+    let r = column_trie_iter::open(pool, *table, cursor);
     LaidOpenAnswer {
         number: r.number,
         opened: r.opened,
@@ -293,11 +303,11 @@ fn open_one(laid: &Laid, iter: LaidIter, side: Side) -> LaidOpenAnswer
 // From the root both, and from a first key its owner.
 #[tactic(auto, unfolding(crate::specs::Calls::first_opened))]
 fn open_first(laid: &Laid, iter: LaidIter) -> LaidOpenAnswer
-    ensures { result ≡ first_opened laid.now.school_pool.now laid.now.school laid.now.maker_pool.now laid.now.maker iter }
+    ensures { result ≡ first_opened laid.now.school_pool.now laid.now.school.now laid.now.maker_pool.now laid.now.maker.now iter }
 {
     if iter.at_root() {
-        let s = column_trie_iter::open(laid.school_pool, laid.school, iter.school);
-        let m = column_trie_iter::open(laid.maker_pool, laid.maker, iter.maker);
+        let s = column_trie_iter::open(laid.school_pool, *laid.school, iter.school);
+        let m = column_trie_iter::open(laid.maker_pool, *laid.maker, iter.maker);
         return LaidOpenAnswer {
             number: 0,
             opened: s.opened || m.opened,
@@ -307,8 +317,8 @@ fn open_first(laid: &Laid, iter: LaidIter) -> LaidOpenAnswer
             },
         };
     }
-    let a = column_trie_iter::key(laid.school_pool, laid.school, iter.school);
-    let b = column_trie_iter::key(laid.maker_pool, laid.maker, iter.maker);
+    let a = column_trie_iter::key(laid.school_pool, *laid.school, iter.school);
+    let b = column_trie_iter::key(laid.maker_pool, *laid.maker, iter.maker);
     if overlay_place::leads(a, b) {
         return open_one(laid, iter, Side::School);
     }
@@ -328,9 +338,9 @@ pub fn up(
 {
     let laid = Laid {
         school_pool,
-        school,
+        school: &school,
         maker_pool,
-        maker,
+        maker: &maker,
     };
     if let Err(refused) = overlay_place::check(&laid, iter) {
         return LaidUpAnswer {
@@ -352,7 +362,8 @@ pub fn up(
         };
     };
     let (pool, table) = laid.of(side);
-    let r = column_trie_iter::up(pool, table, iter.of(side));
+    let cursor = iter.of(side);
+    let r = column_trie_iter::up(pool, *table, cursor);
     LaidUpAnswer {
         number: r.number,
         risen: r.risen,

@@ -7,7 +7,7 @@ use Rattle.std.specs.Prelude.{Option, Some, None}
 use native.Mathlib.Omega.{arith}
 use lib.ListN.{length, take, drop}
 use lib.Dec.{eqb, ltb}
-use borrow.Author.Tests.{eqb-true, eqb-false, eq-eqb, ne_eqb, ltb-false}
+use borrow.Author.Tests.{eqb-true, eqb-false, eq-eqb, ne_eqb, le-ltb, ltb-false}
 use Rattle.relation.specs.Order.{pick}
 use Rattle.relation.proofs.Tests.{and_true, and_right, and_false_left, and_false_right}
 use Rattle.seek.specs.Seek.{seek_of}
@@ -22,7 +22,7 @@ use Rattle.column_trie.proofs.Groups.{keys_long}
 use Rattle.column_trie_place.proofs.Groups.{lies_told}
 use Rattle.laid_over.proofs.Shape.{shape_decides}
 use Rattle.overlay_checks.specs.Tables.{tables_number}
-use Rattle.overlay_checks.proofs.Tables.{Clear, number_clear}
+use Rattle.overlay_checks.proofs.Tables.{Clear, number_clear, clear_number}
 use Rattle.overlay_lookup.specs.Lookup.{lookup_number, children_at, found_in, no_run, owners_run, looked_up, run_in}
 use Rattle.overlay_lookup.specs.declared.LookedUp.{LookedUp}
 use Rattle.overlay_lookup.specs.declared.Run.{Run}
@@ -90,6 +90,9 @@ module _ (sp : List ℕ) (s : ColumnTrie) (mp : List ℕ) (m : ColumnTrie) where
           record { tables = c; arity = omega (arith, ltb-false s.arity 2 q); same = ((shape_decides s m).0 c.shape).arity }
       go true true p q = absurd (omega (arith, e, by_arity true (eqb-true (tables_number sp s mp m) 0 p) q))
       go false b p q = let z = eqb-false (tables_number sp s mp m) 0 p in absurd (z (number_refused z ∙ e))
+
+  pub deep_number : Deep → lookup_number sp s mp m ≡ 0
+  deep_number d = sym (by_arity false (clear_number sp s mp m d.tables) (le-ltb s.arity 2 d.arity))
 
   pub school_searched : Deep → (header_sound (length sp) s ≡ true) × (1 < s.arity)
   school_searched d = (undamaged_header sp s d.tables.school, d.arity)

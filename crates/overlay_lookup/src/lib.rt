@@ -49,7 +49,7 @@ impl LookedUp {
 // 6 on either and 17, then 1: a table of one column has no keys below its first.
 #[tactic(auto, unfolding(crate::specs::Lookup::lookup_number))]
 fn check(laid: &Laid) -> Result<(), Refusal>
-    ensures { given result ≡ lookup_number laid.now.school_pool.now laid.now.school laid.now.maker_pool.now laid.now.maker }
+    ensures { given result ≡ lookup_number laid.now.school_pool.now laid.now.school.now laid.now.maker_pool.now laid.now.maker.now }
 {
     laid.check()?;
     if laid.school.arity < 2 {
@@ -60,8 +60,8 @@ fn check(laid: &Laid) -> Result<(), Refusal>
 
 // The key is searched by halving among the first keys; the place where it is found is the interval of its children.
 fn found_in(sound: &Sound, key: u64) -> Option<Run>
-    requires { 1 < sound.now.table.arity }
-    ensures { result ≡ found_in sound.now.pool.now sound.now.table key }
+    requires { 1 < sound.now.table.now.arity }
+    ensures { result ≡ found_in sound.now.pool.now sound.now.table.now key }
 {
     let s = seek::partition_point(SeekStrategy::Binary, sound.layer(0).keys, key);
     if !s.hit {
@@ -69,7 +69,7 @@ fn found_in(sound: &Sound, key: u64) -> Option<Run>
     }
     let g = sound.layer(1).group_of(s.offset)?;
     Some(Run {
-        from: column_trie::layer_at(sound.table, 1) + g.from,
+        from: column_trie::layer_at(*sound.table, 1) + g.from,
         len: g.to - g.from,
     })
 }
@@ -86,16 +86,16 @@ pub fn lookup(
 {
     let laid = Laid {
         school_pool,
-        school,
+        school: &school,
         maker_pool,
-        maker,
+        maker: &maker,
     };
     if let Err(refused) = check(&laid) {
         return LookedUp::none(refused.number());
     }
     let schools = Sound {
         pool: school_pool,
-        table: school,
+        table: &school,
     };
     if let Some(run) = found_in(&schools, key) {
         return LookedUp {
@@ -107,7 +107,7 @@ pub fn lookup(
     }
     let makers = Sound {
         pool: maker_pool,
-        table: maker,
+        table: &maker,
     };
     let Some(run) = found_in(&makers, key) else {
         return LookedUp::none(0);

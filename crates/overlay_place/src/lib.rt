@@ -18,7 +18,7 @@ use refusal::Refusal;
 // What every call asks first: 6 on either and 17, then 7 for a pair that is no state.
 #[tactic(auto, unfolding(crate::specs::Pairs::pair_refusal))]
 pub fn check(laid: &Laid, iter: LaidIter) -> Result<(), Refusal>
-    ensures { given result ≡ pair_refusal laid.now.school_pool.now laid.now.school laid.now.maker_pool.now laid.now.maker iter }
+    ensures { given result ≡ pair_refusal laid.now.school_pool.now laid.now.school.now laid.now.maker_pool.now laid.now.maker.now iter }
 {
     laid.check()?;
     if !stands(laid, iter) {
@@ -30,35 +30,35 @@ pub fn check(laid: &Laid, iter: LaidIter) -> Result<(), Refusal>
 // Whether the pair is a state: each of the two stands, and they stand together.
 #[tactic(auto, unfolding(crate::specs::Pairs::pair_stands))]
 fn stands(laid: &Laid, iter: LaidIter) -> bool
-    ensures { result ≡ pair_stands laid.now.school_pool.now laid.now.school laid.now.maker_pool.now laid.now.maker iter }
+    ensures { result ≡ pair_stands laid.now.school_pool.now laid.now.school.now laid.now.maker_pool.now laid.now.maker.now iter }
 {
-    column_trie_place::place_of(laid.school_pool, laid.school, iter.school).is_ok()
-        && column_trie_place::place_of(laid.maker_pool, laid.maker, iter.maker).is_ok()
+    column_trie_place::place_of(laid.school_pool, *laid.school, iter.school).is_ok()
+        && column_trie_place::place_of(laid.maker_pool, *laid.maker, iter.maker).is_ok()
         && (iter.at_root()
-            || started(laid.school, iter.school)
-                && started(laid.maker, iter.maker)
+            || started(*laid.school, iter.school)
+                && started(*laid.maker, iter.maker)
                 && stands_below_root(laid, iter))
 }
 
 // The test below the root.
 #[tactic(auto, unfolding(crate::specs::Pairs::below_root))]
 fn stands_below_root(laid: &Laid, iter: LaidIter) -> bool
-    ensures { result ≡ below_root laid.now.school_pool.now laid.now.school laid.now.maker_pool.now laid.now.maker iter }
+    ensures { result ≡ below_root laid.now.school_pool.now laid.now.school.now laid.now.maker_pool.now laid.now.maker.now iter }
 {
     let f = firsts(laid, iter);
-    let a = column_trie_iter::key(laid.school_pool, laid.school, f.school);
-    let b = column_trie_iter::key(laid.maker_pool, laid.maker, f.maker);
+    let a = column_trie_iter::key(laid.school_pool, *laid.school, f.school);
+    let b = column_trie_iter::key(laid.maker_pool, *laid.maker, f.maker);
     let present = least(a, b);
     owner_walks(iter, leads(a, b)) && (!present.found || abreast(laid, f, present.key))
 }
 
 // The pair at depth 1 from which this one was opened.
 fn firsts(laid: &Laid, iter: LaidIter) -> LaidIter
-    ensures { result ≡ firsts laid.now.school_pool.now laid.now.school laid.now.maker_pool.now laid.now.maker iter }
+    ensures { result ≡ firsts laid.now.school_pool.now laid.now.school.now laid.now.maker_pool.now laid.now.maker.now iter }
 {
     LaidIter {
-        school: climb(laid.school_pool, laid.school, iter.school),
-        maker: climb(laid.maker_pool, laid.maker, iter.maker),
+        school: climb(laid.school_pool, *laid.school, iter.school),
+        maker: climb(laid.maker_pool, *laid.maker, iter.maker),
     }
 }
 
@@ -75,10 +75,10 @@ fn owner_walks(iter: LaidIter, school_leads: bool) -> bool
 // Whether the two, at depth 1, each stand on their first key not below the present one.
 #[tactic(auto, unfolding(crate::specs::Pairs::abreast))]
 fn abreast(laid: &Laid, iter: LaidIter, key: u64) -> bool
-    ensures { result ≡ abreast laid.now.school_pool.now laid.now.school laid.now.maker_pool.now laid.now.maker iter key }
+    ensures { result ≡ abreast laid.now.school_pool.now laid.now.school.now laid.now.maker_pool.now laid.now.maker.now iter key }
 {
-    passed_below(laid.school_pool, laid.school, iter.school, key)
-        && passed_below(laid.maker_pool, laid.maker, iter.maker, key)
+    passed_below(laid.school_pool, *laid.school, iter.school, key)
+        && passed_below(laid.maker_pool, *laid.maker, iter.maker, key)
 }
 
 // Up to depth 1, from below it.

@@ -12,22 +12,22 @@ use join_query::{Atom, Query, Tables};
 use plain_keys::{Row, next_key};
 
 // The column of the atom that v binds, if it binds one.
-pub fn column(a: Atom, v: usize) -> Option<usize>
-    requires { a.len ≤ max_arity }
-    ensures place { result ≡ position (λ w. w == v) (vars_of a) }
-    ensures long { length (vars_of a) ≡ a.len }
+pub fn column(a: &Atom, v: usize) -> Option<usize>
+    requires { a.now.len ≤ max_arity }
+    ensures place { result ≡ position (λ w. w == v) (vars_of a.now) }
+    ensures long { length (vars_of a.now) ≡ a.now.len }
 {
     a.variables[..a.len].iter().position(|&w| w == v)
 }
 
 // The number of the first atom that v binds a column of, and which column that is. A pair: with a struct, of four lines, the plain engine had more than the 120 that are asked
 // (docs/DECISIONS.md 67).
-pub fn holder(query: Query, v: usize) -> (usize, usize)
-    requires { VariableOf query v }
-    ensures { First query v result.0 × (result.1 ≡ column v (vars_of (atom_at query result.0))) }
+pub fn holder(query: &Query, v: usize) -> (usize, usize)
+    requires { VariableOf query.now v }
+    ensures { First query.now v result.0 × (result.1 ≡ column v (vars_of (atom_at query.now result.0))) }
 {
     for i in 0..query.atom_count {
-        if let Some(c) = column(query.atoms[i], v) {
+        if let Some(c) = column(&query.atoms[i], v) {
             return (i, c);
         }
     }
@@ -38,23 +38,24 @@ pub fn holder(query: Query, v: usize) -> (usize, usize)
 #[derive(Clone, Copy)]
 pub struct Asked<'a> {
     pub pool: &'a [u64],
-    pub tables: Tables,
-    pub query: Query,
-    pub ghost passed: { Passed pool.now tables query },
+    pub tables: &'a Tables,
+    pub query: &'a Query,
+    pub ghost passed: { Passed pool.now tables.now query.now },
 }
 
 // Whether each atom from number `from` on whose last column v binds has its part of the row among its rows; one that is not complete, or was so before, is not looked at.
 pub fn all_hold(asked: Asked, row: Row, v: usize, from: usize) -> bool
     requires { v < max_variables }
-    ensures { let a = asked.entry in result ≡ all_hold v row (drop from (atoms_of a.pool.now a.tables a.query)) }
+    ensures { let a = asked.entry in result ≡ all_hold v row (drop from (atoms_of a.pool.now a.tables.now a.query.now)) }
 {
     for i in from..asked.query.atom_count {
         let a = asked.query.atoms[i];
-        if let Some(c) = column(a, v) {
-            if c + 1 == a.len
-                && next_key(asked.pool, asked.tables, a, row, c, false) != Some(row[v])
-            {
-                return false;
+        if let Some(c) = column(&a, v) {
+            if c + 1 == a.len {
+                match next_key(asked.pool, asked.tables, a, row, c, false) {
+                    Some(key) if key == row[v] => {}
+                    _ => return false,
+                }
             }
         }
     }

@@ -27,9 +27,9 @@ use refusal::Refusal;
 
 // Writes the rows that complete `found` by words for the last `left` variables of the order, behind those that the window holds, until it is full.
 fn search(asked: Asked, left: usize, mut found: Row, window: &mut Window)
-    requires left { left ≤ asked.query.n }
-    requires ready { Open asked.query.n window.old }
-    ensures { let q = asked.entry.query in Wrote window.old window.new (emits q.n (progress window.old) (plainly q.n (drop (q.n - left) (order_of q)) (atoms_of asked.entry.pool.now asked.entry.tables q) found)) }
+    requires left { left ≤ asked.query.now.n }
+    requires ready { Open asked.query.now.n window.old }
+    ensures { let q = asked.entry.query.now in Wrote window.old window.new (emits q.n (progress window.old) (plainly q.n (drop (q.n - left) (order_of q)) (atoms_of asked.entry.pool.now asked.entry.tables.now q) found)) }
 {
     if left == 0 {
         return window.emit(&found);
@@ -70,8 +70,8 @@ pub fn plain_join(pool: &[u64], tables: Tables, query: Query, window: &mut [u64]
     }
     let asked = Asked {
         pool,
-        tables,
-        query,
+        tables: &tables,
+        query: &query,
     };
     let mut out = Window::new(window, query.n);
     search(asked, query.n, [0; Query::MAX_VARIABLES], &mut out);

@@ -35,7 +35,7 @@ fn next_in(pool: &[u64], t: ColumnTrie, a: Atom, row: Row, len: usize, past: boo
     requires { Undamaged pool.now t × (len < t.arity) × Named a len }
     ensures { result ≡ head_of (from (bound past (get_or (words a row) len 0)) (keys_under (take len (words a row)) (rows_in pool.now t))) }
 {
-    let rows = Sound { pool, table: t };
+    let rows = Sound { pool, table: &t };
     let mut i = 0;
     for d in 0..len {
         let (first, keys) = group(&rows.layer(d), i);
@@ -58,14 +58,14 @@ fn owns(pool: &[u64], t: ColumnTrie, a: Atom, row: Row) -> bool
 // The least such key of an atom's rows. Where it is laid over, the first keys are both tables'; under a first key the rows are the school's if it has that key, else the maker's.
 pub fn next_key(
     pool: &[u64],
-    tables: Tables,
+    tables: &Tables,
     a: Atom,
     row: Row,
     len: usize,
     past: bool,
 ) -> Option<u64>
-    requires { Readable pool.now tables a len }
-    ensures { result ≡ head_of (from (bound past (get_or (words a row) len 0)) (keys_under (take len (words a row)) (rows_at pool.now tables a))) }
+    requires { Readable pool.now tables.now a len }
+    ensures { result ≡ head_of (from (bound past (get_or (words a row) len 0)) (keys_under (take len (words a row)) (rows_at pool.now tables.now a))) }
 {
     let school = tables.tables[a.table];
     let s = next_in(pool, school, a, row, len, past);

@@ -1,7 +1,7 @@
 -- The recursive descent: its end, its root, and the loop over the keys of one variable.
 -- Idea: the loop's invariant says that to emit the rows of the keys left, from where the window stands, ends where the whole depth ends; a key's call
 -- takes the first of them away.
-use Prim.Native.Nat.{ℕ, ◌≤◌}
+use Prim.Native.Nat.{ℕ, ◌*◌, ◌≤◌}
 use mathlib.Core.Path.{◌≡◌, refl, sym, subst, ap, ◌∙◌}
 use mathlib.Core.Bool.{true}
 use mathlib.Core.List.{List, [], ◌∷◌, map, flat_map}
@@ -14,8 +14,8 @@ use Rattle.query.specs.Solve.{bind, runs, extend, listing}
 use Rattle.query.specs.Window.{Progress, begin, emit, emits, windowed}
 use Rattle.query.specs.Descend.{Joinable, Descends}
 use Rattle.query.proofs.Solved.{joinable_bind}
-use Rattle.query.proofs.Listed.{extend_root, listing_listing}
-use Rattle.query.proofs.Window.{emits_append, emits_full, emits_windowed}
+use Rattle.query.proofs.Listed.{extend_root, extend_wide, listing_listing}
+use Rattle.query.proofs.Window.{emits_append, emits_full, emits_length, emits_fits, emits_windowed}
 
 -- no variable left: one row
 pub leaf : (n : ℕ) (atoms : List Atom) (row : Row) (s : Progress) → Descends n [] atoms row s (emit n s (take n row))
@@ -26,6 +26,14 @@ leaf n atoms row s = record { exit = refl }
 pub root : {n : ℕ} {order : List ℕ} {atoms : List Atom} → Passes n order atoms → (row : Row) (w : List ℕ) → n ≤ length row → {t : Progress} → Descends n order atoms row (begin w) t → t ≡ windowed w n (listing n order atoms)
 root {n} {order} {atoms} q row w h d =
     d.exit ∙ ap (emits n (begin w)) (extend_root q row h) ∙ emits_windowed w n (listing n order atoms) (listing_listing q).wide
+
+-- the window keeps its length, and the rows written lie in it
+pub descends_fits : {n : ℕ} {vs : List ℕ} {atoms : List Atom} {row : Row} {s t : Progress} → Descends n vs atoms row s t → n ≤ length row → s.count * n ≤ length s.words → (length t.words ≡ length s.words) × (t.count * n ≤ length s.words)
+descends_fits {n} {vs} {atoms} {row} {s} d h f =
+    let w = extend_wide n vs atoms row h in (
+      ap (λ (p : Progress). length p.words) d.exit ∙ emits_length n (extend n vs atoms row) s w,
+      subst (λ (p : Progress). p.count * n ≤ length s.words) (sym d.exit) (emits_fits n (extend n vs atoms row) s w f),
+    )
 
 module _ (n v : ℕ) (vs : List ℕ) (atoms : List Atom) (row : Row) (s₀ : Progress) where
   -- the rows of the key k

@@ -63,6 +63,9 @@ emit_length n s row e =
     (λ t. length_pasted s.words (s.count * n) row (omega (arith, one_more s.count n)))
     refl
 
+emit_fits : (n : ℕ) (s : Progress) (row : Row) → s.count * n ≤ length s.words → (emit n s row).count * n ≤ length s.words
+emit_fits n s row h = emit_cases (λ (t : Progress). t.count * n ≤ length s.words) n s row (λ f. h) (λ t. t) h
+
 -- a copying loop's last state, `paste` of the library, is the row's
 pub paste_row : (w : List ℕ) (i n : ℕ) (row : Row) → n ≤ length row → paste w i row n ≡ pasted w i (take n row)
 paste_row w i n row h =
@@ -87,6 +90,13 @@ pub emits_length : (n : ℕ) (rows : List Row) (s : Progress) → Width n rows �
 unfolding emits
 emits_length n [] s f = refl
 emits_length n (r ∷ rs) s f = emits_length n rs (emit n s r) (λ x m. f x (tl m)) ∙ emit_length n s r (f r (hd refl))
+
+pub emits_fits : (n : ℕ) (rows : List Row) (s : Progress) → Width n rows → s.count * n ≤ length s.words → (emits n s rows).count * n ≤ length s.words
+unfolding emits
+emits_fits n [] s f h = h
+emits_fits n (r ∷ rs) s f h =
+    let e = emit_length n s r (f r (hd refl)) in
+    omega (arith, emits_fits n rs (emit n s r) (λ x m. f x (tl m)) (omega (arith, emit_fits n s r h)))
 
 -- ---- the two ways to say the window agree
 

@@ -29,7 +29,7 @@ fn replay<R: Files + Print + Eprint, F: Fn(&mut Script)>(
 ) -> io::Result<()>
     requires { F.IsAlwaysCallable case }
 {
-    each_case(rt, name, |script, _| one(script, &case))
+    each_case(rt, name, &mut (), |script, _, _| one(script, &case))
 }
 
 fn main(rt: HostRuntime) -> io::Result<()> {

@@ -28,7 +28,7 @@ fn case(script: &mut Script) {
 }
 
 fn main(rt: HostRuntime) -> io::Result<()> {
-    each_case(&rt, "leapfrogs", |script, _| {
+    each_case(&rt, "leapfrogs", &mut (), |script, _, _| {
         case(script);
         Ok(())
     })

@@ -14,8 +14,8 @@ use sound_table::Intact;
 
 // The place in the layer above of the parent of the key at `place` of layer d.
 fn parent_of(rows: &Intact, d: usize, place: usize) -> usize
-    requires { (d < rows.now.sound.table.arity) × (place < data_len_at rows.now.sound.table d) }
-    ensures { result ≡ owner (layer_in rows.now.sound.pool.now rows.now.sound.table d).intervals place }
+    requires { (d < rows.now.sound.table.now.arity) × (place < data_len_at rows.now.sound.table.now d) }
+    ensures { result ≡ owner (layer_in rows.now.sound.pool.now rows.now.sound.table.now d).intervals place }
 {
     let intervals = rows.sound.layer(d).intervals;
     halve(intervals, place as u64 + 1, 0, intervals.len(), 0).offset - 1
@@ -23,13 +23,13 @@ fn parent_of(rows: &Intact, d: usize, place: usize) -> usize
 
 // The key of row i in column d.
 pub fn key_of(rows: &Intact, i: usize, d: usize) -> u64
-    requires { (i < rows.now.sound.table.tuple_count) × (d < rows.now.sound.table.arity) }
-    ensures { result ≡ get_or (get_or (rows_in rows.now.sound.pool.now rows.now.sound.table) i []) d 0 }
+    requires { (i < rows.now.sound.table.now.tuple_count) × (d < rows.now.sound.table.now.arity) }
+    ensures { result ≡ get_or (get_or (rows_in rows.now.sound.pool.now rows.now.sound.table.now) i []) d 0 }
 {
     let mut place = i;
     for e in (d + 1..rows.sound.table.arity).rev() {
         place = parent_of(rows, e, place);
     }
-    let at = layer_at(rows.sound.table, d);
+    let at = layer_at(*rows.sound.table, d);
     rows.sound.pool[at + place]
 }

@@ -13,8 +13,8 @@ use sound_table::Intact;
 
 // Turns the path of row i - 1 into that of row i, and the path of row 0 into itself: from the last layer up, a parent goes on where its children end.
 pub fn next_path(rows: &Intact, path: &mut [usize; ColumnTrie::MAX_ARITY], i: usize)
-    requires { (i < rows.now.sound.table.tuple_count) × OnPath (layers_in rows.now.sound.pool.now rows.now.sound.table) (i - 1) path.old }
-    ensures { OnPath (layers_in rows.now.sound.pool.now rows.now.sound.table) i path.new }
+    requires { (i < rows.now.sound.table.now.tuple_count) × OnPath (layers_in rows.now.sound.pool.now rows.now.sound.table.now) (i - 1) path.old }
+    ensures { OnPath (layers_in rows.now.sound.pool.now rows.now.sound.table.now) i path.new }
 {
     let arity = rows.sound.table.arity;
     path[arity - 1] = i;

@@ -5,7 +5,7 @@ use native.Mathlib.Omega.{arith}
 use mathlib.Core.Path.{◌≡◌, refl, sym, subst, ap, ◌∙◌}
 use mathlib.Core.List.{List, [], ◌∷◌, ◌++◌}
 use lib.ListN.{length, get_or, take, drop, replicate, length-append, length-replicate}
-use lib.Seq.{get_or-take, length-take-le}
+use lib.Seq.{get_or-take, length-take-le, ext_get_or}
 use Rattle.relation.specs.Order.{Row}
 use Rattle.relation.specs.Lists.{◌∈◌, hd, tl}
 use Rattle.relation.specs.Rows.{Width, cut, flat}
@@ -32,6 +32,11 @@ padded_part (x ∷ xs) row = let e = get_or_zeros row (max_variables - length ro
 
 pub padded_length : (row : Row) → length row ≤ max_variables → length (padded row) ≡ max_variables
 padded_length row h = omega (arith, length-append row (replicate (max_variables - length row) 0), length-replicate {A = ℕ} (max_variables - length row) 0)
+
+-- any array of eight that does is it
+pub padded_only : (array : List ℕ) (row : Row) → length array ≡ max_variables → length row ≤ max_variables → ((i : ℕ) → i < max_variables → get_or array i 0 ≡ get_or row i 0) → array ≡ padded row
+padded_only array row d h f =
+    ext_get_or 0 array (padded row) (d ∙ sym (padded_length row h)) (λ i l. f i (omega arith) ∙ sym (get_or_zeros row (max_variables - length row) i))
 
 -- the given row's words that count read as it does
 pub counted_part : (n : ℕ) (xs : List ℕ) (row : Row) → ((x : ℕ) → x ∈ xs → x < n) → part xs (take n row) ≡ part xs row

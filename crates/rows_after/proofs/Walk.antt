@@ -1,15 +1,16 @@
 -- The recursive descent with a bound: its end, its root, and the loop over the keys of one variable, also by the words given to each atom, as an engine's cursors have
 -- them. crates/query has the same of the descent without one (proofs/Descend.antt, proofs/Engine.antt).
 -- Idea: as there the loop's invariant says that to emit the rows of the keys left, from where the window stands, ends where the whole depth ends.
-use Prim.Native.Nat.{ℕ, ◌≤◌, ◌<◌}
+use Prim.Native.Nat.{ℕ, ◌*◌, ◌≤◌, ◌<◌}
 use mathlib.Core.Path.{◌≡◌, refl, sym, subst, ap, ◌∙◌}
-use mathlib.Core.Bool.{Bool, true}
+use mathlib.Core.Bool.{Bool, true, false}
 use mathlib.Core.List.{List, [], ◌∷◌, map, flat_map}
-use lib.ListN.{length, get_or, set}
+use lib.ListN.{length, get_or, set, length-set}
 use lib.Dec.{eqb}
 use borrow.Author.Tests.{eq-eqb, ne_eqb}
 use Rattle.relation.specs.Order.{Row, pick}
-use Rattle.relation.specs.Lists.{◌∈◌, hd, tl}
+use Rattle.relation.specs.Lists.{◌∈◌, hd, tl, not_in_nil}
+use Rattle.relation.specs.Rows.{Width}
 use Rattle.relation.specs.Layers.{keys_under}
 use Rattle.relation.specs.Runs.{from}
 use Rattle.relation.proofs.Runs.{in_from}
@@ -19,8 +20,9 @@ use Rattle.query.specs.Solve.{bind, runs, extend, listing}
 use Rattle.query.specs.Window.{Progress, begin, emits, windowed}
 use Rattle.query.specs.Descend.{standings, nobody, holders, Joinable, Descends}
 use Rattle.query.proofs.Solved.{joinable_bind}
-use Rattle.query.proofs.Listed.{listing_listing}
-use Rattle.query.proofs.Window.{emits_append, emits_full, emits_windowed}
+use Rattle.query.proofs.Beyond.{in_flat_map}
+use Rattle.query.proofs.Listed.{listing_listing, extend_wide}
+use Rattle.query.proofs.Window.{emits_append, emits_full, emits_length, emits_fits, emits_windowed}
 use Rattle.query.proofs.Under.{Gains, standings_none, standings_bind, standings_runs}
 use Rattle.rows_after.specs.After.{after_row}
 use Rattle.rows_after.specs.Bounded.{extend_after, DescendsAfter}
@@ -37,6 +39,28 @@ pub root_after : {n : ℕ} {order : List ℕ} {atoms : List Atom} → Passes n o
 root_after {n} {order} {atoms} q row given w h d =
     let rows = listing n order atoms in
     d.exit ∙ ap (emits n (begin w)) (bounded_listing q row given h) ∙ emits_windowed w n (after_row order given rows) (λ r m. (listing_listing q).wide r (in_after order given rows m).0)
+
+-- every row is n words
+pub after_wide : (n : ℕ) (vs : List ℕ) (atoms : List Atom) (row given : Row) → n ≤ length row → Width n (extend_after n vs atoms row given)
+unfolding extend_after
+after_wide n [] atoms row given h r m = absurd (not_in_nil m)
+after_wide n (v ∷ vs) atoms row given h r m =
+    let f : ℕ → List Row = λ k. pick (eqb k (get_or given v 0)) (extend_after n vs (map (bind v k) atoms) (set row v k) given) (extend n vs (map (bind v k) atoms) (set row v k)) in
+    let t = in_flat_map f (from (get_or given v 0) (meet (runs v atoms))) m in
+    let l : n ≤ length (set row v t.0) = rw (length-set row v t.0) h in
+    go t.0 (after_wide n vs (map (bind v t.0) atoms) (set row v t.0) given l r) (extend_wide n vs (map (bind v t.0) atoms) (set row v t.0) l r) (eqb t.0 (get_or given v 0)) t.2
+  where
+    go : (k : ℕ) → (r ∈ extend_after n vs (map (bind v k) atoms) (set row v k) given → length r ≡ n) → (r ∈ extend n vs (map (bind v k) atoms) (set row v k) → length r ≡ n) → (b : Bool) → r ∈ pick b (extend_after n vs (map (bind v k) atoms) (set row v k) given) (extend n vs (map (bind v k) atoms) (set row v k)) → length r ≡ n
+    go k f g true m = f m
+    go k f g false m = g m
+
+-- the window keeps its length, and the rows written lie in it
+pub after_fits : {n : ℕ} {vs : List ℕ} {atoms : List Atom} {row given : Row} {s t : Progress} → DescendsAfter n vs atoms row given s t → n ≤ length row → s.count * n ≤ length s.words → (length t.words ≡ length s.words) × (t.count * n ≤ length s.words)
+after_fits {n} {vs} {atoms} {row} {given} {s} d h f =
+    let w = after_wide n vs atoms row given h in (
+      ap (λ (p : Progress). length p.words) d.exit ∙ emits_length n (extend_after n vs atoms row given) s w,
+      subst (λ (p : Progress). p.count * n ≤ length s.words) (sym d.exit) (emits_fits n (extend_after n vs atoms row given) s w f),
+    )
 
 module _ (n v : ℕ) (vs : List ℕ) (atoms : List Atom) (row given : Row) (s₀ : Progress) where
   -- the rows of the key k: after the given row's words where it is the given row's word, else all

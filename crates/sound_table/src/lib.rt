@@ -65,24 +65,25 @@ impl<'a> Layer<'a> {
     }
 }
 
-// A table whose header is sound for the pool that it lies in: all that it takes to read the table's words, whatever they are.
+// A table whose header is sound for the pool that it lies in: all that it takes to read the table's words, whatever they are. Both are lent, so that no call
+// copies the header.
 #[derive(Clone, Copy)]
 pub struct Sound<'a> {
     pub pool: &'a [u64],
-    pub table: ColumnTrie,
-    ghost sound: { header_sound (length pool.now) table ≡ true },
+    pub table: &'a ColumnTrie,
+    ghost sound: { header_sound (length pool.now) table.now ≡ true },
 
-    // How long the table's arrays are: a type says it, but not of a struct in a struct behind a reference.
-    ghost whole: { Whole table },
+    // How long the table's arrays are: a type says it, but not of a struct that a field refers to.
+    ghost whole: { Whole table.now },
 }
 
 impl<'a> Sound<'a> {
     // Layer d, its lists as long as the header says.
     pub fn layer(&self, d: usize) -> Layer<'a>
-        requires { d < self.now.table.arity }
-        ensures { seen result ≡ layer_in self.now.pool.now self.now.table d }
+        requires { d < self.now.table.now.arity }
+        ensures { seen result ≡ layer_in self.now.pool.now self.now.table.now d }
     {
-        let at = layer_at(self.table, d);
+        let at = layer_at(*self.table, d);
         let intervals_at = at + self.table.capacity;
         Layer {
             keys: part(self.pool, at, self.table.data_len[d]),
@@ -92,7 +93,7 @@ impl<'a> Sound<'a> {
 
     // Layer 0 has one interval, or none in a table without keys; each lower layer has one for each key above.
     fn layers_linked(&self) -> bool
-        ensures { result ≡ (chain 0 (layers_in self.now.pool.now self.now.table) || chain 1 (layers_in self.now.pool.now self.now.table)) }
+        ensures { result ≡ (chain 0 (layers_in self.now.pool.now self.now.table.now) || chain 1 (layers_in self.now.pool.now self.now.table.now)) }
     {
         let mut above = if self.table.data_len[0] == 0 { 0 } else { 1 };
         for d in 0..self.table.arity {
@@ -124,12 +125,12 @@ pub fn undamaged(pool: &[u64], t: ColumnTrie) -> bool
     header_sound(pool.len(), t)
         && past_arity(t)
         && t.tuple_count == t.data_len[t.arity - 1]
-        && Sound { pool, table: t }.layers_linked()
+        && Sound { pool, table: &t }.layers_linked()
 }
 
 // An undamaged table, with the pool that it lies in: its layers are those of a set of rows.
 #[derive(Clone, Copy)]
 pub struct Intact<'a> {
     pub sound: Sound<'a>,
-    ghost undamaged: { undamaged sound.pool.now sound.table ≡ true },
+    ghost undamaged: { undamaged sound.pool.now sound.table.now ≡ true },
 }

@@ -144,7 +144,8 @@ fn settled(left: &[usize; MAX_ATOMS], ring: &[usize; MAX_ATOMS], landed: Landed)
     left[a] == 0
 }
 
-// From a leapfrog over the pieces that ended as s says: while the piece at its place has ended and the run goes on behind it, takes the next piece and searches on.
+// From a leapfrog over the pieces that ended as s says: while the piece at its place has ended and the run goes on behind it, takes the next piece and searches on. A plain join
+// never comes here: `whole_init` and `whole_next` make its test, `settled`, themselves. As one function of both it was called for each key, and a join that seeks little took up to 2.5 times as long.
 fn go_on(
     leap: &Leap,
     state: &mut State,
@@ -183,23 +184,6 @@ fn go_on(
     }
 }
 
-// As `go_on`, with the test of a plain join ahead of its loop: one that has ended over the whole runs pays no more than that.
-fn resume(
-    leap: &Leap,
-    state: &mut State,
-    ring: &[usize; MAX_ATOMS],
-    k: usize,
-    s: Searched,
-) -> Searched
-    requires { Paused leap.now.pool.now state.old leap.now.ends.now ring.now k s }
-    ensures { WholeRan leap.now.pool.now leap.now.ends.now ring.now k state.old state.new (resumed_of leap.now.pool.now state.old leap.now.ends.now ring.now k s.landed s.seeks) result }
-{
-    if settled(&state.left, ring, s.landed) {
-        return s;
-    }
-    go_on(leap, state, ring, k, s)
-}
-
 // Algorithm 2 over whole runs, from place `start` of an ordered ring.
 pub fn whole_search(
     leap: &Leap,
@@ -236,7 +220,13 @@ pub fn whole_init(
     ensures { WholeBegun leap.now.pool.now leap.now.ends.now k ring.old ring.new state.old state.new result }
 {
     let s = leapfrog_init(leap.pool, &mut state.at, &state.end, ring, k, leap.strategy);
-    resume(leap, state, ring, k, s)
+    let landed = s.landed;
+    let seeks = s.seeks;
+    if settled(&state.left, ring, landed) {
+        return Searched { landed, seeks };
+    }
+    let paused = Searched { landed, seeks };
+    go_on(leap, state, ring, k, paused)
 }
 
 // Algorithm 3 over whole runs, where all agree.
@@ -259,5 +249,11 @@ pub fn whole_next(
         p,
         leap.strategy,
     );
-    resume(leap, state, ring, k, s)
+    let landed = s.landed;
+    let seeks = s.seeks;
+    if settled(&state.left, ring, landed) {
+        return Searched { landed, seeks };
+    }
+    let paused = Searched { landed, seeks };
+    go_on(leap, state, ring, k, paused)
 }

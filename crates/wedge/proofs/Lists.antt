@@ -1,13 +1,20 @@
 -- Lists with a word more or a word less, and lists of which some words become others where they stand: one more, or one less.
-use Prim.Native.Nat.{ℕ, zero, suc, ◌-◌, ◌<◌}
+use Prim.Native.Nat.{ℕ, zero, suc, ◌-◌, ◌≤◌, ◌<◌}
 use mathlib.Core.Path.{◌≡◌, refl, ap, ap₂, ◌∙◌}
 use mathlib.Core.List.{List, [], ◌∷◌, ◌++◌, map}
 use native.Mathlib.Omega.{arith}
-use lib.ListN.{length, take, drop, length-map}
+use lib.ListN.{length, take, drop, get_or, length-map}
 use Rattle.std.proofs.lemmas.List.{take_at, drop_at}
 use borrow.Rule.Slice.PartMut.{put_mid}
 
 -- ---- a word more or less
+
+-- the word at j of what stands behind the new one stood one before it
+pub wedged_behind : (n w : ℕ) (xs : List ℕ) (j : ℕ) → n ≤ j → j < length xs → get_or (take n xs ++ w ∷ drop n xs) (suc j) 0 ≡ get_or xs j 0
+wedged_behind zero w xs j h k = refl
+wedged_behind (suc n) w [] j h k = absurd (omega arith)
+wedged_behind (suc n) w (x ∷ xs) zero h k = absurd (omega arith)
+wedged_behind (suc n) w (x ∷ xs) (suc j) h k = wedged_behind n w xs j (omega arith) (omega arith)
 
 pub length_wedged : (n w : ℕ) (xs : List ℕ) → length (take n xs ++ w ∷ drop n xs) ≡ suc (length xs)
 length_wedged zero w xs = refl

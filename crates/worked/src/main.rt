@@ -31,48 +31,63 @@ fn room() -> [u64; WORDS]
     [0; WORDS]
 }
 
-// One case, with room for its two lists. It is named where an answer is wrong, and where it isn't written as it must be.
+// Room for the two lists of a case. It is made once: zeroed for each case it would cost more than all that a case does.
+#[derive(Drop)]
+struct TwoLists {
+    pool: [u64; WORDS],
+    words: [u64; WORDS],
+}
+
+// One case. It is named where an answer is wrong, and where it isn't written as it must be.
 fn one<F: Fn(&mut Script, &mut [u64], &mut [u64])>(
     rt: &impl Print,
     name: &str,
     script: &mut Script,
     case: &F,
     number: u64,
+    lists: &mut TwoLists,
 ) -> io::Result<()>
     requires { F.IsAlwaysCallable case.now }
 {
-    let mut pool = room();
-    let mut words = room();
     let wrong = script.wrong();
-    case(script, &mut pool, &mut words);
+    case(script, &mut lists.pool, &mut lists.words);
     if script.wrong() != wrong || script.is_lost() {
         println!(rt; "{name}: case {number} is wrong")?;
     }
     Ok(())
 }
 
+// The cases of one file, with lists that are all zeros before the first.
 fn work<R: Files + Print + Eprint, F: Fn(&mut Script, &mut [u64], &mut [u64])>(
     rt: &R,
     name: &str,
+    lists: &mut TwoLists,
     case: F,
 ) -> io::Result<()>
     requires { F.IsAlwaysCallable case }
 {
+    lists.pool.fill(0);
+    lists.words.fill(0);
     each_case(
         rt,
         name,
-        |script, number| one(rt, name, script, &case, number),
+        lists,
+        |script, number, lists| one(rt, name, script, &case, number, lists),
     )
 }
 
 fn main(rt: HostRuntime) -> io::Result<()> {
-    work(&rt, "seeks", seeks::case)?;
-    work(&rt, "grades", grades::case)?;
-    work(&rt, "empties", tables::empty)?;
-    work(&rt, "builds", tables::build)?;
-    work(&rt, "inserts", tables::insert)?;
-    work(&rt, "removals", tables::remove)?;
-    work(&rt, "listings", listings::case)?;
-    work(&rt, "cursors", cursors::case)?;
-    work(&rt, "joins", joins::case)
+    let mut lists = TwoLists {
+        pool: room(),
+        words: room(),
+    };
+    work(&rt, "seeks", &mut lists, seeks::case)?;
+    work(&rt, "grades", &mut lists, grades::case)?;
+    work(&rt, "empties", &mut lists, tables::empty)?;
+    work(&rt, "builds", &mut lists, tables::build)?;
+    work(&rt, "inserts", &mut lists, tables::insert)?;
+    work(&rt, "removals", &mut lists, tables::remove)?;
+    work(&rt, "listings", &mut lists, listings::case)?;
+    work(&rt, "cursors", &mut lists, cursors::case)?;
+    work(&rt, "joins", &mut lists, joins::case)
 }

@@ -43,10 +43,10 @@ fn literal(n: u64) -> String {
     }
 }
 
-/// `(*name).field` as `name->field`.
+/// `(*name).field` as `name->field`, where the name may have fields too.
 fn arrow(text: String) -> String {
     if let Some((name, rest)) = text.strip_prefix("(*").and_then(|inner| inner.split_once(").")) {
-        if name.chars().all(is_name) {
+        if name.chars().all(|c| is_name(c) || "->.".contains(c)) {
             return format!("{name}->{rest}");
         }
     }
@@ -59,6 +59,11 @@ fn bare(text: String) -> String {
         Some(name) if name.chars().all(is_name) || !name.contains(").") => format!("*{name}"),
         _ => text,
     }
+}
+
+/// `&text`, and of `*p` that is `p`.
+fn address_of(text: &str) -> String {
+    text.strip_prefix('*').map_or_else(|| format!("&{text}"), str::to_string)
 }
 
 fn leads_to(ty: &Ty, bits: u32, count: usize) -> bool {
@@ -105,11 +110,11 @@ impl<'w, 'a> Writer<'w, 'a> {
 
     /// The place's text and type, not noted as read.
     fn place(&mut self, place: &Place) -> Made<(String, Ty)> {
+        let place = &self.callee.uses.original(place);
         let Some(local) = self.callee.function.locals.get(place.local) else { return self.refused("local", place) };
-        let root = self.callee.uses.root(place.local);
-        self.mentioned[root] = true;
-        let (mut text, mut ty) = (self.names[root].clone(), local.ty.clone());
-        if self.is_lent(root) && !matches!(ty, Ty::Array(..)) {
+        self.mentioned[place.local] = true;
+        let (mut text, mut ty) = (self.names[place.local].clone(), local.ty.clone());
+        if self.is_lent(place.local) && !matches!(ty, Ty::Array(..)) {
             text = format!("(*{text})");
         }
         let mut steps = place.steps.iter();
@@ -131,11 +136,12 @@ impl<'w, 'a> Writer<'w, 'a> {
     }
 
     fn note_read(&mut self, place: &Place) {
-        self.read[self.callee.uses.root(place.local)] = true;
+        self.read[self.callee.uses.original(place).local] = true;
     }
 
     fn deref(&mut self, text: String, ty: &Ty, to: &Ty) -> Made<(String, Ty)> {
         self.types.point(to, *ty == Ty::Ptr)?;
+        let text = arrow(text);
         let pointer = match ty {
             Ty::Ptr => format!("({} *){text}", self.types.c(to)?),
             Ty::Ref { to: leads, .. } if **leads == *to => text,
@@ -301,6 +307,7 @@ impl<'w, 'a> Writer<'w, 'a> {
 
     /// The place's address; that of where a pointer leads is the pointer, null or not.
     fn address(&mut self, place: &Place, to: &Ty) -> Made<String> {
+        let place = &self.callee.uses.original(place);
         let (text, kind, constant) = match place.steps.split_last() {
             Some((Step::Deref(leads), front)) => {
                 let (text, ty) = self.place(&Place { local: place.local, steps: front.to_vec() })?;
@@ -314,9 +321,9 @@ impl<'w, 'a> Writer<'w, 'a> {
                         let (_, through) = self.place(&Place { local: place.local, steps: place.steps[..at].to_vec() })?;
                         matches!(through, Ty::Ref { mutable: false, .. })
                     }
-                    None => self.is_lent(self.callee.uses.root(place.local)),
+                    None => self.is_lent(place.local),
                 };
-                (if matches!(ty, Ty::Array(..)) { text } else { format!("&{text}") }, ty, lent)
+                (if matches!(ty, Ty::Array(..)) { text } else { address_of(&text) }, ty, lent)
             }
         };
         if kind == Ty::Unit {
@@ -334,7 +341,7 @@ impl<'w, 'a> Writer<'w, 'a> {
     // ---- statements
 
     fn assign(&mut self, to: &Place, value: &Value) -> Made<()> {
-        if self.callee.uses.root(to.local) != to.local {
+        if self.callee.uses.is_copy(to.local) {
             return self.same_type(to, value);
         }
         let (text, ty) = self.target(to)?;
@@ -371,7 +378,7 @@ impl<'w, 'a> Writer<'w, 'a> {
         Ok(())
     }
 
-    /// The copy of a parameter that never changes is the parameter: nothing is written.
+    /// The copy of what never changes is that: nothing is written.
     fn same_type(&mut self, to: &Place, value: &Value) -> Made<()> {
         let (_, ty) = self.place(to)?;
         self.value(value, &ty).map(|_| ())
@@ -477,7 +484,7 @@ impl<'w, 'a> Writer<'w, 'a> {
             if !lent || (is_array && self.callee.uses.may_lend(operand, &given)) {
                 texts.push(text);
             } else if self.callee.uses.may_lend(operand, &given) {
-                texts.push(text.strip_prefix('*').map_or_else(|| format!("&{text}"), str::to_string));
+                texts.push(address_of(&text));
             } else if is_array {
                 return self.refused("an array that may change while it is lent", operand);
             } else {
@@ -534,13 +541,7 @@ impl<'w, 'a> Writer<'w, 'a> {
     pub fn run(&mut self, body: &Body) -> Made<()> {
         match body {
             Body::Skip => Ok(()),
-            Body::Seq(parts) => (0..parts.len()).try_for_each(|at| match self.lendable(&parts[at..]) {
-                Some((local, original)) => {
-                    self.passed.insert(local, original);
-                    Ok(())
-                }
-                None => self.run(&parts[at]),
-            }),
+            Body::Seq(parts) => self.sequence(parts),
             Body::Assign(to, value) => self.assign(to, value),
             Body::Call(symbol, given, to) => self.call(symbol, given, to),
             Body::Return => {
@@ -566,19 +567,37 @@ impl<'w, 'a> Writer<'w, 'a> {
         }
     }
 
+    fn sequence(&mut self, mut parts: &[Body]) -> Made<()> {
+        while let Some((first, rest)) = parts.split_first() {
+            let relayed = self.callee.uses.relays(parts);
+            match (self.lendable(parts), relayed, first) {
+                (Some((local, original)), ..) => {
+                    self.passed.insert(local, original);
+                }
+                (None, Some(to), Body::Assign(_, value)) => self.assign(to, value)?,
+                (None, Some(to), Body::Call(symbol, given, _)) => self.call(symbol, given, to)?,
+                _ => self.run(first)?,
+            }
+            parts = rest.get(usize::from(relayed.is_some())..).unwrap_or_default();
+        }
+        Ok(())
+    }
+
     fn give_back(&mut self) {
         if self.callee.function.locals[0].ty == Ty::Unit {
             return self.put("return;");
         }
-        self.mentioned[0] = true;
-        self.read[0] = true;
+        let local = self.callee.uses.original(&Place { local: 0, steps: Vec::new() }).local;
+        self.mentioned[local] = true;
+        self.read[local] = true;
+        let name = &self.names[local];
         if gives_array(self.callee.function) {
             // At the end, since it may lead to what an argument leads to.
-            self.put("memmove(result_to, result, sizeof result);");
+            self.put(&format!("memmove(result_to, {name}, sizeof {name});"));
             return self.put("return;");
         }
         let signed = self.callee.exported.is_some_and(|call| call.result == "int64_t");
-        self.put(if signed { "return signed_of(result);" } else { "return result;" });
+        self.put(&if signed { format!("return signed_of({name});") } else { format!("return {name};") });
     }
 
     fn branch(&mut self, test: &Operand, yes: &Body, no: &Body) -> Made<()> {

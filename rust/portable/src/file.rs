@@ -3,6 +3,7 @@ use crate::function::{callee, enter, head, local_names, text, Callee, Callees};
 use crate::header::{self, Header};
 use crate::mir::{self, Program};
 use crate::names::Names;
+use crate::shared::{only_read, Readers};
 use crate::types::Types;
 use crate::uses::Uses;
 use crate::Refused;
@@ -79,8 +80,9 @@ pub fn translate(mir: &str, header: &str, names: &Names) -> Made<String> {
 fn callees<'a>(program: &'a Program, header: &'a Header, types: &Types<'a>) -> Made<Callees<'a>> {
     let exported = exported(program, header)?;
     let kept = reached(program, &exported)?;
-    let mut callees = Callees::new();
+    let (mut callees, mut readers) = (Callees::new(), Readers::new());
     for function in program.functions.iter().filter(|function| kept.contains(&function.symbol)) {
+        only_read(function, &program.shapes, &mut readers)?;
         let call = exported.get(&function.symbol).and_then(|name| header.calls.get(name));
         callees.insert(function.symbol.clone(), callee(function, call, types)?);
     }

@@ -14,6 +14,7 @@ mod function;
 mod header;
 mod mir;
 mod names;
+mod shared;
 mod types;
 mod uses;
 mod words;

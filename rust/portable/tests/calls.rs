@@ -2,20 +2,12 @@
 mod common;
 use common::*;
 
-fn call(symbol: &str, given: &[String], to: usize) -> String {
-    format!("(call (direct (fnRef \"{symbol}\")) {} {})", list(given), at(to))
-}
-
 /// The C of `f` over Wide, whose locals from 2 and body are given, beside a function `g` of one Wide.
 fn with_wide(locals: &[&str], body: &str, g: &str) -> String {
     let mut all = vec![U64, U64];
     all.extend(locals);
     let functions = [function("k::g", 1, &[U64, WIDE], g), function("k::f", 1, &all, body)];
     c("uint64_t f(uint64_t n);", &functions).unwrap()
-}
-
-fn reads() -> String {
-    seq(&[&assign(0, "(rvOpd (copy (place 1 (lcons (field 0) lnil))))"), "return"])
 }
 
 fn writes() -> String {
@@ -123,6 +115,54 @@ fn a_copy_stays_where_the_original_may_change_before_the_call_or_it_is_read_agai
         let text = with_copy(&between);
         assert!(text.contains("v3 = v2;") && text.contains("result = k_g(&v3);"), "{text}");
     }
+}
+
+#[test]
+fn what_is_made_to_be_copied_once_is_made_where_the_copy_would_be() {
+    let copied = |to: usize, from: usize| assign(to, &format!("(rvOpd {})", copy(from)));
+    let view = assign(4, &format!("(addrOf {})", at(3)));
+    let made = assign(2, &format!("(aggregate (lcons {} (lcons {} lnil)))", copy(1), copy(5)));
+    let with = |parts: &[&str]| with_wide(&[WIDE, WIDE, "tyPtr", LIST, WIDE], &seq(&[parts, &["return"]].concat()), &reads());
+    let text = with(&[&made, &copied(3, 2), &view]);
+    assert!(text.contains("v3.f1 = n;\n    memmove(v3.f2, v5, sizeof v3.f2);\n    v4 = &v3;") && !text.contains("v2"), "{text}");
+    let text = with(&[&made, &copied(3, 2), &copied(2, 6), &call("k::g", &[copy(2)], 0)]);
+    assert!(text.contains("v3.f1 = n;") && text.contains("result = k_g(&v6);") && !text.contains("v2"), "{text}");
+    let read_again = assign(0, "(rvOpd (copy (place 2 (lcons (field 0) lnil))))");
+    for parts in [[&copied(3, 2), &read_again], [&assign(0, "(rvOpd (int 64 1))"), &copied(3, 2)]] {
+        let text = with(&[&made, parts[0], parts[1]]);
+        assert!(text.contains("v2.f1 = n;") && text.contains("v3 = v2;"), "{text}");
+    }
+}
+
+#[test]
+fn what_every_return_gives_back_is_the_result() {
+    let with = |parts: &[&str]| {
+        let g = function("k::g", 1, &[LIST, U64, LIST, LIST], &seq(parts));
+        let f = function("k::f", 1, &[U64, U64, LIST], &seq(&[&call("k::g", &[copy(1)], 2), "return"]));
+        c("uint64_t f(uint64_t n);", &[g, f]).unwrap()
+    };
+    let made = |local: usize| assign(local, &format!("(repeat {} 8)", copy(1)));
+    let gives = |local: usize| seq(&[&assign(0, &format!("(rvOpd {})", copy(local))), "return"]);
+    let early = format!("(if true {} skip)", gives(2));
+    let text = with(&[&made(2), &early, &gives(2)]);
+    assert!(text.contains("memmove(result_to, v2, sizeof v2);") && !text.contains("result[8]"), "{text}");
+    for (parts, of) in [
+        (vec![made(2), made(3), early, gives(3)], "v3"),
+        (vec![made(2), gives(2).replace("return", &made(2)), "return".to_string()], "v2"),
+    ] {
+        let text = with(&parts.iter().map(String::as_str).collect::<Vec<_>>());
+        assert!(text.contains(&format!("memmove(result, {of}, sizeof(uint64_t[8]));")), "{text}");
+    }
+}
+
+#[test]
+fn a_call_answers_where_its_answer_would_be_copied() {
+    let g = seq(&[&assign(0, "(repeat (int 64 3) 8)"), "return"]);
+    let copied = assign(3, &format!("(rvOpd {})", copy(2)));
+    let body = seq(&[&call("k::g", &[copy(1)], 2), &copied, "return"]);
+    let functions = [function("k::g", 1, &[LIST, U64], &g), function("k::f", 1, &[U64, U64, LIST, LIST], &body)];
+    let text = c("uint64_t f(uint64_t n);", &functions).unwrap();
+    assert!(text.contains("    k_g(v3, n);\n") && !text.contains("v2"), "{text}");
 }
 
 #[test]

@@ -11,8 +11,8 @@ use Rattle.column_trie_listing.proofs.put_depth.Goals as goal
 use Rattle.column_trie_listing.proofs.put_depth.Goals.{Start}
 
 -- where the layer lies
-told : (s : Start) → LayerFits (length s.args.table.now.pool.now) s.args.table.now.table s.args.d
-told s = layer_fits (header_told (length s.args.table.now.pool.now) s.args.table.now.table s.args.table.now.sound) s.requires.0
+told : (s : Start) → LayerFits (length s.args.table.now.pool.now) s.args.table.now.table.now s.args.d
+told s = layer_fits (header_told (length s.args.table.now.pool.now) s.args.table.now.table.now s.args.table.now.sound) s.requires.0
 
 pub layer-requires : goal.layer-requires
 layer-requires c =

@@ -18,20 +18,20 @@ use borrow.Author.Rules.{rules}
 use Rattle.column_trie_listing.proofs.put_text.Goals as goal
 use Rattle.column_trie_listing.proofs.put_text.Goals.{Start}
 
-whole : (s : Start) → Whole s.args.table.now.sound.table
+whole : (s : Start) → Whole s.args.table.now.sound.table.now
 whole s = s.args.table.now.sound.whole
 
-sound : (s : Start) → InPool (length s.args.table.now.sound.pool.now) s.args.table.now.sound.table
+sound : (s : Start) → InPool (length s.args.table.now.sound.pool.now) s.args.table.now.sound.table.now
 sound s = in_pool (intact s.args.table.now)
 
-many : (s : Start) → length (layers_in s.args.table.now.sound.pool.now s.args.table.now.sound.table) ≡ s.args.table.now.sound.table.arity
-many s = layers_length s.args.table.now.sound.pool.now s.args.table.now.sound.table (whole s) (sound s).few
+many : (s : Start) → length (layers_in s.args.table.now.sound.pool.now s.args.table.now.sound.table.now) ≡ s.args.table.now.sound.table.now.arity
+many s = layers_length s.args.table.now.sound.pool.now s.args.table.now.sound.table.now (whole s) (sound s).few
 
 -- one layer more of the text
-more : (s : Start) (d : ℕ) → d < s.args.table.now.sound.table.arity → text (take (d + 1) (layers_in s.args.table.now.sound.pool.now s.args.table.now.sound.table)) ≡ text (take d (layers_in s.args.table.now.sound.pool.now s.args.table.now.sound.table)) ++ layer_text d (layer_in s.args.table.now.sound.pool.now s.args.table.now.sound.table d)
+more : (s : Start) (d : ℕ) → d < s.args.table.now.sound.table.now.arity → text (take (d + 1) (layers_in s.args.table.now.sound.pool.now s.args.table.now.sound.table.now)) ≡ text (take d (layers_in s.args.table.now.sound.pool.now s.args.table.now.sound.table.now)) ++ layer_text d (layer_in s.args.table.now.sound.pool.now s.args.table.now.sound.table.now d)
 more s d h =
-    let ls = layers_in s.args.table.now.sound.pool.now s.args.table.now.sound.table in
-    ap (λ (n : ℕ). text (take n ls)) (add-one d) ∙ text_more ls d (omega (arith, many s)) ∙ ap (λ (l : Layer). text (take d ls) ++ layer_text d l) (layers_at s.args.table.now.sound.pool.now s.args.table.now.sound.table (whole s) (sound s).few d h)
+    let ls = layers_in s.args.table.now.sound.pool.now s.args.table.now.sound.table.now in
+    ap (λ (n : ℕ). text (take n ls)) (add-one d) ∙ text_more ls d (omega (arith, many s)) ∙ ap (λ (l : Layer). text (take d ls) ++ layer_text d l) (layers_at s.args.table.now.sound.pool.now s.args.table.now.sound.table.now (whole s) (sound s).few d h)
 
 pub loop-d-init : goal.loop-d-init
 loop-d-init c = (omega arith, wrote_as (sym no_text) (wrote_none _), omega arith)
@@ -48,5 +48,5 @@ loop-d-preserved c =
 pub returns : goal.returns
 returns c =
     let w = c.loop-d.invariant.1 in
-    let ls = layers_in c.args.table.now.sound.pool.now c.args.table.now.sound.table in
+    let ls = layers_in c.args.table.now.sound.pool.now c.args.table.now.sound.table.now in
     lent_back (search (rules, w.same)) (wrote_as (ap text (take_all c.loop-d.d ls (omega (arith, many (goal.at.returns c).Start, c.loop-d-test.false)))) w)

@@ -7,4 +7,4 @@ use Rattle.layer_text.specs.Wrote.{Wrote}
 use Rattle.column_trie_listing.proofs.put_text.Given as goal
 
 abbrev pub invariant-loop-d : goal.invariant-loop-d
-invariant-loop-d l = (l.d ≤ l.table.sound.table.arity) × Wrote l.initial.writer l.writer (text (take l.d (layers_in l.table.sound.pool.now l.table.sound.table))) × (l.writer.end ≤ 2 ^ 32 * l.d)
+invariant-loop-d l = (l.d ≤ l.table.sound.table.now.arity) × Wrote l.initial.writer l.writer (text (take l.d (layers_in l.table.sound.pool.now l.table.sound.table.now))) × (l.writer.end ≤ 2 ^ 32 * l.d)

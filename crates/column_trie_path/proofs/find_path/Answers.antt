@@ -18,26 +18,26 @@ use Rattle.column_trie_path.proofs.find_path.Goals as goal
 use Rattle.column_trie_path.proofs.find_path.Goals.{After-find_place-p, Start, else-p, then-p}
 
 -- the table holds its rows
-whole : (s : Start) → Whole s.args.rows.now.sound.table
+whole : (s : Start) → Whole s.args.rows.now.sound.table.now
 whole s = s.args.rows.now.sound.whole
 
-sound : (s : Start) → Undamaged s.args.rows.now.sound.pool.now s.args.rows.now.sound.table
+sound : (s : Start) → Undamaged s.args.rows.now.sound.pool.now s.args.rows.now.sound.table.now
 sound s = intact s.args.rows.now
 
-held : (s : Start) → Holds s.args.rows.now.sound.pool.now s.args.rows.now.sound.table (rows_in s.args.rows.now.sound.pool.now s.args.rows.now.sound.table)
+held : (s : Start) → Holds s.args.rows.now.sound.pool.now s.args.rows.now.sound.table.now (rows_in s.args.rows.now.sound.pool.now s.args.rows.now.sound.table.now)
 held s = holds (whole s) (sound s)
 
 -- the layer's words are the relation's
-layer_words : (s : Start) (d : _) → d < s.args.rows.now.sound.table.arity → layer_in s.args.rows.now.sound.pool.now s.args.rows.now.sound.table d ≡ ranked_at d (rows_in s.args.rows.now.sound.pool.now s.args.rows.now.sound.table)
+layer_words : (s : Start) (d : _) → d < s.args.rows.now.sound.table.now.arity → layer_in s.args.rows.now.sound.pool.now s.args.rows.now.sound.table.now d ≡ ranked_at d (rows_in s.args.rows.now.sound.pool.now s.args.rows.now.sound.table.now)
 layer_words s d h = layer_is (whole s) (in_pool (sound s)) (held s) d h
 
 -- what the search in a group found
-place : (c : After-find_place-p) → layer_in c.args.rows.now.sound.pool.now c.args.rows.now.sound.table c.loop-d.d ≡ ranked_at c.loop-d.d (rows_in c.args.rows.now.sound.pool.now c.args.rows.now.sound.table)
-    → KeyPlaceOf (ranked_at c.loop-d.d (rows_in c.args.rows.now.sound.pool.now c.args.rows.now.sound.table)) c.loop-d.i (get_or c.args.tuple.now c.loop-d.d 0) c.find_place-p.result
+place : (c : After-find_place-p) → layer_in c.args.rows.now.sound.pool.now c.args.rows.now.sound.table.now c.loop-d.d ≡ ranked_at c.loop-d.d (rows_in c.args.rows.now.sound.pool.now c.args.rows.now.sound.table.now)
+    → KeyPlaceOf (ranked_at c.loop-d.d (rows_in c.args.rows.now.sound.pool.now c.args.rows.now.sound.table.now)) c.loop-d.i (get_or c.args.tuple.now c.loop-d.d 0) c.find_place-p.result
 place c e = subst (λ (l : Layer). KeyPlaceOf l c.loop-d.i (get_or c.args.tuple.now c.loop-d.d 0) c.find_place-p.result) (c.layer.ensures ∙ e) c.find_place-p.ensures
 
 pub loop-d-init : goal.loop-d-init
-loop-d-init c = descending_start c.args.rows.now.sound.table.arity (rows_in c.args.rows.now.sound.pool.now c.args.rows.now.sound.table) c.args.tuple.now (omega (arith, (held (goal.at.loop-d-init c).Start).counted, c.requires.1))
+loop-d-init c = descending_start c.args.rows.now.sound.table.now.arity (rows_in c.args.rows.now.sound.pool.now c.args.rows.now.sound.table.now) c.args.tuple.now (omega (arith, (held (goal.at.loop-d-init c).Start).counted, c.requires.1))
 
 pub bounds-tuple-d : goal.bounds-tuple-d
 bounds-tuple-d c = omega (arith, c.requires.0)

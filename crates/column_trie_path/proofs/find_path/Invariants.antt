@@ -4,4 +4,4 @@ use Rattle.column_trie_path.proofs.Walks.{Descending}
 use Rattle.column_trie_path.proofs.find_path.Given as goal
 
 abbrev pub invariant-loop-d : goal.invariant-loop-d
-invariant-loop-d l = Descending l.rows.sound.table.arity (rows_in l.rows.sound.pool.now l.rows.sound.table) l.tuple l.d l.i l.fork
+invariant-loop-d l = Descending l.rows.sound.table.now.arity (rows_in l.rows.sound.pool.now l.rows.sound.table.now) l.tuple l.d l.i l.fork

@@ -17,7 +17,7 @@ use Rattle.descent.specs.Descent.{Completes}
 use Rattle.descent.proofs.Walking.{walk_start, walk_below, walk_agreed, walk_same, walk_full, walk_next, walk_none, steps_less, few_variables, deep_enough, variable_small, from_above}
 use Rattle.descent.proofs.Counting.{counting_start, completes_leaf, counting_none, counting_full, counting_next}
 use Rattle.descent.proofs.+descend.Goals as goal
-use Rattle.descent.proofs.+descend.Goals.{After-open-first, Joined-depth-join-2, then-depth-join-2, else-depth-join-2}
+use Rattle.descent.proofs.+descend.Goals.{After-open-first, Joined-last, then-last, else-last}
 
 -- a variable is left
 deep : {pool : List ℕ} {plan : Plan} {ends : List ℕ} {n d : ℕ} {above owned : List ℕ} → Standing pool plan ends n d above owned → (d ≡ n → ⊥) → d < n
@@ -93,8 +93,8 @@ pub bounds-row-v : goal.bounds-row-v
 bounds-row-v t c = let st = c.requires.standing in variable_small st (deep st c.if-depth-join.false)
 
 -- it was the last variable's
-pub emit-requires-then-depth-join-2 : goal.emit-requires-then-depth-join-2
-emit-requires-then-depth-join-2 t c = open_own c.loop-landed.invariant.3
+pub emit-requires-then-last : goal.emit-requires-then-last
+emit-requires-then-last t c = open_own c.loop-landed.invariant.3
 
 -- or there are more
 pub descend-below-requires : goal.descend-below-requires
@@ -105,14 +105,14 @@ descend-below-requires t c =
     (omega (arith, c.decreases, below), (walk_below (opened t (goal.at.descend-below-requires t c).After-open-first).begun st below c.in-Key.is i.0, i.3))
 
 -- either way the rows that complete it are written
-under : (t : ℕ) (u : Joined-depth-join-2 t) → let l = u.loop-landed in let a = u.args in let w = u.if-depth-join-2 in Kept l.window w.window × Completes a.join.now.leap.pool.now a.join.now.plan.now a.join.now.leap.ends.now a.join.now.n (a.depth + 1) l.state.at l.state.own (set l.row (variable_at a.join.now.plan.now a.depth) u.in-Key.key) l.window.words.now l.window.rows l.seeks w.window.words.now w.window.rows w.window.full w.below
+under : (t : ℕ) (u : Joined-last t) → let l = u.loop-landed in let a = u.args in let w = u.if-last in Kept l.window w.window × Completes a.join.now.leap.pool.now a.join.now.plan.now a.join.now.leap.ends.now a.join.now.n (a.depth + 1) l.state.at l.state.own (set l.row (variable_at a.join.now.plan.now a.depth) u.in-Key.key) l.window.words.now l.window.rows l.seeks w.window.words.now w.window.rows w.window.full w.below
 under t u =
     let l = u.loop-landed in
     let a = u.args in
     let left = λ (w : Window) (seeks : ℕ). Kept l.window w × Completes a.join.now.leap.pool.now a.join.now.plan.now a.join.now.leap.ends.now a.join.now.n (a.depth + 1) l.state.at l.state.own (set l.row (variable_at a.join.now.plan.now a.depth) u.in-Key.key) l.window.words.now l.window.rows l.seeks w.words.now w.rows w.full seeks in
-    elim u.if-depth-join-2.branch [
-      | then-depth-join-2 w ↦ came left w.window-is w.below-is (w.emit-then-depth-join-2.ensures.kept, completes_leaf w.if-depth-join-2.true (emitted_on l.invariant.3 _ w.emit-then-depth-join-2.ensures.stands))
-      | else-depth-join-2 w ↦ came left w.window-is w.below-is (w.descend-below.ensures.kept, w.descend-below.ensures.completes)
+    elim u.if-last.branch [
+      | then-last w ↦ came left w.window-is w.below-is (w.emit-then-last.ensures.kept, completes_leaf w.if-last.true (emitted_on l.invariant.3 _ w.emit-then-last.ensures.stands))
+      | else-last w ↦ came left w.window-is w.below-is (w.descend-below.ensures.kept, w.descend-below.ensures.completes)
     ]
 
 -- the window is full
@@ -122,7 +122,7 @@ returns-then-window t c =
     let below = deep st c.if-depth-join.false in
     let o = opened t (goal.at.returns-then-window t c).After-open-first in
     let i = c.loop-landed.invariant in
-    let u = under t (goal.at.returns-then-window t c).Joined-depth-join-2 in
+    let u = under t (goal.at.returns-then-window t c).Joined-last in
     record {
       kept = kept_on i.2 u.0;
       completes = record {
@@ -151,7 +151,7 @@ loop-landed-preserved t c =
     let below = deep st c.if-depth-join.false in
     let o = opened t (goal.at.loop-landed-preserved t c).After-open-first in
     let i = c.loop-landed.invariant in
-    let u = under t (goal.at.loop-landed-preserved t c).Joined-depth-join-2 in
+    let u = under t (goal.at.loop-landed-preserved t c).Joined-last in
     let going = c.if-window.false in (
       walk_next o.begun st below c.in-Key.is i.0 u.1.descended going c.onward-next.ensures.steps,
       counting_next o below i.1 c.in-Key.is i.0 u.1 going c.onward-next.ensures,

@@ -4,7 +4,7 @@ use Rattle.file_rows.proofs.Fields.{FieldsLaid}
 use Rattle.file_rows.proofs.put_fields.Given as goal
 
 abbrev pub invariant-loop-i : goal.invariant-loop-i
-invariant-loop-i l = FieldsLaid l.rows.sound.pool.now l.rows.sound.table l.initial.bytes l.at l.bytes l.path l.p l.i
+invariant-loop-i l = FieldsLaid l.rows.sound.pool.now l.rows.sound.table.now l.initial.bytes l.at l.bytes l.path l.p l.i
 
 abbrev pub decreases-loop-i : goal.decreases-loop-i
-decreases-loop-i l = l.rows.sound.table.tuple_count - l.i
+decreases-loop-i l = l.rows.sound.table.now.tuple_count - l.i

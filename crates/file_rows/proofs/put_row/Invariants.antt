@@ -8,4 +8,4 @@ use Rattle.table_file.specs.Bytes.{encode}
 use Rattle.file_rows.proofs.put_row.Given as goal
 
 abbrev pub invariant-loop-d : goal.invariant-loop-d
-invariant-loop-d l = l.bytes ≡ lay l.initial.bytes l.at (encode (take l.d (get_or (rows_in l.rows.sound.pool.now l.rows.sound.table) l.i [])))
+invariant-loop-d l = l.bytes ≡ lay l.initial.bytes l.at (encode (take l.d (get_or (rows_in l.rows.sound.pool.now l.rows.sound.table.now) l.i [])))

@@ -60,4 +60,4 @@ put_tag-requires c =
     (omega (arith, c.requires.1, parts s, (laid (goal.at.put_tag-requires c).After-put_head-body).ends, headed (goal.at.put_tag-requires c).After-put_head-body, f.ensures.ends, ap length f.ensures.is, lay_length c.put_head-body.new.bytes c.put_head-body.result (fields_in s.args.pool.now s.args.t)), omega arith)
 
 pub returns : goal.returns
-returns c = file_laid c.args.pool.now c.args.t (laid (goal.at.returns c).After-put_head-body) c.put_fields-end.ensures c.put_tag.ensures
+returns c = file_laid c.args.pool.now c.args.t (laid (goal.at.returns c).After-put_head-body) c.put_fields-end.ensures (rw c.byte.ensures at c.put_tag.ensures)

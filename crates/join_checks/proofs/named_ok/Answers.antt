@@ -14,13 +14,13 @@ pub returns-then-count-le-MAX_TABLES : goal.returns-then-count-le-MAX_TABLES
 returns-then-count-le-MAX_TABLES c =
     let a = c.args in
     let h = c.if-count-le-MAX_TABLES.true in
-    names_all a.count a.q (omega (arith, h)) c.all.result (omega (arith, h))
-    (every_first (names_some a.count) no_atom a.q.atoms a.q.atom_count c.atoms.ensures.listed c.atoms.ensures.many c.all.result (search rules) (search rules))
+    names_all a.count a.q.now (omega (arith, h)) c.all.result (omega (arith, h))
+    (every_first (names_some a.count) no_atom a.q.now.atoms a.q.now.atom_count c.atoms.ensures.listed c.atoms.ensures.many c.all.result (search rules) (search rules))
 
 pub returns-else-count-le-MAX_TABLES : goal.returns-else-count-le-MAX_TABLES
 returns-else-count-le-MAX_TABLES c =
     let a = c.args in
     elim c.if-q-le-MAX_ATOMS.branch [
-      | then-q-le-MAX_ATOMS w ↦ let h : 8 < a.count = omega (arith, c.if-count-le-MAX_TABLES.either, w.if-q-le-MAX_ATOMS.true) in w.t-6-is ∙ lt-leb a.count 8 h ∙ tables_many a.count a.q w.if-q-le-MAX_ATOMS.true h
-      | else-q-le-MAX_ATOMS w ↦ w.t-6-is ∙ lt-leb a.q.atom_count 8 w.if-q-le-MAX_ATOMS.false ∙ atoms_many a.count a.q w.if-q-le-MAX_ATOMS.false
+      | then-q-le-MAX_ATOMS w ↦ let h : 8 < a.count = omega (arith, c.if-count-le-MAX_TABLES.either, w.if-q-le-MAX_ATOMS.true) in w.t-5-is ∙ lt-leb a.count 8 h ∙ tables_many a.count a.q.now w.if-q-le-MAX_ATOMS.true h
+      | else-q-le-MAX_ATOMS w ↦ w.t-5-is ∙ lt-leb a.q.now.atom_count 8 w.if-q-le-MAX_ATOMS.false ∙ atoms_many a.count a.q.now w.if-q-le-MAX_ATOMS.false
     ]

@@ -10,11 +10,11 @@ use Rattle.join_checks.proofs.order_ok.Goals as goal
 use Rattle.join_checks.proofs.order_ok.Goals.{Start}
 
 -- what the parameter's type says
-long : (s : Start) → length s.args.q.order ≡ max_variables
+long : (s : Start) → length s.args.q.now.order ≡ max_variables
 long s = search rules
 
 pub returns-then-q-le-MAX_VARIABLES : goal.returns-then-q-le-MAX_VARIABLES
-returns-then-q-le-MAX_VARIABLES c = c.permutes.ensures ∙ order_asked c.args.q (long (goal.at.returns-then-q-le-MAX_VARIABLES c).Start) c.if-q-le-MAX_VARIABLES.true
+returns-then-q-le-MAX_VARIABLES c = c.permutes.ensures ∙ order_asked c.args.q.now (long (goal.at.returns-then-q-le-MAX_VARIABLES c).Start) c.if-q-le-MAX_VARIABLES.true
 
 pub returns-else-q-le-MAX_VARIABLES : goal.returns-else-q-le-MAX_VARIABLES
-returns-else-q-le-MAX_VARIABLES c = lt-leb c.args.q.n 8 (omega arith) ∙ too_many c.args.q (omega arith)
+returns-else-q-le-MAX_VARIABLES c = lt-leb c.args.q.now.n 8 (omega arith) ∙ too_many c.args.q.now (omega arith)

@@ -11,7 +11,7 @@ use borrow.Author.Rules.{rules}
 use Rattle.listed_rows.proofs.answers.Goals as goal
 use Rattle.listed_rows.proofs.answers.Goals.{Start}
 
-few : (s : Start) → s.args.asked.query.n ≤ max_variables
+few : (s : Start) → s.args.asked.query.now.n ≤ max_variables
 few s = (sized s.args.asked.passed.accepted).few
 
 -- what the parameter's type says

@@ -15,7 +15,7 @@ use Rattle.listed_rows.proofs.comes_before.Goals.{In-loop-d, Start}
 -- the variable at a place of the order, which is below n
 module _ (t : In-loop-d) where
   abbrev q : Query
-  q = t.args.q
+  q = t.args.q.now
 
   abbrev d : ℕ
   d = t.loop-d.d
@@ -56,14 +56,14 @@ bounds-b-v c = omega (arith, below (goal.at.bounds-b-v c).In-loop-d)
 pub returns-then-a-v : goal.returns-then-a-v
 returns-then-a-v c =
     let a = c.args in
-    sym (c.loop-d.invariant ∙ other_word (order_of a.q) a.a a.b c.loop-d.d (get_or a.q.order c.loop-d.d 0) (inside (goal.at.returns-then-a-v c).In-loop-d) (variable (goal.at.returns-then-a-v c).In-loop-d) c.if-a-v.true)
+    sym (c.loop-d.invariant ∙ other_word (order_of a.q.now) a.a a.b c.loop-d.d (get_or a.q.now.order c.loop-d.d 0) (inside (goal.at.returns-then-a-v c).In-loop-d) (variable (goal.at.returns-then-a-v c).In-loop-d) c.if-a-v.true)
 
 pub loop-d-preserved : goal.loop-d-preserved
 loop-d-preserved c =
     let a = c.args in
-    (c.loop-d.invariant ∙ same_word (order_of a.q) a.a a.b c.loop-d.d (get_or a.q.order c.loop-d.d 0) (inside (goal.at.loop-d-preserved c).In-loop-d) (variable (goal.at.loop-d-preserved c).In-loop-d) c.if-a-v.false)
+    (c.loop-d.invariant ∙ same_word (order_of a.q.now) a.a a.b c.loop-d.d (get_or a.q.now.order c.loop-d.d 0) (inside (goal.at.loop-d-preserved c).In-loop-d) (variable (goal.at.loop-d-preserved c).In-loop-d) c.if-a-v.false)
 
 pub returns : goal.returns
 returns c =
     let a = c.args in
-    sym (c.loop-d.invariant ∙ no_word (order_of a.q) a.a a.b c.loop-d.d (drop_of_length-le (order_of a.q) {i = c.loop-d.d} (omega (arith, c.requires.permutation.size, c.loop-d-test.false))))
+    sym (c.loop-d.invariant ∙ no_word (order_of a.q.now) a.a a.b c.loop-d.d (drop_of_length-le (order_of a.q.now) {i = c.loop-d.d} (omega (arith, c.requires.permutation.size, c.loop-d-test.false))))

@@ -15,21 +15,21 @@ use Rattle.listed_rows.proofs.first_wrong.Goals as goal
 use Rattle.listed_rows.proofs.first_wrong.Goals.{In-loop-i}
 
 -- what the test says of the row, among all of them
-tested : (t : In-loop-i) → let a = t.args in (b : Bool) → b ≡ good (order_of a.asked.query) (complete a.asked.pool.now a.asked.tables a.asked.query) (cut (t.loop-i.i + 1) a.asked.query.n a.listing.now) t.loop-i.i → good (order_of a.asked.query) (complete a.asked.pool.now a.asked.tables a.asked.query) (cut a.rows a.asked.query.n a.listing.now) t.loop-i.i ≡ b
+tested : (t : In-loop-i) → let a = t.args in (b : Bool) → b ≡ good (order_of a.asked.query.now) (complete a.asked.pool.now a.asked.tables.now a.asked.query.now) (cut (t.loop-i.i + 1) a.asked.query.now.n a.listing.now) t.loop-i.i → good (order_of a.asked.query.now) (complete a.asked.pool.now a.asked.tables.now a.asked.query.now) (cut a.rows a.asked.query.now.n a.listing.now) t.loop-i.i ≡ b
 tested t b e =
     let a = t.args in
-    good_any (order_of a.asked.query) (complete a.asked.pool.now a.asked.tables a.asked.query) a.asked.query.n a.listing.now a.rows (t.loop-i.i + 1) t.loop-i.i t.loop-i-test.true (omega arith) ∙ sym e
+    good_any (order_of a.asked.query.now) (complete a.asked.pool.now a.asked.tables.now a.asked.query.now) a.asked.query.now.n a.listing.now a.rows (t.loop-i.i + 1) t.loop-i.i t.loop-i-test.true (omega arith) ∙ sym e
 
 pub loop-i-init : goal.loop-i-init
-loop-i-init c = c.requires.2
+loop-i-init c = λ k h. c.requires.2 k (omega (arith, h))
 
 pub good-requires : goal.good-requires
-good-requires c = row_inside c.loop-i.i c.args.rows c.args.asked.query.n (length c.args.listing.now) c.loop-i-test.true c.requires.0
+good-requires c = row_inside c.loop-i.i c.args.rows c.args.asked.query.now.n (length c.args.listing.now) c.loop-i-test.true c.requires.0
 
 pub returns-then-not-good-clause-number : goal.returns-then-not-good-clause-number
 returns-then-not-good-clause-number c =
     let a = c.args in
-    sym (fail_is a.rows (good (order_of a.asked.query) (complete a.asked.pool.now a.asked.tables a.asked.query) (cut a.rows a.asked.query.n a.listing.now)) c.loop-i.i (omega (arith, c.requires.1)) c.loop-i.invariant (λ h. tested (goal.at.returns-then-not-good-clause-number c).In-loop-i c.good.result c.good.ensures ∙ c.if-not-good.true))
+    sym (fail_is a.rows (good (order_of a.asked.query.now) (complete a.asked.pool.now a.asked.tables.now a.asked.query.now) (cut a.rows a.asked.query.now.n a.listing.now)) c.loop-i.i (omega (arith, c.requires.1)) c.loop-i.invariant (λ h. tested (goal.at.returns-then-not-good-clause-number c).In-loop-i c.good.result c.good.ensures ∙ c.if-not-good.true))
 
 pub loop-i-preserved : goal.loop-i-preserved
 loop-i-preserved c =
@@ -39,4 +39,4 @@ pub returns-clause-number : goal.returns-clause-number
 returns-clause-number c =
     let a = c.args in
     let e : c.loop-i.i ≡ a.rows = omega (arith, c.requires.1) in
-    sym e ∙ sym (fail_is a.rows (good (order_of a.asked.query) (complete a.asked.pool.now a.asked.tables a.asked.query) (cut a.rows a.asked.query.n a.listing.now)) c.loop-i.i (omega (arith, e)) c.loop-i.invariant (λ h. absurd (omega arith)))
+    sym e ∙ sym (fail_is a.rows (good (order_of a.asked.query.now) (complete a.asked.pool.now a.asked.tables.now a.asked.query.now) (cut a.rows a.asked.query.now.n a.listing.now)) c.loop-i.i (omega (arith, e)) c.loop-i.invariant (λ h. absurd (omega arith)))

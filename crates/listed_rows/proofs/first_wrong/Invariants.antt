@@ -9,4 +9,4 @@ use Rattle.listing_verdict.specs.Verdict.{good}
 use Rattle.listed_rows.proofs.first_wrong.Given as goal
 
 abbrev pub invariant-loop-i : goal.invariant-loop-i
-invariant-loop-i l = (k : ℕ) → k < l.i → good (order_of l.asked.query) (complete l.asked.pool.now l.asked.tables l.asked.query) (cut l.rows l.asked.query.n l.listing) k ≡ true
+invariant-loop-i l = (k : ℕ) → k < l.i → good (order_of l.asked.query.now) (complete l.asked.pool.now l.asked.tables.now l.asked.query.now) (cut l.rows l.asked.query.now.n l.listing) k ≡ true

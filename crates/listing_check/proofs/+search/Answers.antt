@@ -42,7 +42,7 @@ meet-requires t c = let r = c.requires in ((sized c.args.asked.passed.accepted).
 pub returns-then-left-eq0 : goal.returns-then-left-eq0
 returns-then-left-eq0 t c =
     let a = c.args in
-    c.meet.ensures ∙ leaf a.asked.query.n (atoms_of a.asked.pool.now a.asked.tables a.asked.query) a.found (cut a.rows a.asked.query.n a.listing.now) a.from (none_left c.args.asked.passed.accepted a.left c.if-left-eq0.true)
+    c.meet.ensures ∙ leaf a.asked.query.now.n (atoms_of a.asked.pool.now a.asked.tables.now a.asked.query.now) a.found (cut a.rows a.asked.query.now.n a.listing.now) a.from (none_left c.args.asked.passed.accepted a.left c.if-left-eq0.true)
 
 -- ---- the next variable, and the first key
 
@@ -53,7 +53,7 @@ pub bounds-asked-asked : goal.bounds-asked-asked
 bounds-asked-asked t c = omega (arith, (sized c.args.asked.passed.accepted).few, c.if-left-eq0.false, c.requires.0)
 
 pub holder-first-requires : goal.holder-first-requires
-holder-first-requires t c = record { pool = c.args.asked.pool.now; tables = c.args.asked.tables; passed = c.args.asked.passed; below = below c.args.asked.passed.accepted (omega (arith, c.if-left-eq0.false)) c.requires.0 }
+holder-first-requires t c = record { pool = c.args.asked.pool.now; tables = c.args.asked.tables.now; passed = c.args.asked.passed; below = below c.args.asked.passed.accepted (omega (arith, c.if-left-eq0.false)) c.requires.0 }
 
 pub offset_bounds-asked-first : goal.offset_bounds-asked-first
 offset_bounds-asked-first t c = omega (arith, c.holder-first.ensures.0.inside, (names c.args.asked.passed.accepted).few)
@@ -70,7 +70,7 @@ bounds-row-v t c = inside c.args.asked.passed.accepted (omega (arith, c.if-left-
 pub next_key-next-requires : goal.next_key-next-requires
 next_key-next-requires t c =
     let a = c.args in
-    first_reads c.args.asked.passed.accepted (get_or a.asked.query.order (a.asked.query.n - a.left) 0) (below c.args.asked.passed.accepted (omega (arith, c.if-left-eq0.false)) c.requires.0) c.holder-first.ensures.0 c.holder-first.ensures.1
+    first_reads c.args.asked.passed.accepted (get_or a.asked.query.now.order (a.asked.query.now.n - a.left) 0) (below c.args.asked.passed.accepted (omega (arith, c.if-left-eq0.false)) c.requires.0) c.holder-first.ensures.0 c.holder-first.ensures.1
 
 pub loop-next-init : goal.loop-next-init
 loop-next-init t c =
@@ -78,11 +78,11 @@ loop-next-init t c =
     let s : 0 < a.left = omega (arith, c.if-left-eq0.false) in
     let h = c.requires.0 in
     let z = c.args.asked.passed.accepted in
-    let v = get_or a.asked.query.order (a.asked.query.n - a.left) 0 in
+    let v = get_or a.asked.query.now.order (a.asked.query.now.n - a.left) 0 in
     let l : length a.found ≡ max_variables = search rules in (
       s,
       h,
-      walking_start z a.left s h (set a.found v 0) (cut a.rows a.asked.query.n a.listing.now) a.from
+      walking_start z a.left s h (set a.found v 0) (cut a.rows a.asked.query.now.n a.listing.now) a.from
           (next_tried z v (below z s h) c.holder-first.ensures.0 (set a.found v 0) a.found (λ x. sym (set-set a.found v 0 x)) l 0 false c.holder-first.ensures.1 c.next_key-next.ensures)
           (length-set a.found v 0 ∙ l) c.requires.3,
     )
@@ -95,6 +95,9 @@ offset_bounds-row-v-in-Some t c = let i = c.loop-next.invariant in omega (arith,
 pub bounds-row-v-in-Some : goal.bounds-row-v-in-Some
 bounds-row-v-in-Some t c = let i = c.loop-next.invariant in inside c.args.asked.passed.accepted i.0 i.1
 
+pub overflow_add-first : goal.overflow_add-first
+overflow_add-first t c = omega (arith, c.holder-first.ensures.0.inside, (names c.args.asked.passed.accepted).few)
+
 pub all_hold-requires : goal.all_hold-requires
 all_hold-requires t c = let i = c.loop-next.invariant in inside c.args.asked.passed.accepted i.0 i.1
 
@@ -103,23 +106,23 @@ search-met-requires t c =
     let a = c.args in
     let i = c.loop-next.invariant in
     let z = c.args.asked.passed.accepted in
-    let v = get_or a.asked.query.order (a.asked.query.n - a.left) 0 in
+    let v = get_or a.asked.query.now.order (a.asked.query.now.n - a.left) 0 in
     let l : length a.found ≡ max_variables = search rules in
-    let p = padded_set a.asked.query.n a.found v 0 (below c.args.asked.passed.accepted i.0 i.1) (omega (arith, (sized z).few, l)) c.requires.2 in
-    (omega (arith, c.decreases, i.0), (omega (arith, i.1), c.requires.1, walking_padded z a.left i.0 i.1 (set a.found v 0) (cut a.rows a.asked.query.n a.listing.now) a.from i.2 c.in-Some.key p (length-set a.found v 0 ∙ l), i.2.agrees))
+    let p = padded_set a.asked.query.now.n a.found v 0 (below c.args.asked.passed.accepted i.0 i.1) (omega (arith, (sized z).few, l)) c.requires.2 in
+    (omega (arith, c.decreases, i.0), (omega (arith, i.1), c.requires.1, walking_padded z a.left i.0 i.1 (set a.found v 0) (cut a.rows a.asked.query.now.n a.listing.now) a.from i.2 c.in-Some.key p (length-set a.found v 0 ∙ l), i.2.agrees))
 
 pub returns-then-is_some : goal.returns-then-is_some
 returns-then-is_some t c =
     let a = c.args in
     let i = c.loop-next.invariant in
     let z = c.args.asked.passed.accepted in
-    let v = get_or a.asked.query.order (a.asked.query.n - a.left) 0 in
+    let v = get_or a.asked.query.now.order (a.asked.query.now.n - a.left) 0 in
     let g = set a.found v 0 in
     let k = c.in-Some.key in
     let found = c.in-Some.is in
-    let lines = cut a.rows a.asked.query.n a.listing.now in
+    let lines = cut a.rows a.asked.query.now.n a.listing.now in
     -- the tests made are those of all atoms
-    let tested : c.all_hold.result ≡ all_hold v (set c.loop-next.row v k) (atoms_of a.asked.pool.now a.asked.tables a.asked.query) =
+    let tested : c.all_hold.result ≡ all_hold v (set c.loop-next.row v k) (atoms_of a.asked.pool.now a.asked.tables.now a.asked.query.now) =
     rest_holds z v (below c.args.asked.passed.accepted i.0 i.1) c.holder-first.ensures.0 g c.loop-next.row i.2.same i.2.row_long k (i.2.among k found) c.all_hold.ensures in
     walking_lacks z a.left i.0 i.1 g lines a.from i.2 found
     (under_key z a.left i.0 i.1 g lines a.from i.2 found (sym tested ∙ c.if-all_hold.true) c.search-met.ensures)
@@ -130,16 +133,16 @@ pub next_key-next-requires-in-Some : goal.next_key-next-requires-in-Some
 next_key-next-requires-in-Some t c =
     let a = c.args in
     let i = c.loop-next.invariant in
-    first_reads c.args.asked.passed.accepted (get_or a.asked.query.order (a.asked.query.n - a.left) 0) (below c.args.asked.passed.accepted i.0 i.1) c.holder-first.ensures.0 c.holder-first.ensures.1
+    first_reads c.args.asked.passed.accepted (get_or a.asked.query.now.order (a.asked.query.now.n - a.left) 0) (below c.args.asked.passed.accepted i.0 i.1) c.holder-first.ensures.0 c.holder-first.ensures.1
 
 pub loop-next-smaller : goal.loop-next-smaller
 loop-next-smaller t c =
     let a = c.args in
     let i = c.loop-next.invariant in
     let z = c.args.asked.passed.accepted in
-    let v = get_or a.asked.query.order (a.asked.query.n - a.left) 0 in
+    let v = get_or a.asked.query.now.order (a.asked.query.now.n - a.left) 0 in
     let g = set a.found v 0 in
-    walking_less z a.left i.0 i.1 g (cut a.rows a.asked.query.n a.listing.now) a.from i.2 c.in-Some.is
+    walking_less z a.left i.0 i.1 g (cut a.rows a.asked.query.now.n a.listing.now) a.from i.2 c.in-Some.is
     (next_tried z v (below c.args.asked.passed.accepted i.0 i.1) c.holder-first.ensures.0 g c.loop-next.row i.2.same i.2.row_long c.in-Some.key true c.holder-first.ensures.1 c.next_key-next-in-Some.ensures)
 
 pub loop-next-preserved : goal.loop-next-preserved
@@ -147,16 +150,16 @@ loop-next-preserved t c =
     let a = c.args in
     let i = c.loop-next.invariant in
     let z = c.args.asked.passed.accepted in
-    let v = get_or a.asked.query.order (a.asked.query.n - a.left) 0 in
+    let v = get_or a.asked.query.now.order (a.asked.query.now.n - a.left) 0 in
     let g = set a.found v 0 in
     let k = c.in-Some.key in
     let found = c.in-Some.is in
-    let lines = cut a.rows a.asked.query.n a.listing.now in
+    let lines = cut a.rows a.asked.query.now.n a.listing.now in
     -- the tests made are those of all atoms
-    let tested : c.all_hold.result ≡ all_hold v (set c.loop-next.row v k) (atoms_of a.asked.pool.now a.asked.tables a.asked.query) =
+    let tested : c.all_hold.result ≡ all_hold v (set c.loop-next.row v k) (atoms_of a.asked.pool.now a.asked.tables.now a.asked.query.now) =
     rest_holds z v (below c.args.asked.passed.accepted i.0 i.1) c.holder-first.ensures.0 g c.loop-next.row i.2.same i.2.row_long k (i.2.among k found) c.all_hold.ensures in
     -- the next key of those left
-    let then : c.next_key-next-in-Some.result ≡ head_of (from (suc k) (tried v g (atoms_of a.asked.pool.now a.asked.tables a.asked.query))) =
+    let then : c.next_key-next-in-Some.result ≡ head_of (from (suc k) (tried v g (atoms_of a.asked.pool.now a.asked.tables.now a.asked.query.now))) =
     next_tried z v (below c.args.asked.passed.accepted i.0 i.1) c.holder-first.ensures.0 g c.loop-next.row i.2.same i.2.row_long k true c.holder-first.ensures.1 c.next_key-next-in-Some.ensures in (
       i.0,
       i.1,
@@ -178,6 +181,6 @@ pub returns : goal.returns
 returns t c =
     let a = c.args in
     let i = c.loop-next.invariant in
-    let lines = cut a.rows a.asked.query.n a.listing.now in
-    walking_done c.args.asked.passed.accepted a.left i.0 i.1 (set a.found (get_or a.asked.query.order (a.asked.query.n - a.left) 0) 0) lines a.from i.2 c.in_default.is
+    let lines = cut a.rows a.asked.query.now.n a.listing.now in
+    walking_done c.args.asked.passed.accepted a.left i.0 i.1 (set a.found (get_or a.asked.query.now.order (a.asked.query.now.n - a.left) 0) 0) lines a.from i.2 c.in_default.is
     ∙ ap (meets lines a.from) (given_before c.args.asked.passed.accepted a.left i.0 i.1 a.found 0)

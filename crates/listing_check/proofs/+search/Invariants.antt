@@ -12,8 +12,8 @@ abbrev pub decreases-search : goal.decreases-search
 decreases-search l = l.left
 
 abbrev pub invariant-loop-next : goal.invariant-loop-next
-invariant-loop-next l = (s : 0 < l.left) × (h : l.left ≤ l.asked.query.n) × Walking l.asked.passed.accepted l.left s h l.initial.row (cut l.rows l.asked.query.n l.listing) l.initial.met l.next l.row l.met
+invariant-loop-next l = (s : 0 < l.left) × (h : l.left ≤ l.asked.query.now.n) × Walking l.asked.passed.accepted l.left s h l.initial.row (cut l.rows l.asked.query.now.n l.listing) l.initial.met l.next l.row l.met
 
 -- how many keys are left
 abbrev pub decreases-loop-next : goal.decreases-loop-next
-decreases-loop-next l = length (todo (tried l.v l.initial.row (atoms_of l.asked.pool.now l.asked.tables l.asked.query)) l.next)
+decreases-loop-next l = length (todo (tried l.v l.initial.row (atoms_of l.asked.pool.now l.asked.tables.now l.asked.query.now)) l.next)

@@ -13,7 +13,7 @@ use Rattle.listing_check.proofs.verdict.Goals.{in-Some-missing, in-None}
 
 pub search-end-requires : goal.search-end-requires
 search-end-requires c =
-    (omega arith, c.requires, padded_none c.args.asked.query.n (sized c.args.asked.passed.accepted).few, refl)
+    (omega arith, c.requires, padded_none c.args.asked.query.now.n (sized c.args.asked.passed.accepted).few, refl)
 
 pub first_wrong-requires : goal.first_wrong-requires
 first_wrong-requires c =

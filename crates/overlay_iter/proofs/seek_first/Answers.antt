@@ -9,4 +9,4 @@ pub overflow_add-result : goal.overflow_add-result
 overflow_add-result c =
     let l = c.args.laid.now in
     let i = c.args.iter in
-    omega (arith, ap (λ (x : SeekAnswer). x.probes) c.seek-s.ensures, ap (λ (x : SeekAnswer). x.probes) c.seek-m.ensures, probes_few l.school_pool.now l.school i.school c.args.strategy c.args.target (omega (arith, c.well_formed)), probes_few l.maker_pool.now l.maker i.maker c.args.strategy c.args.target (omega (arith, c.well_formed)))
+    omega (arith, ap (λ (x : SeekAnswer). x.probes) c.seek-s.ensures, ap (λ (x : SeekAnswer). x.probes) c.seek-m.ensures, probes_few l.school_pool.now l.school.now i.school c.args.strategy c.args.target (omega (arith, c.well_formed)), probes_few l.maker_pool.now l.maker.now i.maker c.args.strategy c.args.target (omega (arith, c.well_formed)))

@@ -7,4 +7,4 @@ use Rattle.plain.specs.Plain.{all_hold}
 use Rattle.plain_atoms.proofs.all_hold.Given as goal
 
 abbrev pub invariant-loop-i : goal.invariant-loop-i
-invariant-loop-i l = all_hold l.v l.row (drop l.i (atoms_of l.asked.pool.now l.asked.tables l.asked.query)) ≡ all_hold l.v l.row (drop l.from (atoms_of l.asked.pool.now l.asked.tables l.asked.query))
+invariant-loop-i l = all_hold l.v l.row (drop l.i (atoms_of l.asked.pool.now l.asked.tables.now l.asked.query.now)) ≡ all_hold l.v l.row (drop l.from (atoms_of l.asked.pool.now l.asked.tables.now l.asked.query.now))

@@ -18,11 +18,11 @@ pub column-requires : goal.column-requires
 column-requires c = (lists c.requires.passed.accepted c.loop-i.i c.loop-i-test.true).short
 
 pub loop-i-preserved : goal.loop-i-preserved
-loop-i-preserved c = below_more (λ (j : ℕ). In (atom_at c.args.query j) c.args.v → ⊥) c.loop-i.i c.loop-i.invariant (λ m. omega (arith, column_none (atom_at c.args.query c.loop-i.i) c.args.v c.in_default.ensures.place, m))
+loop-i-preserved c = below_more (λ (j : ℕ). In (atom_at c.args.query.now j) c.args.v → ⊥) c.loop-i.i c.loop-i.invariant (λ m. omega (arith, column_none (atom_at c.args.query.now c.loop-i.i) c.args.v c.in_default.ensures.place, m))
 
 pub returns-in-Some : goal.returns-in-Some
 returns-in-Some c =
-    let k = column_some (atom_at c.args.query c.loop-i.i) c.args.v c.in-Some.ensures.place in
+    let k = column_some (atom_at c.args.query.now c.loop-i.i) c.args.v c.in-Some.ensures.place in
     (first_is c.requires.passed.accepted c.args.v c.requires.below c.loop-i.i (omega arith) c.loop-i.invariant (omega (arith, k.0, k.1)), k.0)
 
 pub unreachable-requires : goal.unreachable-requires

@@ -44,9 +44,9 @@ emit-requires t c = open_own c.requires.ready
 pub returns-then-left-eq0 : goal.returns-then-left-eq0
 returns-then-left-eq0 t c =
     let a = c.args in
-    let q = a.asked.query in
+    let q = a.asked.query.now in
     let e = c.emit.ensures in
-    record { kept = e.kept; stands = emitted_as c.requires.ready a.found e.stands ∙ leaf q.n (atoms_of a.asked.pool.now a.asked.tables q) a.found (progress a.window.now) (none_left c.args.asked.passed.accepted a.left c.if-left-eq0.true) }
+    record { kept = e.kept; stands = emitted_as c.requires.ready a.found e.stands ∙ leaf q.n (atoms_of a.asked.pool.now a.asked.tables.now q) a.found (progress a.window.now) (none_left c.args.asked.passed.accepted a.left c.if-left-eq0.true) }
 
 -- ---- the next variable, and the first key
 
@@ -57,7 +57,7 @@ pub bounds-asked-asked : goal.bounds-asked-asked
 bounds-asked-asked t c = omega (arith, (sized c.args.asked.passed.accepted).few, c.if-left-eq0.false, c.requires.left)
 
 pub holder-first-requires : goal.holder-first-requires
-holder-first-requires t c = record { pool = c.args.asked.pool.now; tables = c.args.asked.tables; passed = c.args.asked.passed; below = omega (arith, below c.args.asked.passed.accepted (omega (arith, c.if-left-eq0.false)) c.requires.left) }
+holder-first-requires t c = record { pool = c.args.asked.pool.now; tables = c.args.asked.tables.now; passed = c.args.asked.passed; below = omega (arith, below c.args.asked.passed.accepted (omega (arith, c.if-left-eq0.false)) c.requires.left) }
 
 pub offset_bounds-asked-first : goal.offset_bounds-asked-first
 offset_bounds-asked-first t c = omega (arith, c.holder-first.ensures.0.inside, (names c.args.asked.passed.accepted).few)
@@ -82,7 +82,7 @@ loop-next-init t c =
     let s : 0 < a.left = omega (arith, c.if-left-eq0.false) in
     let h = c.requires.left in
     let z = c.args.asked.passed.accepted in
-    let v = get_or a.asked.query.order (a.asked.query.n - a.left) 0 in
+    let v = get_or a.asked.query.now.order (a.asked.query.now.n - a.left) 0 in
     let long : length a.found ≡ max_variables = search rules in (
       s,
       h,
@@ -100,6 +100,9 @@ offset_bounds-found-v-in-Some t c = let i = c.loop-next.invariant in omega (arit
 pub bounds-found-v-in-Some : goal.bounds-found-v-in-Some
 bounds-found-v-in-Some t c = let i = c.loop-next.invariant in inside c.args.asked.passed.accepted i.0 i.1
 
+pub overflow_add-first : goal.overflow_add-first
+overflow_add-first t c = omega (arith, c.holder-first.ensures.0.inside, (names c.args.asked.passed.accepted).few)
+
 pub all_hold-requires : goal.all_hold-requires
 all_hold-requires t c = let i = c.loop-next.invariant in inside c.args.asked.passed.accepted i.0 i.1
 
@@ -110,14 +113,14 @@ pub next_key-next-requires-in-Some : goal.next_key-next-requires-in-Some
 next_key-next-requires-in-Some t c =
     let a = c.args in
     let i = c.loop-next.invariant in
-    first_reads c.args.asked.passed.accepted (get_or a.asked.query.order (a.asked.query.n - a.left) 0) (below c.args.asked.passed.accepted i.0 i.1) c.holder-first.ensures.0 c.holder-first.ensures.1
+    first_reads c.args.asked.passed.accepted (get_or a.asked.query.now.order (a.asked.query.now.n - a.left) 0) (below c.args.asked.passed.accepted i.0 i.1) c.holder-first.ensures.0 c.holder-first.ensures.1
 
 pub loop-next-smaller : goal.loop-next-smaller
 loop-next-smaller t c =
     let a = c.args in
     let i = c.loop-next.invariant in
     let z = c.args.asked.passed.accepted in
-    let v = get_or a.asked.query.order (a.asked.query.n - a.left) 0 in
+    let v = get_or a.asked.query.now.order (a.asked.query.now.n - a.left) 0 in
     let g = set a.found v 0 in
     trying_less z a.left i.0 i.1 g a.window.now i.2 c.in-Some.is
     (next_tried z v (below c.args.asked.passed.accepted i.0 i.1) c.holder-first.ensures.0 g c.loop-next.found i.2.same i.2.row_long c.in-Some.key true c.holder-first.ensures.1 c.next_key-next-in-Some.ensures)
@@ -127,11 +130,11 @@ returns-then-window t c =
     let a = c.args in
     let i = c.loop-next.invariant in
     let z = c.args.asked.passed.accepted in
-    let v = get_or a.asked.query.order (a.asked.query.n - a.left) 0 in
+    let v = get_or a.asked.query.now.order (a.asked.query.now.n - a.left) 0 in
     let g = set a.found v 0 in
     let k = c.in-Some.key in
     let e = c.search.ensures in
-    let tested : c.all_hold.result ≡ all_hold v (set c.loop-next.found v k) (atoms_of a.asked.pool.now a.asked.tables a.asked.query) =
+    let tested : c.all_hold.result ≡ all_hold v (set c.loop-next.found v k) (atoms_of a.asked.pool.now a.asked.tables.now a.asked.query.now) =
     rest_holds z v (below c.args.asked.passed.accepted i.0 i.1) c.holder-first.ensures.0 g c.loop-next.found i.2.same i.2.row_long k (i.2.among k c.in-Some.is) c.all_hold.ensures in
     found_before z i.0 i.1 a.found (trying_full z a.left i.0 i.1 g a.window.now i.2 c.in-Some.is e.kept (under_key z a.left i.0 i.1 g a.window.now i.2 c.in-Some.is (sym tested ∙ c.if-all_hold.true) e.stands) c.if-window.true)
 
@@ -140,15 +143,15 @@ loop-next-preserved t c =
     let a = c.args in
     let i = c.loop-next.invariant in
     let z = c.args.asked.passed.accepted in
-    let v = get_or a.asked.query.order (a.asked.query.n - a.left) 0 in
+    let v = get_or a.asked.query.now.order (a.asked.query.now.n - a.left) 0 in
     let g = set a.found v 0 in
     let k = c.in-Some.key in
     let found = c.in-Some.is in
     -- the tests made decide those of all atoms
-    let tested : c.all_hold.result ≡ all_hold v (set c.loop-next.found v k) (atoms_of a.asked.pool.now a.asked.tables a.asked.query) =
+    let tested : c.all_hold.result ≡ all_hold v (set c.loop-next.found v k) (atoms_of a.asked.pool.now a.asked.tables.now a.asked.query.now) =
     rest_holds z v (below c.args.asked.passed.accepted i.0 i.1) c.holder-first.ensures.0 g c.loop-next.found i.2.same i.2.row_long k (i.2.among k found) c.all_hold.ensures in
     -- the key behind the next
-    let then : c.next_key-next-in-Some.result ≡ head_of (from (suc k) (tried v g (atoms_of a.asked.pool.now a.asked.tables a.asked.query))) =
+    let then : c.next_key-next-in-Some.result ≡ head_of (from (suc k) (tried v g (atoms_of a.asked.pool.now a.asked.tables.now a.asked.query.now))) =
     next_tried z v (below c.args.asked.passed.accepted i.0 i.1) c.holder-first.ensures.0 g c.loop-next.found i.2.same i.2.row_long k true c.holder-first.ensures.1 c.next_key-next-in-Some.ensures in (
       i.0,
       i.1,
@@ -173,4 +176,4 @@ returns t c =
     let a = c.args in
     let i = c.loop-next.invariant in
     let z = c.args.asked.passed.accepted in
-    found_before z i.0 i.1 a.found (trying_done z a.left i.0 i.1 (set a.found (get_or a.asked.query.order (a.asked.query.n - a.left) 0) 0) a.window.now i.2 c.in_default.is)
+    found_before z i.0 i.1 a.found (trying_done z a.left i.0 i.1 (set a.found (get_or a.asked.query.now.order (a.asked.query.now.n - a.left) 0) 0) a.window.now i.2 c.in_default.is)

@@ -39,10 +39,10 @@ abbrev sought : After-next_in-m → ℕ
 sought s = bound s.args.past (get_or (given s) s.args.len 0)
 
 abbrev school : After-next_in-m → List Row
-school s = rows_in s.args.pool.now (table_at s.args.tables s.args.a.table)
+school s = rows_in s.args.pool.now (table_at s.args.tables.now s.args.a.table)
 
 abbrev rows : After-next_in-m → List Row
-rows s = rows_at s.args.pool.now s.args.tables s.args.a
+rows s = rows_at s.args.pool.now s.args.tables.now s.args.a
 
 laid : (e : After-next_in-m) → e.args.a.laid_over ≡ true
 laid e = not-false e.args.a.laid_over e.if-not-a.false
@@ -66,7 +66,7 @@ both_at c l (no n) =
     let z : c.args.len ≡ 0 = omega arith in
     first_heads c.requires (laid c) (sought c)
     (c.next_in-s.ensures ∙ ap (λ (k : ℕ). head_of (from (sought c) (keys_under (take k (given c)) (school c)))) z)
-    (c.next_in-m.ensures ∙ ap (λ (k : ℕ). head_of (from (sought c) (keys_under (take k (given c)) (rows_in c.args.pool.now (table_at c.args.tables c.args.a.maker))))) z)
+    (c.next_in-m.ensures ∙ ap (λ (k : ℕ). head_of (from (sought c) (keys_under (take k (given c)) (rows_in c.args.pool.now (table_at c.args.tables.now c.args.a.maker))))) z)
     ∙ ap (λ (k : ℕ). head_of (from (sought c) (keys_under (take k (given c)) (rows c)))) (sym z)
 
 both : (c : After-next_in-m) → c.args.len ≤ length (given c) → Joint c
@@ -83,7 +83,7 @@ returns-then-not-a c =
     c.next_in-s.ensures
     ∙ ap (λ (k : List ℕ). head_of (from s k))
     (elim c.then-not-a.branch [
-      | then-not-a-via-then-not-a w ↦ ap (keys_under (take a.len g)) (sym (rows_plain a.pool.now a.tables a.a (not-true a.a.laid_over w.if-not-a.true)))
+      | then-not-a-via-then-not-a w ↦ ap (keys_under (take a.len g)) (sym (rows_plain a.pool.now a.tables.now a.a (not-true a.a.laid_over w.if-not-a.true)))
       | then-not-a-via-else-not-a+then-owns w ↦
           let o = not-false a.a.laid_over w.if-not-a.false in
           elim w.if-len-gt0.branch [

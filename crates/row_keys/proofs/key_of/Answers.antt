@@ -13,24 +13,24 @@ use Rattle.row_keys.proofs.Parents.{climbing_start, climbing_on, climbing_at}
 use Rattle.row_keys.proofs.key_of.Goals as goal
 use Rattle.row_keys.proofs.key_of.Goals.{After-loop-e, Start}
 
-whole : (s : Start) → Whole s.args.rows.now.sound.table
+whole : (s : Start) → Whole s.args.rows.now.sound.table.now
 whole s = s.args.rows.now.sound.whole
 
-sound : (s : Start) → Undamaged s.args.rows.now.sound.pool.now s.args.rows.now.sound.table
+sound : (s : Start) → Undamaged s.args.rows.now.sound.pool.now s.args.rows.now.sound.table.now
 sound s = intact s.args.rows.now
 
-fits : (s : Start) → LayerFits (length s.args.rows.now.sound.pool.now) s.args.rows.now.sound.table s.args.d
+fits : (s : Start) → LayerFits (length s.args.rows.now.sound.pool.now) s.args.rows.now.sound.table.now s.args.d
 fits s = layer_fits (in_pool (sound s)) s.requires.1
 
 -- the key where the loop ends
-found : (c : After-loop-e) → KeyAt c.args.rows.now.sound.pool.now c.args.rows.now.sound.table c.args.i c.args.d c.loop-e.place
+found : (c : After-loop-e) → KeyAt c.args.rows.now.sound.pool.now c.args.rows.now.sound.table.now c.args.i c.args.d c.loop-e.place
 found c =
     let l = c.loop-e in
     let e : l.e - 1 ≡ c.args.d = omega (arith, l.invariant.low, c.loop-e-test.false) in
     rw e at (climbing_at (whole c.before.before) (sound c.before.before) l.invariant c.requires.0)
 
 pub loop-e-init : goal.loop-e-init
-loop-e-init c = climbing_start (whole (goal.at.loop-e-init c).Start) (sound (goal.at.loop-e-init c).Start) c.args.i c.args.d (c.args.rows.now.sound.table.arity - 1) c.requires.1 refl
+loop-e-init c = climbing_start (whole (goal.at.loop-e-init c).Start) (sound (goal.at.loop-e-init c).Start) c.args.i c.args.d (c.args.rows.now.sound.table.now.arity - 1) c.requires.1 refl
 
 pub parent_of-place-requires : goal.parent_of-place-requires
 parent_of-place-requires c =

@@ -4,4 +4,4 @@ use Rattle.row_keys.proofs.Parents.{Climbing}
 use Rattle.row_keys.proofs.key_of.Given as goal
 
 abbrev pub invariant-loop-e : goal.invariant-loop-e
-invariant-loop-e l = Climbing l.rows.sound.pool.now l.rows.sound.table l.i l.d (l.e - 1) l.place
+invariant-loop-e l = Climbing l.rows.sound.pool.now l.rows.sound.table.now l.i l.d (l.e - 1) l.place

@@ -15,16 +15,16 @@ use Rattle.row_keys.proofs.Parents.{Parent, parent_is, layer_sound, keys_count}
 use Rattle.row_keys.proofs.parent_of.Goals as goal
 use Rattle.row_keys.proofs.parent_of.Goals.{After-halve, Start}
 
-whole : (s : Start) → Whole s.args.rows.now.sound.table
+whole : (s : Start) → Whole s.args.rows.now.sound.table.now
 whole s = s.args.rows.now.sound.whole
 
-sound : (s : Start) → Undamaged s.args.rows.now.sound.pool.now s.args.rows.now.sound.table
+sound : (s : Start) → Undamaged s.args.rows.now.sound.pool.now s.args.rows.now.sound.table.now
 sound s = intact s.args.rows.now
 
 -- what the search counts
-parent : (q : After-halve) → Parent (layer_in q.args.rows.now.sound.pool.now q.args.rows.now.sound.table q.args.d).intervals q.args.place q.halve.result.offset
+parent : (q : After-halve) → Parent (layer_in q.args.rows.now.sound.pool.now q.args.rows.now.sound.table.now q.args.d).intervals q.args.place q.halve.result.offset
 parent q =
-    let l = layer_in q.args.rows.now.sound.pool.now q.args.rows.now.sound.table q.args.d in
+    let l = layer_in q.args.rows.now.sound.pool.now q.args.rows.now.sound.table.now q.args.d in
     let o = whole q.before.before.before in
     let u = sound q.before.before.before in
     let k = layer_sound o u q.args.d q.requires.0 in

@@ -11,17 +11,17 @@ use Rattle.row_path.proofs.Moves.{Hangs, hangs, moved_last, moved_all, moved_on,
 use Rattle.row_path.proofs.next_path.Goals as goal
 use Rattle.row_path.proofs.next_path.Goals.{Start}
 
-whole : (s : Start) → Whole s.args.rows.now.sound.table
+whole : (s : Start) → Whole s.args.rows.now.sound.table.now
 whole s = s.args.rows.now.sound.whole
 
-sound : (s : Start) → Undamaged s.args.rows.now.sound.pool.now s.args.rows.now.sound.table
+sound : (s : Start) → Undamaged s.args.rows.now.sound.pool.now s.args.rows.now.sound.table.now
 sound s = intact s.args.rows.now
 
-layers : (s : Start) → Hangs s.args.rows.now.sound.pool.now s.args.rows.now.sound.table
+layers : (s : Start) → Hangs s.args.rows.now.sound.pool.now s.args.rows.now.sound.table.now
 layers s = hangs (whole s) (sound s)
 
-starts : (s : Start) (d : ℕ) → d < s.args.rows.now.sound.table.arity → (k : ℕ) {l : Layer} → l ≡ layer_in s.args.rows.now.sound.pool.now s.args.rows.now.sound.table d → {from : ℕ} → from ≡ get_or l.intervals k (length l.keys) →
-    from ≡ get_or (layer (layers_in s.args.rows.now.sound.pool.now s.args.rows.now.sound.table) d).intervals k (length (layer (layers_in s.args.rows.now.sound.pool.now s.args.rows.now.sound.table) d).keys)
+starts : (s : Start) (d : ℕ) → d < s.args.rows.now.sound.table.now.arity → (k : ℕ) {l : Layer} → l ≡ layer_in s.args.rows.now.sound.pool.now s.args.rows.now.sound.table.now d → {from : ℕ} → from ≡ get_or l.intervals k (length l.keys) →
+    from ≡ get_or (layer (layers_in s.args.rows.now.sound.pool.now s.args.rows.now.sound.table.now) d).intervals k (length (layer (layers_in s.args.rows.now.sound.pool.now s.args.rows.now.sound.table.now) d).keys)
 starts s d h k e f = begins_is s.args.rows.now.sound.pool.now (whole s) (sound s).arity.1 d k h e f
 
 pub overflow_sub-path : goal.overflow_sub-path
@@ -37,7 +37,7 @@ pub loop-d-init : goal.loop-d-init
 loop-d-init c =
     let u = sound (goal.at.loop-d-init c).Start in
     let h = layers (goal.at.loop-d-init c).Start in
-    moved_last (layers_in c.args.rows.now.sound.pool.now c.args.rows.now.sound.table) c.args.i c.args.path.now (c.args.rows.now.sound.table.arity - 1) (omega (arith, u.arity.0, h.long)) (omega (arith, u.arity.1, h.long)) c.requires.1
+    moved_last (layers_in c.args.rows.now.sound.pool.now c.args.rows.now.sound.table.now) c.args.i c.args.path.now (c.args.rows.now.sound.table.now.arity - 1) (omega (arith, u.arity.0, h.long)) (omega (arith, u.arity.1, h.long)) c.requires.1
 
 pub overflow_add-next : goal.overflow_add-next
 overflow_add-next c =

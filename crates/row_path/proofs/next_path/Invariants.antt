@@ -5,4 +5,4 @@ use Rattle.row_path.proofs.Moves.{Moved}
 use Rattle.row_path.proofs.next_path.Given as goal
 
 abbrev pub invariant-loop-d : goal.invariant-loop-d
-invariant-loop-d l = Moved (layers_in l.rows.sound.pool.now l.rows.sound.table) l.i l.path (l.d - 1)
+invariant-loop-d l = Moved (layers_in l.rows.sound.pool.now l.rows.sound.table.now) l.i l.path (l.d - 1)

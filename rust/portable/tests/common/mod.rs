@@ -11,17 +11,19 @@ pub const KIND: &str = "(tyNamed (pair \"k::Kind\" lnil))";
 pub const FOUND: &str = "(tyNamed (pair \"k::Found\" lnil))";
 pub const NONE: &str = "(tyNamed (pair \"k::None\" lnil))";
 pub const VIEW: &str = "(tyNamed (pair \"k::View\" lnil))";
+pub const SOUND: &str = "(tyNamed (pair \"k::Sound\" lnil))";
 pub const LIST: &str = "(tyArray (tyInt 64) (lenLit 8))";
 
-/// Pair has two words, Wide a word and eight, Kind two variants, one with a word and a yes or no, Found a Pair, eight words or nothing, None nothing at all, and View a
-/// pointer to a word.
-const SHAPES: [&str; 6] = [
+/// Pair has two words, Wide a word and eight, Kind two variants, one with a word and a yes or no, Found a Pair, eight words or nothing, None nothing at all, View a
+/// pointer to a word, and Sound a word and a shared reference to a Wide.
+const SHAPES: [&str; 7] = [
     "(pair \"k::Pair\" (fields (tcons (tyInt 64) (tcons (tyInt 64) tnil))))",
     "(pair \"k::Wide\" (fields (tcons (tyInt 64) (tcons (tyArray (tyInt 64) (lenLit 8)) tnil))))",
     "(pair \"k::Kind\" (variants (ttcons (tcons (tyInt 64) (tcons tyBool tnil)) (ttcons tnil ttnil))))",
     "(pair \"k::Found\" (variants (ttcons (tcons (tyNamed (pair \"k::Pair\" lnil)) tnil) (ttcons (tcons (tyArray (tyInt 64) (lenLit 8)) tnil) (ttcons (tcons tyUnit tnil) ttnil)))))",
     "(pair \"k::None\" (fields (tcons tyUnit tnil)))",
     "(pair \"k::View\" (fields (tcons (tyRef erased mut (tyInt 64)) tnil)))",
+    "(pair \"k::Sound\" (fields (tcons (tyInt 64) (tcons (tyRef erased imm (tyNamed (pair \"k::Wide\" lnil))) tnil))))",
 ];
 
 pub fn list(parts: &[impl AsRef<str>]) -> String {
@@ -44,6 +46,15 @@ pub fn copy(local: usize) -> String {
 
 pub fn assign(local: usize, value: &str) -> String {
     format!("(assign {} {value})", at(local))
+}
+
+pub fn call(symbol: &str, given: &[String], to: usize) -> String {
+    format!("(call (direct (fnRef \"{symbol}\")) {} {})", list(given), at(to))
+}
+
+/// The body of a function that answers with the first word of its first parameter, a struct.
+pub fn reads() -> String {
+    seq(&[&assign(0, "(rvOpd (copy (place 1 (lcons (field 0) lnil))))"), "return"])
 }
 
 /// Sets local 2, a word, to a number: a statement to tell others by.

@@ -6,4 +6,5 @@ use Rattle.layer_text.specs.Wrote.{Wrote}
 use Rattle.layer_text.proofs.Writer.others.Given as goal
 
 abbrev pub invariant-loop-word : goal.invariant-loop-word
-invariant-loop-word l = Wrote l.initial.self l.self (others (take l.word-index l.words)) × (l.self.end ≤ l.initial.self.end + 22 * l.word-index)
+invariant-loop-word l =
+    Wrote l.initial.self (record { text = l.self.text; end = l.end }) (others (take l.word-index l.words)) × (l.end ≤ l.initial.self.end + 22 * l.word-index)

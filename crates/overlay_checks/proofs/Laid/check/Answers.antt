@@ -8,4 +8,4 @@ use Rattle.overlay_checks.proofs.Laid.check.Goals as goal
 pub same_shape-requires : goal.same_shape-requires
 same_shape-requires c =
     let l = c.args.self.now in
-    (undamaged_told l.school_pool.now l.school (passed c.undamaged.ensures (ap not c.if-not-undamaged.false))).arity.1
+    (undamaged_told l.school_pool.now l.school.now (passed c.undamaged.ensures (ap not c.if-not-undamaged.false))).arity.1

@@ -6,8 +6,8 @@ use Rattle.sound_table.proofs.Sound.layer.Goals as goal
 use Rattle.sound_table.proofs.Sound.layer.Goals.{Start}
 
 -- where the layer lies
-told : (s : Start) → LayerFits (length s.args.self.now.pool.now) s.args.self.now.table s.args.d
-told s = layer_fits (header_told (length s.args.self.now.pool.now) s.args.self.now.table s.args.self.now.sound) s.requires
+told : (s : Start) → LayerFits (length s.args.self.now.pool.now) s.args.self.now.table.now s.args.d
+told s = layer_fits (header_told (length s.args.self.now.pool.now) s.args.self.now.table.now s.args.self.now.sound) s.requires
 
 pub overflow_add-intervals_at : goal.overflow_add-intervals_at
 overflow_add-intervals_at c = omega (arith, told (goal.at.overflow_add-intervals_at c).Start, c.layer_at-at.ensures)

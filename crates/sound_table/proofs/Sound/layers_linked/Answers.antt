@@ -9,10 +9,10 @@ use Rattle.sound_table.proofs.Sound.layers_linked.Goals as goal
 use Rattle.sound_table.proofs.Sound.layers_linked.Goals.{Start, else-self-eq0, then-self-eq0}
 
 -- what the function requires, and what its parameter's type says
-told : (s : Start) → InPool (length s.args.self.now.pool.now) s.args.self.now.table
-told s = header_told (length s.args.self.now.pool.now) s.args.self.now.table s.args.self.now.sound
+told : (s : Start) → InPool (length s.args.self.now.pool.now) s.args.self.now.table.now
+told s = header_told (length s.args.self.now.pool.now) s.args.self.now.table.now s.args.self.now.sound
 
-whole : (s : Start) → Whole s.args.self.now.table
+whole : (s : Start) → Whole s.args.self.now.table.now
 whole s = s.args.self.now.whole
 
 pub loop-d-init : goal.loop-d-init
