@@ -145,7 +145,7 @@ fn settled(left: &[usize; MAX_ATOMS], ring: &[usize; MAX_ATOMS], landed: Landed)
 }
 
 // From a leapfrog over the pieces that ended as s says: while the piece at its place has ended and the run goes on behind it, takes the next piece and searches on. A plain join
-// never comes here: `whole_init` and `whole_next` make its test, `settled`, themselves. As one function of both it was called for each key, and a join that seeks little took up to 2.5 times as long.
+// comes here only by `whole_search`, where it goes on after a row: `whole_init` and `whole_next` make its test, `settled`, themselves. As one function of both it was called for each key, and a join that seeks little took up to 2.5 times as long.
 fn go_on(
     leap: &Leap,
     state: &mut State,

@@ -12,7 +12,7 @@ use std::collections::{BTreeMap, BTreeSet};
 type Made<T> = Result<T, Refused>;
 
 /// What a join that goes on after a row needs, as portable/test measures it.
-const STACK: &str = "20 KB";
+const STACK: &str = "18 KB";
 
 const HELPERS: &str = "
 /* The steps of a join's descent, which are to be compiled into it, and what a plain join never reaches of them; not where code is to be small. */

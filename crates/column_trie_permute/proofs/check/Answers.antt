@@ -1,17 +1,16 @@
 -- `column_trie_permute::check` meets its contract: the checks stand in the sequence of the definition's.
 use native.Mathlib.Omega.{arith}
 use Prim.Native.Nat.{◌≤◌}
-use mathlib.Core.Path.{◌≡◌, sym, ap, ◌∙◌}
+use mathlib.Core.Path.{◌≡◌, ap, ◌∙◌}
 use mathlib.Core.Bool.{true}
 use Rattle.relation.proofs.Tests.{passed, failed, and_left}
 use lib.ListN.{length, take}
-use lib.Seq.{length-take-le}
 use borrow.Author.Rules.{rules}
 use Rattle.query.specs.Checks.{permutes}
 use Rattle.column_trie.specs.Limits.{max_arity}
 use Rattle.column_trie.specs.Table.{undamaged}
 use Rattle.column_trie.proofs.Damage.{undamaged_told, undamaged_header}
-use Rattle.column_trie_permute.proofs.Columns.{asked}
+use Rattle.column_trie_permute.proofs.Columns.{asked, size}
 use Rattle.column_trie_permute.proofs.Numbers.{number_0, number_2, number_3, number_5, number_6, number_8}
 use mathlib.Core.Bool.{not}
 use Rattle.column_trie_permute.proofs.check.Goals as goal
@@ -39,7 +38,7 @@ pub slice_bounds-columns-end : goal.slice_bounds-columns-end
 slice_bounds-columns-end c = let e = (goal.at.slice_bounds-columns-end c).Else-not-undamaged in omega (arith, few e, long e)
 
 pub slice_bounds-permutes-end : goal.slice_bounds-permutes-end
-slice_bounds-permutes-end c = let e = (goal.at.slice_bounds-permutes-end c).Else-not-undamaged in sym (length-take-le _ c.args.columns (omega (arith, few e, long e)))
+slice_bounds-permutes-end c = let e = (goal.at.slice_bounds-permutes-end c).Else-not-undamaged in omega (arith, few e, long e, size c.args.table.arity c.args.columns (few e) (long e))
 
 pub returns-then-not-permutes : goal.returns-then-not-permutes
 returns-then-not-permutes c = number_8 _ _ _ _ _ _ (sound (goal.at.returns-then-not-permutes c).Else-not-undamaged) (failed (c.permutes.ensures ∙ tested (goal.at.returns-then-not-permutes c).Else-not-undamaged) (ap not c.if-not-permutes.true))

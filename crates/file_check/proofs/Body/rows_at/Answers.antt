@@ -60,7 +60,7 @@ returns-then-ends c =
     let n = c.read_len-len.result in
     sym (at_some s.arity s.some f (each s.bytes.now c.args.p s.each) n (said s.bytes.now c.args.p c.read_len-len.ensures) (omega (arith, c.byte.ensures, c.if-field-byte.false)) (omega arith) (omega arith) (omega arith) (omega arith)
     (elim c.if-full.branch [
-      | then-full w ↦ inl (w.if-full.true ∙ c.per_field.ensures.0)
+      | then-full w ↦ inl (omega (arith, w.if-full.true, c.per_field.ensures.0))
       | else-full w ↦ inr (ends_at f (3 + n) w.ends.ensures ∙ sym w.value-is ∙ c.if-ends.true)
     ])) ∙ here s.bytes.now c.args.p s.arity
 
@@ -72,6 +72,6 @@ returns-else-ends c =
     elim c.if-full.branch [
       | then-full w ↦ not_both c.if-full.value (w.value-is ∙ eq-eqb _ _ w.if-full.true) c.if-ends.false
       | else-full w ↦
-          sym (at_none s.arity s.some f (each s.bytes.now c.args.p s.each) n (said s.bytes.now c.args.p c.read_len-len.ensures) (λ e. w.if-full.false (e ∙ sym c.per_field.ensures.0)) (ends_at f (3 + n) w.ends.ensures ∙ sym w.value-is ∙ c.if-ends.false))
+          sym (at_none s.arity s.some f (each s.bytes.now c.args.p s.each) n (said s.bytes.now c.args.p c.read_len-len.ensures) (λ e. w.if-full.false (omega (arith, e, c.per_field.ensures.0))) (ends_at f (3 + n) w.ends.ensures ∙ sym w.value-is ∙ c.if-ends.false))
           ∙ here s.bytes.now c.args.p s.arity
     ]
