@@ -66,18 +66,18 @@ impl<'a> Layer<'a> {
 }
 
 // A table whose header is sound for the pool that it lies in: all that it takes to read the table's words, whatever they are. Both are lent, so that no call
-// copies the header.
+// copies the header, and each for a time of its own: what is read of the pool may outlive the header.
 #[derive(Clone, Copy)]
-pub struct Sound<'a> {
+pub struct Sound<'a, 't> {
     pub pool: &'a [u64],
-    pub table: &'a ColumnTrie,
+    pub table: &'t ColumnTrie,
     ghost sound: { header_sound (length pool.now) table.now ≡ true },
 
     // How long the table's arrays are: a type says it, but not of a struct that a field refers to.
     ghost whole: { Whole table.now },
 }
 
-impl<'a> Sound<'a> {
+impl<'a> Sound<'a, '_> {
     // Layer d, its lists as long as the header says.
     pub fn layer(&self, d: usize) -> Layer<'a>
         requires { d < self.now.table.now.arity }
@@ -130,7 +130,7 @@ pub fn undamaged(pool: &[u64], t: ColumnTrie) -> bool
 
 // An undamaged table, with the pool that it lies in: its layers are those of a set of rows.
 #[derive(Clone, Copy)]
-pub struct Intact<'a> {
-    pub sound: Sound<'a>,
+pub struct Intact<'a, 't> {
+    pub sound: Sound<'a, 't>,
     ghost undamaged: { undamaged sound.pool.now sound.table.now ≡ true },
 }
